@@ -25,8 +25,8 @@ words-append (e ∷ es) fs = ap (λ l. e .kind ∷ e .place .0 ∷ e .bits ∷ e
 
 -- the words after both
 pub words-joined : (es fs : List Entry) (old mid rest : List ℕ) → mid ≡ words es ++ drop (wordsPerEntry * length es) old
-  → rest ≡ words fs ++ drop (wordsPerEntry * length fs) (drop (wordsPerEntry * length es) mid)
-  → take (wordsPerEntry * length es) mid ++ rest ≡ words (es ++ fs) ++ drop (wordsPerEntry * length (es ++ fs)) old
+    → rest ≡ words fs ++ drop (wordsPerEntry * length fs) (drop (wordsPerEntry * length es) mid)
+    → take (wordsPerEntry * length es) mid ++ rest ≡ words (es ++ fs) ++ drop (wordsPerEntry * length (es ++ fs)) old
 words-joined es fs old mid rest p q =
     let a : take (wordsPerEntry * length es) mid ≡ words es = rw p (take-at (words es) _ _ (length-words es)) in
     let b : drop (wordsPerEntry * length es) mid ≡ drop (wordsPerEntry * length es) old = rw p (drop-at (words es) _ _ (length-words es)) in

@@ -224,11 +224,11 @@ unfoldable mutual
   read e (dynamicBlob i) = due ⨾ fromSlot i (λ x. asLength x (λ n. readBlob e 27 n noRole))
   read e (structure a cs) = due ⨾ fit e (alignOf (structure a cs)) 0 ⨾ field e 28 (alignOf (structure a cs)) 0 (count cs) ⨾ readMembers e cs
   read e (staticArray n a c) =
-    due ⨾ fit e (alignOf (staticArray n a c)) 0 ⨾ field e 29 (alignOf (staticArray n a c)) 0 n ⨾ times n (read e c)
+      due ⨾ fit e (alignOf (staticArray n a c)) 0 ⨾ field e 29 (alignOf (staticArray n a c)) 0 n ⨾ times n (read e c)
   read e (dynamicArray i a c) =
-    due
-    ⨾ fromSlot i (λ x. asLength x (λ n.
-    fit e (alignOf (dynamicArray i a c)) 0 ⨾ field e 30 (alignOf (dynamicArray i a c)) 0 n ⨾ times n (read e c)))
+      due
+      ⨾ fromSlot i (λ x. asLength x (λ n.
+      fit e (alignOf (dynamicArray i a c)) 0 ⨾ field e 30 (alignOf (dynamicArray i a c)) 0 n ⨾ times n (read e c)))
   read e (flagged i c) = due ⨾ fromSlot i (λ x. asFlag x (λ b. present e b (read e c)))
   read e (optional i g rs c) = due ⨾ fromSlot i (λ x. asNumber g x (λ v. present e (anyHolds g v rs) (read e c)))
   read e (variant i g os) = due ⨾ fromSlot i (λ x. asNumber g x (λ v. readOption e g v 0 os))

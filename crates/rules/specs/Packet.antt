@@ -39,14 +39,14 @@ withEvent i j (some d) f = f d
 -- slots "16 to 63" are unset "when an event starts"; its id is 0 until its header says one
 unfoldable pub startEvent : State → State
 startEvent s = record {
-    place = s .place;
-    room = s .room;
-    slots = packetSlots (s .slots);
-    order = s .order;
-    clock = s .clock;
-    last = s .last;
-    said = record { stream = s .said .stream; total = s .said .total; content = s .said .content; ending = s .said .ending; event = 0 }
-    }
+  place = s .place;
+  room = s .room;
+  slots = packetSlots (s .slots);
+  order = s .order;
+  clock = s .clock;
+  last = s .last;
+  said = record { stream = s .said .stream; total = s .said .total; content = s .said .content; ending = s .said .ending; event = 0 };
+}
 
 -- "The event's clock after its header may not be below the previous event's in the stream (39), if there is a clock."
 unfoldable pub readEvent : Asked → StreamClass → Env → ℕ → Step
@@ -114,14 +114,14 @@ nothingSaid = record { stream = 0; total = Missing; content = Missing; ending = 
 -- "All slots are unset when a packet starts"; "Clock, from 0 at each packet"; no field of the packet has an order yet
 unfoldable pub startPacket : State → State
 startPacket s = record {
-    place = s .place;
-    room = s .room;
-    slots = noSlots;
-    order = Nothing;
-    clock = 0;
-    last = s .last;
-    said = nothingSaid
-    }
+  place = s .place;
+  room = s .room;
+  slots = noSlots;
+  order = Nothing;
+  clock = 0;
+  last = s .last;
+  said = nothingSaid;
+}
 
 -- the kth packet, where i is the first one's stream class id
 unfoldable pub readPacket : Asked → List ℕ → ℕ → Stated → Step
@@ -145,6 +145,6 @@ unfoldable pub readPackets : Asked → List ℕ → ℕ → Stated → ℕ → S
 readPackets t b k i zero = pass
 readPackets t b k i (suc left) = λ s.
     elim (ltb (s .place .0) (8 * length b)) [
-    | true ↦ (readPacket t b k i ⨾ λ s. readPackets t b (k + 1) (As (s .said .stream)) left s) s
-    | false ↦ pass s
+      | true ↦ (readPacket t b k i ⨾ λ s. readPackets t b (k + 1) (As (s .said .stream)) left s) s
+      | false ↦ pass s
     ]

@@ -160,9 +160,9 @@ parseRoots q timed hasUuid [] x =
     elim (not (missing x) && anyRoot (recordOf x)) [ true ↦ one q rootFault (λ r x. bad kindNotAllowed x) x | false ↦ good [] x ]
 parseRoots q timed hasUuid (n ∷ ns) x =
     elim (leb (size x) (length x) && isRoot n (recordOf x)) [
-    | true ↦ then (parseClass q (record { root = n; timed = timed; uuid = hasUuid }) depthLimit top (behind x)) λ c x.
-      then (parseRoots q timed hasUuid ns x) λ cs x. good (some c ∷ cs) x
-    | false ↦ then (parseRoots q timed hasUuid ns x) λ cs x. good (none ∷ cs) x
+      | true ↦ then (parseClass q (record { root = n; timed = timed; uuid = hasUuid }) depthLimit top (behind x)) λ c x.
+          then (parseRoots q timed hasUuid ns x) λ cs x. good (some c ∷ cs) x
+      | false ↦ then (parseRoots q timed hasUuid ns x) λ cs x. good (none ∷ cs) x
     ]
 
 -- Fragments: "Kinds 1 to 5 open a fragment. Its roots follow"
@@ -206,17 +206,17 @@ add (preamble v) cs t = t
 add (traceClass u l) cs t = record { uuid = uuidOf u l; header = rootOf cs 0; streams = t .streams; events = t .events }
 add (clockClass i f) cs t = t
 add (streamClass i c) cs t = record {
-    uuid = t .uuid;
-    header = t .header;
-    streams = record { id = i; timed = not (eqb c noClock); context = rootOf cs 0; header = rootOf cs 1; common = rootOf cs 2 } ∷ t .streams;
-    events = t .events
-    }
+  uuid = t .uuid;
+  header = t .header;
+  streams = record { id = i; timed = not (eqb c noClock); context = rootOf cs 0; header = rootOf cs 1; common = rootOf cs 2 } ∷ t .streams;
+  events = t .events;
+}
 add (eventClass i j) cs t = record {
-    uuid = t .uuid;
-    header = t .header;
-    streams = t .streams;
-    events = record { stream = i; id = j; specific = rootOf cs 0; payload = rootOf cs 1 } ∷ t .events
-    }
+  uuid = t .uuid;
+  header = t .header;
+  streams = t .streams;
+  events = record { stream = i; id = j; specific = rootOf cs 0; payload = rootOf cs 1 } ∷ t .events;
+}
 
 -- a fragment's roots, and then what f reads
 unfoldable pub parseFragment : Seen → (Seen → Parser Table) → Fragment → Parser Table
@@ -241,9 +241,9 @@ parseFragments (suc left) q x =
 unfoldable pub parse : Parser Table
 parse x =
     elim (missing x || ltb tableLimit (length x)) [
-    | true ↦ bad badSize x
-    | false ↦ sound (firstFault (ltb (length x) (size x)) (recordOf x)) x λ x.
-      then (parseRoots noneSeen false false [] x) λ cs x. parseFragments (length x) noneSeen x
+      | true ↦ bad badSize x
+      | false ↦ sound (firstFault (ltb (length x) (size x)) (recordOf x)) x λ x.
+          then (parseRoots noneSeen false false [] x) λ cs x. parseFragments (length x) noneSeen x
     ]
 
 -- The answer

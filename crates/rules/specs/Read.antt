@@ -34,8 +34,8 @@ begin room = record { place = bitPlace 0; room = room; slots = noSlots; order = 
 unfoldable pub readStream : Asked → List ℕ → ℕ → Reading
 readStream t b room =
     elim (eqb (length b) 0 || ltb streamLimit (length b)) [
-    | true ↦ record { entries = []; verdict = Refused StreamSize (bitPlace 0) }
-    | false ↦ ended (readPackets t b 0 Missing (length b) (begin room))
+      | true ↦ record { entries = []; verdict = Refused StreamSize (bitPlace 0) }
+      | false ↦ ended (readPackets t b 0 Missing (length b) (begin room))
     ]
 
 -- "20 comes before 21."

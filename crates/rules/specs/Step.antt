@@ -65,14 +65,14 @@ due = check (λ s. ltb (s .room) wordsPerEntry) ListFull
 -- an entry is listed, and the place moves
 unfoldable pub listed : Entry → BitPlace → Step
 listed e p s = go (e ∷ []) (record {
-    place = p;
-    room = s .room - wordsPerEntry;
-    slots = s .slots;
-    order = s .order;
-    clock = s .clock;
-    last = s .last;
-    said = s .said
-    })
+  place = p;
+  room = s .room - wordsPerEntry;
+  slots = s .slots;
+  order = s .order;
+  clock = s .clock;
+  last = s .last;
+  said = s .said;
+})
 
 -- changes of a state, one field each
 unfoldable pub change : (State → State) → Step
