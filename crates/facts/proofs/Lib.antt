@@ -1,5 +1,6 @@
 pub mod Numbers
 pub mod Every
 pub mod Truth
+pub mod Refusals
 pub mod Steps
 pub mod Lists

@@ -22,7 +22,7 @@ use Rattle.rules.specs.declared.Ended.the-variants.{After, Never}
 use Rattle.rules.specs.declared.Refusal.the-variants.{PastBound, OrderChanged, LebTooLarge, NoZeroByte, SlotUnset, SlotOfWrongSort, LengthTooLarge, SelectorInNoOption, WrongMagic, WrongUuid, ClockTooLarge}
 use Rattle.rules.specs.Limits.{lengthLimit, magicNumber}
 use Rattle.rules.specs.Bits.{bits, signed, word}
-use Rattle.rules.specs.Leb128.{lebUnsigned, lebSigned}
+use Rattle.rules.specs.Leb128.{lebWidth, lebUnsigned, lebSigned}
 use Rattle.rules.specs.Clock.{clockAfter}
 use Rattle.rules.specs.Text.{textLength, zeroAt}
 use Rattle.rules.specs.Place.{bitPlace, further, alignFrom}
@@ -184,7 +184,7 @@ readFixed e k n o a i r =
 
 -- "LEB128 bits count 8 a byte"; "L the field's bits (7 times its bytes for LEB128)"
 unfoldable pub readLeb : Env → ℕ → (ℕ → Content) → ℕ → Role → Leb → Step
-readLeb e k c i r (Value v n) = field e k 8 (8 * n .0) v ⨾ store i (c v) ⨾ role r (7 * n .0) v
+readLeb e k c i r (Value v n) = field e k 8 (8 * n .0) v ⨾ store i (c v) ⨾ role r (lebWidth n) v
 readLeb e k c i r Past = refuse PastBound
 readLeb e k c i r Large = refuse LebTooLarge
 

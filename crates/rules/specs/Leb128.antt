@@ -29,6 +29,10 @@ fitUnsigned (Value v n) = elim (ltb v (2 ^ 64)) [ true ↦ Value v n | false ↦
 fitUnsigned Past = Past
 fitUnsigned Large = Large
 
+-- the bits of a number's bytes: "7 times its bytes for LEB128" (Reading; 000 6.2.1, step 1)
+abbrev pub lebWidth : ByteLength → ℕ
+lebWidth n = 7 * n .0
+
 -- whether an integer has a word of 64 bits
 unfoldable pub fits64 : ℤ → Bool
 fits64 (pos v) = ltb v (2 ^ 63)
@@ -38,7 +42,7 @@ unfoldable pub signedValue : ℤ → ByteLength → Leb
 signedValue z n = elim (fits64 z) [ true ↦ Value (word z) n | false ↦ Large ]
 
 unfoldable pub fitSigned : Leb → Leb
-fitSigned (Value v n) = signedValue (signed v (7 * n .0)) n
+fitSigned (Value v n) = signedValue (signed v (lebWidth n)) n
 fitSigned Past = Past
 fitSigned Large = Large
 

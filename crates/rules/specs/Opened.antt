@@ -16,8 +16,8 @@ use Rattle.rules.specs.Verdict.{refusalNumber, refusalFirst, refusalSeco
 use Rattle.rules.specs.Step.{onto, after, _⨾_, pass, refuse, check, due, listed, change, withSlots, withOrder, withClock, withLast, withSaid}
 use Rattle.rules.specs.Field.{aligned, fit, ahead, bytesAt, field, store, newClock, say, role, sameBytes, blobRole as blobRoleInField, fromSlot, asFlag, asNumber, asLength, truth, oneOrNone, valueOf, slotOf, otherOrder, turned, readFixed, readLeb, readZero, readText, readBlob, times, present, read, readMembers, readOption}
 use Rattle.rules.specs.Packet.{mark, readRoot, withEvent, startEvent, readEvent, endPacket, readEvents, orElse, above, readContent, withStream, differs, nothingSaid, startPacket, readPacket, readPackets}
-use Rattle.rules.specs.Read.{ended, begin, readStream, readParsed, readAll}
+use Rattle.rules.specs.Read.{resultOf, listAfter, ended, begin, readStream, readParsed, readAll}
 
 unfoldable pub opened : ℕ
-unfolding roundUp alignFrom bitIndex bitAt bits signed word below sevens fitUnsigned fits64 signedValue fitSigned lebUnsigned lebSigned advance clockAfter textLength oneLater zeroAt noSlots packetSlots slotAt setSlot kindOf count key holds anyHolds alignOf alignsOf number u8 u16 u64 no bitsLayout layouts layoutOf size recordOf behind pick out noneSeen seen among pairAmong fragmentFault recordFault firstFault isTop isLeading memberSpot badNumber badSlot roles roleOf numberRole blobRole badRole classFault signOf otherSign meets rangeFault optionFault rootFault many openFault findStream findEvent asked then sound missing one rangeOf countOf theSign parseRanges parseOptions parseMembers orderOf selected parseShape parseBody parseClass isRoot anyRoot parseRoots rootNumbers isTimed hasUuid noTable rootOf uuidOf add parseFragment parseOpened parseFragments parse byteOf checkedOf checked checkedNumber checkedByte words refusalNumber refusalFirst refusalSecond numberOf placeOf firstOf secondOf onto after _⨾_ pass refuse check due listed change withSlots withOrder withClock withLast withSaid aligned fit ahead bytesAt field store newClock say role sameBytes blobRoleInField fromSlot asFlag asNumber asLength truth oneOrNone valueOf slotOf otherOrder turned readFixed readLeb readZero readText readBlob times present read readMembers readOption mark readRoot withEvent startEvent readEvent endPacket readEvents orElse above readContent withStream differs nothingSaid startPacket readPacket readPackets ended begin readStream readParsed readAll
+unfolding roundUp alignFrom bitIndex bitAt bits signed word below sevens fitUnsigned fits64 signedValue fitSigned lebUnsigned lebSigned advance clockAfter textLength oneLater zeroAt noSlots packetSlots slotAt setSlot kindOf count key holds anyHolds alignOf alignsOf number u8 u16 u64 no bitsLayout layouts layoutOf size recordOf behind pick out noneSeen seen among pairAmong fragmentFault recordFault firstFault isTop isLeading memberSpot badNumber badSlot roles roleOf numberRole blobRole badRole classFault signOf otherSign meets rangeFault optionFault rootFault many openFault findStream findEvent asked then sound missing one rangeOf countOf theSign parseRanges parseOptions parseMembers orderOf selected parseShape parseBody parseClass isRoot anyRoot parseRoots rootNumbers isTimed hasUuid noTable rootOf uuidOf add parseFragment parseOpened parseFragments parse byteOf checkedOf checked checkedNumber checkedByte words refusalNumber refusalFirst refusalSecond numberOf placeOf firstOf secondOf onto after _⨾_ pass refuse check due listed change withSlots withOrder withClock withLast withSaid aligned fit ahead bytesAt field store newClock say role sameBytes blobRoleInField fromSlot asFlag asNumber asLength truth oneOrNone valueOf slotOf otherOrder turned readFixed readLeb readZero readText readBlob times present read readMembers readOption mark readRoot withEvent startEvent readEvent endPacket readEvents orElse above readContent withStream differs nothingSaid startPacket readPacket readPackets resultOf listAfter ended begin readStream readParsed readAll
 opened = 0

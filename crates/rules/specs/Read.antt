@@ -1,8 +1,8 @@
 -- A table's bytes, a stream's bytes and the words of a list give entries and a verdict.
-use Prim.Native.Nat.{ℕ}
-use mathlib.Core.List.{List, []}
+use Prim.Native.Nat.{ℕ, _*_}
+use mathlib.Core.List.{List, [], _++_}
 use mathlib.Core.Bool.{true, false, _||_}
-use lib.ListN.{length}
+use lib.ListN.{length, drop}
 use lib.Dec.{ltb, eqb}
 use Rattle.rules.specs.declared.LastOrder.the-variants.{Nothing}
 use Rattle.rules.specs.declared.Stated.the-variants.{Missing}
@@ -10,9 +10,12 @@ use Rattle.rules.specs.declared.Entry.{Entry}
 use Rattle.rules.specs.declared.Refusal.the-variants.{StreamSize}
 use Rattle.rules.specs.declared.Verdict.{Verdict}
 use Rattle.rules.specs.declared.Verdict.the-variants.{Accepted, TableRefused, Refused}
-use Rattle.rules.specs.Limits.{streamLimit}
+use Rattle.rules.specs.declared.Result.{Result}
+use Rattle.rules.specs.Limits.{streamLimit, wordsPerEntry}
 use Rattle.rules.specs.Place.{bitPlace}
 use Rattle.rules.specs.Slots.{noSlots}
+use Rattle.rules.specs.Entry.{words}
+use Rattle.rules.specs.Verdict.{numberOf, placeOf, firstOf, secondOf}
 use Rattle.rules.specs.Step.{State, Out, stop, go}
 use Rattle.rules.specs.Table.{Table, Asked, asked}
 use Rattle.rules.specs.Parse.{Parsed, bad, good, parse, byteOf}
@@ -21,6 +24,20 @@ use Rattle.rules.specs.Packet.{nothingSaid, readPackets}
 pub record Reading : Type 0 where
   pub entries : List Entry
   pub verdict : Verdict
+
+-- "Result: number (0 accepted), entries, place, two ids." (Refusing a stream)
+unfoldable pub resultOf : Reading → Result
+resultOf r = record {
+  number = numberOf (r .verdict);
+  entries = length (r .entries);
+  place = placeOf (r .verdict);
+  first = firstOf (r .verdict);
+  second = secondOf (r .verdict);
+}
+
+-- "Entries stay; words behind them are untouched." What a lent list holds afterwards, by what it held before
+unfoldable pub listAfter : Reading → List ℕ → List ℕ
+listAfter r old = words (r .entries) ++ drop (wordsPerEntry * length (r .entries)) old
 
 -- "Accepted: 8 times the bytes", where a reading that goes through ends
 unfoldable pub ended : Out → Reading

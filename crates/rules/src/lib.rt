@@ -101,6 +101,15 @@ pub enum Verdict {
     Refused(Refusal, BitPlace),
 }
 
+// What a reading answers beside the list. The place counts bits from the stream's start; of a refused table (20) it is a byte.
+pub struct Result {
+    pub number: u8,
+    pub entries: usize,
+    pub place: u64,
+    pub first: u64,
+    pub second: u64,
+}
+
 // How the check of a table ends: its length, or a number and the byte of the record at fault.
 pub enum Checked {
     Accepted(ByteLength),

@@ -1,0 +1,106 @@
+-- Entries that are all of a kind, and steps that list only such. The entries of fields have kinds 16 to 32, and those of clocks kind 6.
+use mathlib.Core.Path.{_≡_, refl}
+use mathlib.Core.Logic.{_⊎_, inl, inr}
+use Prim.Native.Nat.{ℕ}
+use mathlib.Core.List.{List, [], _∷_, _++_}
+use mathlib.Core.Bool.{Bool, true, false}
+use mathlib.Core.Option.{Option}
+use Rattle.rules.specs.declared.BitPlace.{BitPlace}
+use Rattle.rules.specs.declared.Entry.{Entry}
+use Rattle.rules.specs.declared.Refusal.{Refusal}
+use Rattle.rules.specs.declared.Refusal.the-variants.{ListFull}
+use Rattle.rules.specs.Entry.{entry, clockAdvanced}
+use Rattle.rules.specs.Slots.{slotAt}
+use Rattle.rules.specs.Step.{State, Out, stop, go, Step, onto, after, _⨾_, refuse, check, due, listed, change, pass}
+use Rattle.rules.specs.Class.{Class}
+use Rattle.rules.specs.Field.{Env, aligned, field, store, say, fromSlot}
+use Rattle.rules.specs.Packet.{readRoot}
+use Rattle.facts.proofs.Steps.{listOf}
+use Rattle.promises.specs.Words.{All}
+use Rattle.promises.proofs.Law.{FieldKind}
+use Rattle.promises.proofs.Simple.{Simple, view, simple-root}
+
+module _ (P : Entry → Type 0) where
+  pub record Each (m : Step) : Type 0 where
+    pub at : (s : State) → All P (listOf (m s))
+
+  pub all-append : (es fs : List Entry) → All P es → All P fs → All P (es ++ fs)
+  all-append [] fs h k = k
+  all-append (e ∷ es) fs h k = (h .0, all-append es fs (h .1) k)
+
+  pub all-onto : (es : List Entry) (o : Out) → All P es → All P (listOf o) → All P (listOf (onto es o))
+  unfolding onto listOf
+  all-onto es (stop fs v) h k = all-append es fs h k
+  all-onto es (go fs s) h k = all-append es fs h k
+
+  pub all-after : (o : Out) (n : Step) → All P (listOf o) → ((s : State) → All P (listOf (n s))) → All P (listOf (after o n))
+  unfolding after listOf
+  all-after (stop es v) n h k = h
+  all-after (go es s) n h k = all-onto es (n s) h (k s)
+
+  infixr 20 _⨾ᵉ_
+  pub _⨾ᵉ_ : {m n : Step} → Each m → Each n → Each (m ⨾ n)
+  unfolding _⨾_
+  _⨾ᵉ_ {m} {n} h k = record { at = λ s. all-after (m s) n (h .at s) (k .at) }
+
+  pub each-λ : {f : State → Step} → ((s : State) → Each (f s)) → Each (λ s. f s s)
+  each-λ h = record { at = λ s. h s .at s }
+
+  pub each-pass : Each pass
+  unfolding pass listOf
+  each-pass = record { at = λ s. tt }
+
+  pub each-refuse : (r : Refusal) → Each (refuse r)
+  unfolding refuse listOf
+  each-refuse r = record { at = λ s. tt }
+
+  pub each-check : (t : State → Bool) (r : Refusal) → Each (check t r)
+  unfolding check
+  each-check t r = record { at = λ s. by s (t s) }
+    where
+      by : (s : State) (b : Bool) → All P (listOf (elim b [ true ↦ refuse r s | false ↦ pass s ]))
+      by s true = each-refuse r .at s
+      by s false = each-pass .at s
+
+  pub each-due : Each due
+  unfolding due
+  each-due = each-check _ ListFull
+
+  pub each-change : (f : State → State) → Each (change f)
+  unfolding change listOf
+  each-change f = record { at = λ s. tt }
+
+  pub each-listed : (e : Entry) (p : BitPlace) (s : State) → P e → All P (listOf (listed e p s))
+  unfolding listed listOf
+  each-listed e p s h = (h, tt)
+
+-- The kinds of a field's entries
+
+abbrev pub FieldEntry : Entry → Type 0
+FieldEntry e = (e .kind ≡ clockAdvanced) ⊎ FieldKind (e .kind)
+
+fields-simple : (e : Env) → Simple e (Each FieldEntry) (Each FieldEntry)
+unfolding field store say fromSlot
+fields-simple e = record {
+  seq = λ a b. _⨾ᵉ_ FieldEntry a b;
+  seqʳ = λ a b. _⨾ᵉ_ FieldEntry a b;
+  narrow = λ a. a;
+  dueʳ = λ a. _⨾ᵉ_ FieldEntry (each-due FieldEntry) a;
+  passes = each-pass FieldEntry;
+  refuses = λ r small. each-refuse FieldEntry r;
+  checks = λ t r small. each-check FieldEntry _ r;
+  checksʳ = λ t r small a. _⨾ᵉ_ FieldEntry (each-check FieldEntry _ r) a;
+  looks = λ f a. each-λ FieldEntry {f = λ s. f (view s)} (λ s. a (view s));
+  looksʳ = λ f a. each-λ FieldEntry {f = λ s. f (view s)} (λ s. a (view s));
+  slots = λ i f a. record { at = λ s. a (slotAt (s .slots) i) .at s };
+  fields = λ k a n v h l. record { at = λ s. each-listed FieldEntry (entry k (aligned e a s) n v) _ s (inr h) };
+  clocked = λ l c. record { at = λ s. each-listed FieldEntry (entry clockAdvanced (s .place) l c) (s .place) s (inl refl) };
+  stores = λ i x. each-change FieldEntry _;
+  orders = λ o. each-change FieldEntry _;
+  clocks = λ c. each-change FieldEntry _;
+  says = λ f. each-change FieldEntry _;
+}
+
+-- what a root lists is of fields
+pub fields-root : (e : Env) (c : Option Class) → Each FieldEntry (readRoot e c)
+fields-root e c = simple-root e (fields-simple e) c

@@ -1,0 +1,30 @@
+-- The starred figures hold: each by computation.
+use mathlib.Core.Path.{_≡_, refl}
+use Rattle.rules.specs.Opened.{opened}
+use Rattle.promises.specs.Figures.{Figures}
+
+pub figures : Figures
+unfolding opened
+figures = record {
+  entries-32 = refl;
+  result-32 = refl;
+  entries-31 = refl;
+  result-31 = refl;
+  little-1 = refl;
+  little-2 = refl;
+  big-1 = refl;
+  big-2 = refl;
+  leb-unsigned = refl;
+  leb-signed = refl;
+  leb-padded = refl;
+  leb-bits = refl;
+  clock-turned = refl;
+  clock-same = refl;
+  clock-64 = λ s. refl;
+  clock-70 = λ s. refl;
+  clock-number = refl;
+  align-1 = refl;
+  align-8 = refl;
+  signed-4 = refl;
+  signed-4-word = refl;
+}

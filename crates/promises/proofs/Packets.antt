@@ -1,0 +1,340 @@
+-- Packets of a table whose fields have a bit or more: the place never goes back, stays within the bound while events are read, and each
+-- packet takes a byte or more and ends inside the stream; so that the rounds of the packet loop are enough.
+use mathlib.Core.Path.{_≡_, refl, ap, _∙_, subst}
+use mathlib.Core.Logic.{_⊎_, inl, inr}
+use Prim.Native.Nat.{ℕ, zero, suc, _+_, _-_, _*_, _%_, _≤_, _<_}
+use native.Mathlib.Omega.{arith}
+use native.Mathlib.Nat.{le-refl, suc-add}
+use mathlib.Core.List.{List}
+use mathlib.Core.Bool.{Bool, true, false, not, _||_}
+use mathlib.Core.Option.{Option, none, some}
+use lib.ListN.{length}
+use lib.Dec.{ltb, eqb}
+use borrow.Author.Tests.{ltb-true, ltb-false, eqb-true, le-ltb, not-false}
+use Rattle.rules.specs.declared.BitPlace.{BitPlace}
+use Rattle.rules.specs.declared.Stated.{Stated}
+use Rattle.rules.specs.declared.Stated.the-variants.{Missing, As}
+use Rattle.rules.specs.declared.Entry.{Entry}
+use Rattle.rules.specs.declared.Refusal.{Refusal}
+use Rattle.rules.specs.declared.Refusal.the-variants.{StreamClassChanged, StreamClassUnknown, LengthsContradict, ClocksContradict, EventClassUnknown, EventTookNoBits, ClockWentBack, ListFull}
+use Rattle.rules.specs.Limits.{wordsPerEntry}
+use Rattle.rules.specs.Place.{bitPlace, further}
+use Rattle.rules.specs.Verdict.{placeOf}
+use Rattle.rules.specs.Step.{State, Out, stop, go, Step, onto, after, _⨾_, refuse, check, due, listed, change, pass, withLast}
+use Rattle.rules.specs.Table.{StreamClass, EventClass, Asked}
+use Rattle.rules.specs.Field.{Env}
+use Rattle.rules.specs.Packet.{readEvent, readEvents, readContent, readPacket, readPackets, withEvent, withStream, mark, readRoot, startEvent, startPacket, nothingSaid, endPacket, orElse}
+use Rattle.facts.proofs.Truth.{or-false, if-agree}
+use Rattle.promises.specs.Laws.{Moved, Inside}
+use Rattle.promises.proofs.Law.{Any, FitRoot}
+use Rattle.promises.proofs.Triple.{Ok, then, changing, naming, checks, dued}
+use Rattle.promises.proofs.Rising.{RiseOut, Rise, Onward, onward-free, rise-after, _⨾ᵘ_, rise-pass, rise-refuse, rise-if, rise-check, rise-due, rise-change, rise-mark, rise-root}
+use Rattle.promises.proofs.Bounds.{In, At, NoMore, Bounded, place-of, bound-root}
+
+-- a table whose classes fit
+pub record Fitting (N W : ℕ → Type 0) (t : Asked) : Type 0 where
+  pub header : FitRoot N W (t .header)
+  pub context : (i : ℕ) (c : StreamClass) → t .stream i ≡ some c → FitRoot N W (c .context)
+  pub events : (i : ℕ) (c : StreamClass) → t .stream i ≡ some c → FitRoot N W (c .header) × FitRoot N W (c .common)
+  pub event : (i j : ℕ) (d : EventClass) → t .event i j ≡ some d → FitRoot N W (d .specific) × FitRoot N W (d .payload)
+
+abbrev pub Positive : ℕ → Type 0
+Positive n = 1 ≤ n
+
+-- Events
+
+bound-mark : (e : Env) (k n v : ℕ) → Bounded e (mark k n v)
+unfolding mark listed
+bound-mark e k n v = record { at = λ s h. (((h .from, h .to), tt), record { from = h .from; to = h .to; moved = h .moved }) }
+
+bound-with : (e : Env) (i j : ℕ) (x : Option EventClass) (f : EventClass → Step) → ((d : EventClass) → x ≡ some d → Bounded e (f d)) → Bounded e (withEvent i j x f)
+unfolding withEvent
+bound-with e i j none f h = naming (In e) (At e) (NoMore e) (EventClassUnknown i j) (place-of e (EventClassUnknown i j) tt)
+bound-with e i j (some d) f h = h d refl
+
+rise-with : (i j : ℕ) (x : Option EventClass) (f : EventClass → Step) → ((d : EventClass) → Rise (f d)) → Rise (withEvent i j x f)
+unfolding withEvent
+rise-with i j none f h = rise-refuse (EventClassUnknown i j)
+rise-with i j (some d) f h = h d
+
+rise-event : (t : Asked) (c : StreamClass) (e : Env) (n : ℕ) → Rise (readEvent t c e n)
+unfolding readEvent startEvent withLast
+rise-event t c e n = record {
+  at = λ s₀.
+      (rise-due ⨾ᵘ rise-mark 4 0 n ⨾ᵘ rise-change _ (λ s. refl) ⨾ᵘ rise-root e (c .header) ⨾ᵘ rise-check _ ClockWentBack ⨾ᵘ rise-change _ (λ s. refl) ⨾ᵘ rise-due
+      ⨾ᵘ record {
+        at = λ s. rise-with (c .id) (s .said .event) (t .event (c .id) (s .said .event)) _
+            (λ d. rise-mark 5 0 (s .said .event) ⨾ᵘ rise-root e (c .common) ⨾ᵘ rise-root e (d .specific) ⨾ᵘ rise-root e (d .payload)) .at s;
+      }
+      ⨾ᵘ rise-check (λ s. eqb (s .place .0) (s₀ .place .0)) EventTookNoBits) .at s₀;
+}
+
+-- Packets: from states of A a step rises, and goes on to states of B
+
+record Go (A : State → Type 0) (m : Step) (B : State → Type 0) : Type 0 where
+  at : (s : State) → A s → RiseOut (s .place .0) (m s) × Onward B (m s)
+
+onward-onto : (B : State → Type 0) (es : List Entry) (o : Out) → Onward B o → Onward B (onto es o)
+unfolding onto
+onward-onto B es (stop fs v) h = tt
+onward-onto B es (go fs s) h = h
+
+onward-after : (A B : State → Type 0) (o : Out) (n : Step) → Onward A o → ((s : State) → A s → Onward B (n s)) → Onward B (after o n)
+unfolding after
+onward-after A B (stop es v) n h k = tt
+onward-after A B (go es s) n h k = onward-onto B es (n s) (k s h)
+
+onward-map : (A B : State → Type 0) (o : Out) → ((s : State) → A s → B s) → Onward A o → Onward B o
+onward-map A B (stop es v) f h = tt
+onward-map A B (go es s) f h = f s h
+
+infixr 20 _⨾ᵍ_
+_⨾ᵍ_ : {A B C : State → Type 0} {m n : Step} → Go A m B → Go B n C → Go A (m ⨾ n) C
+unfolding _⨾_
+_⨾ᵍ_ {A} {B} {C} {m} {n} h k = record {
+  at = λ s a.
+      (rise-after B (s .place .0) (m s) n (h .at s a .0) (h .at s a .1) (λ s′ b. k .at s′ b .0), onward-after B C (m s) n (h .at s a .1) (λ s′ b. k .at s′ b .1));
+}
+
+ok-onward : (e : Env) (o : Out) → Ok (In e) (At e) (NoMore e) (Inside e) o → Onward (Inside e) o
+ok-onward e (stop es v) h = tt
+ok-onward e (go es s) h = h .1
+
+inside : (e : Env) {m : Step} → Rise m → Bounded e m → Go (Inside e) m (Inside e)
+inside e {m} h k = record { at = λ s a. (h .at s, ok-onward e (m s) (k .at s a)) }
+
+-- a test, and what its failing tells
+go-check : {A : State → Type 0} (q : State → Bool) (r : Refusal) → Go A (check q r) (λ s. A s × (q s ≡ false))
+unfolding check
+go-check {A} q r = record { at = λ s a. (rise-check q r .at s, by s a (q s) refl) }
+  where
+    by : (s : State) → A s → (b : Bool) → q s ≡ b → Onward (λ s. A s × (q s ≡ false)) (elim b [ true ↦ refuse r s | false ↦ pass s ])
+    by s a true h = unfold refuse in tt
+    by s a false h = unfold pass in (a, h)
+
+go-same : {A : State → Type 0} (q : State → Bool) (r : Refusal) → Go A (check q r) A
+go-same {A} q r = record { at = λ s a. let g = go-check {A = A} q r .at s a in (g .0, onward-map _ A (check q r s) (λ s x. x .0) (g .1)) }
+
+go-due : {A : State → Type 0} → Go A due A
+unfolding due
+go-due = go-same _ ListFull
+
+go-refuse : {A B : State → Type 0} (r : Refusal) → Go A (refuse r) B
+unfolding refuse placeOf
+go-refuse r = record { at = λ s a. (le-refl (s .place .0), tt) }
+
+go-change : {A B : State → Type 0} (f : State → State) → ((s : State) → (f s) .place ≡ s .place) → ((s : State) → A s → B (f s)) → Go A (change f) B
+unfolding change
+go-change f h k = record { at = λ s a. (rise-change f h .at s, k s a) }
+
+-- the state behind an entry at the place
+abbrev less : State → State
+less s = record { place = s .place; room = s .room - wordsPerEntry; slots = s .slots; order = s .order; clock = s .clock; last = s .last; said = s .said }
+
+go-mark : {A B : State → Type 0} (k n v : ℕ) → ((s : State) → A s → B (less s)) → Go A (mark k n v) B
+unfolding mark listed
+go-mark k n v f = record { at = λ s a. (rise-mark k n v .at s, f s a) }
+
+go-end : (to : BitPlace) (n : ℕ) {A : State → Type 0} → ((s : State) → A s → s .place .0 ≤ to .0) → Go A (endPacket to n) (λ s. s .place ≡ to)
+unfolding endPacket
+go-end to n h = go-due ⨾ᵍ unfold listed in record { at = λ s a. ((h s a, le-refl (to .0)), refl) }
+
+go-if : (p : ℕ) (B : State → Type 0) (b : Bool) (x y : Out) → RiseOut p x × Onward B x → RiseOut p y × Onward B y
+    → RiseOut p (elim b [ true ↦ x | false ↦ y ]) × Onward B (elim b [ true ↦ x | false ↦ y ])
+go-if p B true x y h k = h
+go-if p B false x y h k = k
+
+-- what 34 leaves
+record Lengths (b : List ℕ) (p total content : ℕ) (s : State) : Type 0 where
+  whole : total % 8 ≡ 0
+  order : content ≤ total
+  inStream : p + total ≤ 8 * length b
+  reach : s .place .0 ≤ p + content
+
+lengths : (b : List ℕ) (p total content : ℕ) (s : State)
+    → (not (eqb (total % 8) 0) || ltb total content || ltb (8 * length b) (p + total) || ltb (p + content) (s .place .0)) ≡ false → Lengths b p total content s
+lengths b p total content s h =
+    let x = or-false (not (eqb (total % 8) 0) || ltb total content || ltb (8 * length b) (p + total)) (ltb (p + content) (s .place .0)) h in
+    let y = or-false (not (eqb (total % 8) 0) || ltb total content) (ltb (8 * length b) (p + total)) (x .0) in
+    let z = or-false (not (eqb (total % 8) 0)) (ltb total content) (y .0) in
+    record { whole = eqb-true (total % 8) 0 (not-false (eqb (total % 8) 0) (z .0)); order = ltb-false _ _ (z .1); inStream = ltb-false _ _ (y .1); reach = ltb-false _ _ (x .1) }
+
+module _ (t : Asked) (w : Fitting Positive Any t) where
+  -- an event stays within the bound
+  pub bound-event : (i : ℕ) (c : StreamClass) → t .stream i ≡ some c → (e : Env) (n : ℕ) → Bounded e (readEvent t c e n)
+  unfolding readEvent
+  bound-event i c p e n = record {
+    at = λ s₀ h₀.
+        (due′ (bound-mark e 4 0 n ⨾ᵇ changing (In e) (At e) (NoMore e) startEvent (λ s h. unfold startEvent in record { from = h .from; to = h .to; moved = h .moved })
+        ⨾ᵇ bound-root e (c .header) (w .events i c p .0) ⨾ᵇ checks (In e) (At e) (NoMore e) (place-of e) _ ClockWentBack tt
+        ⨾ᵇ changing (In e) (At e) (NoMore e) (λ s. withLast (s .clock) s) (λ s h. unfold withLast in record { from = h .from; to = h .to; moved = h .moved })
+        ⨾ᵇ due′ (look ⨾ᵇ checks (In e) (At e) (NoMore e) (place-of e) (λ s. eqb (s .place .0) (s₀ .place .0)) EventTookNoBits tt))) .at s₀ h₀;
+  }
+    where
+      infixr 20 _⨾ᵇ_
+      _⨾ᵇ_ : {m n : Step} → Bounded e m → Bounded e n → Bounded e (m ⨾ n)
+      h ⨾ᵇ k = then (In e) (At e) (NoMore e) h k
+
+      due′ : {m : Step} → Bounded e m → Bounded e (due ⨾ m)
+      due′ h = dued (In e) (At e) (NoMore e) (place-of e) tt h
+
+      look : Bounded e (λ s. withEvent (c .id) (s .said .event) (t .event (c .id) (s .said .event))
+          (λ d. mark 5 0 (s .said .event) ⨾ readRoot e (c .common) ⨾ readRoot e (d .specific) ⨾ readRoot e (d .payload)) s)
+      look = record {
+        at = λ s h. bound-with e (c .id) (s .said .event) (t .event (c .id) (s .said .event)) _
+            (λ d q. bound-mark e 5 0 (s .said .event) ⨾ᵇ bound-root e (c .common) (w .events i c p .1) ⨾ᵇ bound-root e (d .specific) (w .event _ _ d q .0) ⨾ᵇ bound-root e (d .payload) (w .event _ _ d q .1)) .at s h;
+      }
+
+  go-events : (i : ℕ) (c : StreamClass) → t .stream i ≡ some c → (e : Env) (to : BitPlace) (n left : ℕ) → e .bound .0 ≤ to .0 → Go (Inside e) (readEvents t c e to n left) (λ s. s .place ≡ to)
+  unfolding readEvents
+  go-events i c p e to n zero h = go-end to n (λ s a. omega (arith, a .to))
+  go-events i c p e to n (suc left) h = record {
+    at = λ s a.
+        go-if (s .place .0) _ (ltb (s .place .0) (e .bound .0)) _ _ ((inside e (rise-event t c e n) (bound-event i c p e n) ⨾ᵍ go-events i c p e to (n + 1) left h) .at s a)
+        (go-end to n {A = Inside e} (λ s a. omega (arith, a .to)) .at s a);
+  }
+
+  -- a packet of some lengths ends behind its total
+  go-content : (i : ℕ) (c : StreamClass) → t .stream i ≡ some c → (b : List ℕ) (p : BitPlace) (total content : ℕ) (e : Env) → e .start ≡ p → (s₀ : State) → Inside e s₀
+      → RiseOut (s₀ .place .0) (readContent t c b p total content s₀)
+      × Onward (λ s. (s .place ≡ further p total) × Lengths b (p .0) total content s₀) (readContent t c b p total content s₀)
+  unfolding readContent
+  go-content i c q b p total content e h s₀ a₀ =
+      (go-due ⨾ᵍ go-check _ LengthsContradict ⨾ᵍ go-same _ ClocksContradict ⨾ᵍ marked ⨾ᵍ record {
+        at = λ s x.
+            let g = go-events i c q inner (further p total) 0 (p .0 + content - s .place .0) (let o : content ≤ total = x .1 .order in omega arith) .at s (x .0) in
+            (g .0, onward-map _ Done (readEvents t c inner (further p total) 0 (p .0 + content - s .place .0) s) (λ s′ y. (y, x .1)) (g .1));
+      }) .at s₀ (a₀, refl)
+    where
+      inner : Env
+      inner = record { bytes = b; start = p; bound = further p content; uuid = t .uuid }
+
+      Done : State → Type 0
+      Done s = (s .place ≡ further p total) × Lengths b (p .0) total content s₀
+
+      At₀ : State → Type 0
+      At₀ s = Inside e s × (s ≡ s₀)
+
+      marked : Go (λ s. At₀ s × ((not (eqb (total % 8) 0) || ltb total content || ltb (8 * length b) (p .0 + total) || ltb (p .0 + content) (s .place .0)) ≡ false))
+          (mark 3 total content) (λ s. Inside inner s × Lengths b (p .0) total content s₀)
+      marked = go-mark 3 total content (λ s x.
+          let l : Lengths b (p .0) total content s = lengths b (p .0) total content s (x .1) in
+          let a : Inside e s = x .0 .0 in
+          let f : e .start .0 ≤ s .place .0 = a .from in
+          let z : e .start .0 ≡ p .0 = ap (λ y. y .0) h in (
+            record { from = omega arith; to = l .reach; moved = subst (λ y. ((s .said .total ≡ Missing) × (s .said .content ≡ Missing)) ⊎ (y .0 < s .place .0)) h (a .moved) },
+            subst (Lengths b (p .0) total content) (x .0 .1) l,
+          ))
+
+  -- a packet takes a byte or more, ends at a byte, and within the stream
+  abbrev pub Behind : List ℕ → ℕ → State → Type 0
+  Behind b p s = (p + 8 ≤ s .place .0) × (s .place .0 % 8 ≡ 0) × (s .place .0 ≤ 8 * length b)
+
+  pub go-packet : (b : List ℕ) (k : ℕ) (i : Stated) (s₀ : State) → s₀ .place .0 < 8 * length b → s₀ .place .0 % 8 ≡ 0
+      → RiseOut (s₀ .place .0) (readPacket t b k i s₀) × Onward (Behind b (s₀ .place .0)) (readPacket t b k i s₀)
+  unfolding readPacket
+  go-packet b k i s₀ l z =
+      (go-due ⨾ᵍ marked ⨾ᵍ started ⨾ᵍ inside e (rise-root e (t .header)) (bound-root e (t .header) (w .header)) ⨾ᵍ go-same _ StreamClassChanged ⨾ᵍ go-due
+      ⨾ᵍ record { at = λ s a. look s a (t .stream (s .said .stream)) refl }) .at s₀ refl
+    where
+      e : Env
+      e = record { bytes = b; start = s₀ .place; bound = bitPlace (8 * length b); uuid = t .uuid }
+
+      Here : State → Type 0
+      Here s = s .place ≡ s₀ .place
+
+      marked : Go Here (mark 1 0 k) Here
+      marked = go-mark 1 0 k (λ s a. a)
+
+      started : Go Here (change startPacket) (Inside e)
+      started = unfold startPacket nothingSaid in go-change _ (λ s. refl) (λ s a.
+          let p : s .place .0 ≡ s₀ .place .0 = ap (λ y. y .0) a in
+          record { from = omega arith; to = omega arith; moved = inl (refl, refl) })
+
+      second : (v : ℕ) → Go (Inside e) (mark 2 0 v) (Inside e)
+      second v = inside e (rise-mark 2 0 v) (bound-mark e 2 0 v)
+
+      rest : ℕ
+      rest = 8 * length b - s₀ .place .0
+
+      totalOf : State → ℕ
+      totalOf s = orElse (s .said .total) (s .said .content) rest
+
+      contentOf : State → ℕ
+      contentOf s = orElse (s .said .content) (s .said .total) rest
+
+      takes : (s : State) → Inside e s → Lengths b (s₀ .place .0) (totalOf s) (contentOf s) s → 0 < totalOf s
+      takes s a n = by (a .moved)
+        where
+          by : Moved e (s .place .0) (s .said) → 0 < totalOf s
+          by (inl x) =
+              let q : totalOf s ≡ rest = unfold orElse in ap (λ y. orElse y (s .said .content) rest) (x .0) ∙ ap (λ y. orElse Missing y rest) (x .1) in
+              omega arith
+          by (inr x) =
+              let p : s .place .0 ≤ s₀ .place .0 + contentOf s = n .reach in
+              let r : contentOf s ≤ totalOf s = n .order in
+              omega arith
+
+      behind : (s s′ : State) → Inside e s → (s′ .place ≡ further (s₀ .place) (totalOf s)) × Lengths b (s₀ .place .0) (totalOf s) (contentOf s) s → Behind b (s₀ .place .0) s′
+      behind s s′ a x =
+          let p : 0 < totalOf s = takes s a (x .1) in
+          let q : totalOf s % 8 ≡ 0 = x .1 .whole in
+          let r : s₀ .place .0 + totalOf s ≤ 8 * length b = x .1 .inStream in
+          let y : s′ .place .0 ≡ s₀ .place .0 + totalOf s = ap (λ v. v .0) (x .0) in
+          omega arith
+
+      look : (s : State) → Inside e s → (x : Option StreamClass) → t .stream (s .said .stream) ≡ x
+          → RiseOut (s .place .0) (withStream (s .said .stream) x (λ c. mark 2 0 (s .said .stream) ⨾ readRoot e (c .context) ⨾ λ s. readContent t c b (s₀ .place) (totalOf s) (contentOf s) s) s)
+          × Onward (Behind b (s₀ .place .0)) (withStream (s .said .stream) x (λ c. mark 2 0 (s .said .stream) ⨾ readRoot e (c .context) ⨾ λ s. readContent t c b (s₀ .place) (totalOf s) (contentOf s) s) s)
+      look s a none p = unfold withStream in go-refuse {A = Inside e} (StreamClassUnknown (s .said .stream)) .at s a
+      look s a (some c) p = unfold withStream in
+          (second (s .said .stream) ⨾ᵍ inside e (rise-root e (c .context)) (bound-root e (c .context) (w .context _ c p))
+          ⨾ᵍ record {
+            at = λ s a.
+                let g = go-content _ c p b (s₀ .place) (totalOf s) (contentOf s) e refl s a in
+                (g .0, onward-map _ (Behind b (s₀ .place .0)) (readContent t c b (s₀ .place) (totalOf s) (contentOf s) s) (λ s′ x. behind s s′ a x) (g .1));
+          }) .at s a
+
+  -- The packet loop
+
+  packets-agree : (B : State → Type 0) (o : Out) (n n′ : Step) → Onward B o → ((s : State) → B s → n s ≡ n′ s) → after o n ≡ after o n′
+  unfolding after
+  packets-agree B (stop es v) n n′ h k = refl
+  packets-agree B (go es s) n n′ h k = ap (onto es) (k s h)
+
+  packets-over : (b : List ℕ) (k : ℕ) (i : Stated) (more : ℕ) (s : State) → 8 * length b ≤ s .place .0 → readPackets t b k i more s ≡ pass s
+  unfolding readPackets
+  packets-over b k i zero s h = refl
+  packets-over b k i (suc more) s h = simp (le-ltb _ _ h, readPackets)
+
+  -- as many rounds as there are bytes left are enough
+  pub packet-rounds : (b : List ℕ) (k : ℕ) (i : Stated) (left more : ℕ) (s : State) → s .place .0 % 8 ≡ 0 → 8 * length b ≤ s .place .0 + 8 * left
+      → readPackets t b k i (left + more) s ≡ readPackets t b k i left s
+  unfolding readPackets _⨾_
+  packet-rounds b k i zero more s z h = packets-over b k i (zero + more) s (omega arith)
+  packet-rounds b k i (suc left) more s z h =
+      rw suc-add (if-agree (ltb (s .place .0) (8 * length b)) _ _ (pass s)
+      (λ q. packets-agree (Behind b (s .place .0)) (readPacket t b k i s) _ _ (go-packet b k i s (ltb-true _ _ q) z .1)
+      (λ s′ x. let x0 = x .0 in packet-rounds b (k + 1) (As (s′ .said .stream)) left more s′ (x .1) (omega arith))))
+
+  -- the place rises through all packets, and a reading that goes through ends at the stream's end
+  pub go-packets : (b : List ℕ) (k : ℕ) (i : Stated) (left : ℕ) (s : State) → s .place .0 % 8 ≡ 0 → s .place .0 ≤ 8 * length b → 8 * length b ≤ s .place .0 + 8 * left
+      → RiseOut (s .place .0) (readPackets t b k i left s) × Onward (λ s. s .place .0 ≡ 8 * length b) (readPackets t b k i left s)
+  unfolding readPackets _⨾_
+  go-packets b k i zero s z u h = unfold pass in (le-refl (s .place .0), omega arith)
+  go-packets b k i (suc left) s z u h = by (ltb (s .place .0) (8 * length b)) refl
+      (λ s′ x. let x0 = x .0 in go-packets b (k + 1) (As (s′ .said .stream)) left s′ (x .1) (x .2) (omega arith))
+    where
+      next : Step
+      next s = readPackets t b (k + 1) (As (s .said .stream)) left s
+
+      by : (c : Bool) → ltb (s .place .0) (8 * length b) ≡ c
+          → ((s′ : State) → Behind b (s .place .0) s′ → RiseOut (s′ .place .0) (next s′) × Onward (λ s. s .place .0 ≡ 8 * length b) (next s′))
+          → RiseOut (s .place .0) (elim c [ true ↦ after (readPacket t b k i s) next | false ↦ pass s ])
+          × Onward (λ s. s .place .0 ≡ 8 * length b) (elim c [ true ↦ after (readPacket t b k i s) next | false ↦ pass s ])
+      by true q r =
+          let g = go-packet b k i s (ltb-true _ _ q) z in (
+            rise-after (Behind b (s .place .0)) (s .place .0) (readPacket t b k i s) next (g .0) (g .1) (λ s′ x. r s′ x .0),
+            onward-after (Behind b (s .place .0)) _ (readPacket t b k i s) next (g .1) (λ s′ x. r s′ x .1),
+          )
+      by false q r = unfold pass in let g : 8 * length b ≤ s .place .0 = ltb-false _ _ q in (le-refl (s .place .0), omega arith)

@@ -1,0 +1,164 @@
+-- Each entry takes its words of the room; a reading that is refused by 40 has too few left for one more; and what stops is refused.
+use mathlib.Core.Path.{_≡_, refl, subst}
+use Prim.Native.Nat.{ℕ, _+_, _-_, _*_, _≤_, _<_}
+use native.Mathlib.Omega.{arith}
+use mathlib.Core.List.{List, []}
+use mathlib.Core.Bool.{Bool, true, false, _||_}
+use lib.ListN.{length, length-append}
+use lib.Dec.{ltb, eqb}
+use borrow.Author.Tests.{ltb-false, ltb-true}
+use Rattle.rules.specs.declared.BitPlace.{BitPlace}
+use Rattle.rules.specs.declared.Entry.{Entry}
+use Rattle.rules.specs.declared.Stated.the-variants.{Missing}
+use Rattle.rules.specs.declared.Refusal.{Refusal}
+use Rattle.rules.specs.declared.Refusal.the-variants.{StreamSize, ListFull}
+use Rattle.rules.specs.declared.Verdict.{Verdict}
+use Rattle.rules.specs.declared.Verdict.the-variants.{Refused}
+use Rattle.rules.specs.Limits.{wordsPerEntry, streamLimit}
+use Rattle.rules.specs.Verdict.{refusalNumber, numberOf}
+use Rattle.rules.specs.Place.{bitPlace}
+use Rattle.rules.specs.Slots.{slotAt}
+use Rattle.rules.specs.Step.{State, Out, stop, go, Step, onto, after, _⨾_, refuse, check, due, listed, change, pass, withSlots, withOrder, withClock, withLast, withSaid}
+use Rattle.rules.specs.Table.{Asked, asked}
+use Rattle.rules.specs.Field.{Env, field, store, say, fromSlot}
+use Rattle.rules.specs.Packet.{readPackets, mark, startEvent, startPacket, endPacket}
+use Rattle.rules.specs.Parse.{Parsed, bad, good, parse}
+use Rattle.rules.specs.Read.{Reading, ended, begin, readStream, readAll, readParsed}
+use Rattle.facts.proofs.Refusals.{refusalNumber-bounds}
+use Rattle.facts.proofs.Steps.{onto-nil}
+use Rattle.promises.specs.Laws.{SpentReading}
+use Rattle.promises.proofs.Simple.{Simple, SimplePackets, view, simple-packets}
+
+record Stopped (room : ℕ) (es : List Entry) (v : Verdict) : Type 0 where
+  within : wordsPerEntry * length es ≤ room
+  full : numberOf v ≡ 40 → room < wordsPerEntry * length es + wordsPerEntry
+  refused : 1 ≤ numberOf v
+
+abbrev SpentOut : State → Out → Type 0
+SpentOut s (stop es v) = Stopped (s .room) es v
+SpentOut s (go es s′) = s′ .room + wordsPerEntry * length es ≡ s .room
+
+record Spent (m : Step) : Type 0 where
+  at : (s : State) → SpentOut s (m s)
+
+-- the same where there is room for an entry
+record SpentR (m : Step) : Type 0 where
+  at : (s : State) → wordsPerEntry ≤ s .room → SpentOut s (m s)
+
+spent-onto : (s : State) (es : List Entry) (s′ : State) → s′ .room + wordsPerEntry * length es ≡ s .room → (o : Out) → SpentOut s′ o → SpentOut s (onto es o)
+unfolding onto
+spent-onto s es s′ w (stop fs v) h =
+    record {
+      within = simp length-append (omega (arith, h .within));
+      full = λ e. simp length-append (omega (arith, h .full e));
+      refused = h .refused;
+    }
+spent-onto s es s′ w (go fs s″) h = simp length-append (omega arith)
+
+spent-after : (s : State) (o : Out) (n : Step) → SpentOut s o → Spent n → SpentOut s (after o n)
+unfolding after
+spent-after s (stop es v) n h k = h
+spent-after s (go es s′) n h k = spent-onto s es s′ h (n s′) (k .at s′)
+
+spent-change : (f : State → State) → ((s : State) → (f s) .room ≡ s .room) → Spent (change f)
+unfolding change
+spent-change f h = record { at = λ s. let e : (f s) .room ≡ s .room = h s in omega arith }
+
+spent-pass : Spent pass
+unfolding pass
+spent-pass = record { at = λ s. omega arith }
+
+spent-refuse : (r : Refusal) → refusalNumber r < 40 → Spent (refuse r)
+unfolding refuse numberOf
+spent-refuse r h = record { at = λ s. record { within = omega arith; full = λ e. absurd (omega arith); refused = omega (arith, refusalNumber-bounds r .0) } }
+
+spent-if : (s : State) (b : Bool) (x y : Out) → SpentOut s x → SpentOut s y → SpentOut s (elim b [ true ↦ x | false ↦ y ])
+spent-if s true x y h k = h
+spent-if s false x y h k = k
+
+spent-check : (t : State → Bool) (r : Refusal) → refusalNumber r < 40 → Spent (check t r)
+unfolding check
+spent-check t r h = record { at = λ s. spent-if s (t s) _ _ (spent-refuse r h .at s) (spent-pass .at s) }
+
+check-narrow : (t : State → Bool) (r : Refusal) {m : Step} → refusalNumber r < 40 → SpentR m → SpentR (check t r ⨾ m)
+unfolding check _⨾_ pass refuse after
+check-narrow t r {m} h k = record { at = λ s q. by s q (t s) }
+  where
+    by : (s : State) → wordsPerEntry ≤ s .room → (b : Bool) → SpentOut s (after (elim b [ true ↦ refuse r s | false ↦ pass s ]) m)
+    by s q true = spent-refuse r h .at s
+    by s q false = rw (onto-nil (m s)) (k .at s q)
+
+due-spent : {m : Step} → SpentR m → Spent (due ⨾ m)
+unfolding due check _⨾_ pass refuse after
+due-spent {m} h = record { at = λ s. by s (ltb (s .room) wordsPerEntry) refl }
+  where
+    by : (s : State) (b : Bool) → ltb (s .room) wordsPerEntry ≡ b → SpentOut s (after (elim b [ true ↦ refuse ListFull s | false ↦ pass s ]) m)
+    by s true e = unfold numberOf in let r : s .room < wordsPerEntry = ltb-true (s .room) wordsPerEntry e in
+        record { within = omega arith; full = λ q. omega arith; refused = omega (arith, refusalNumber-bounds ListFull .0) }
+    by s false e = rw (onto-nil (m s)) (h .at s (ltb-false (s .room) wordsPerEntry e))
+
+spent-listed : (e : Entry) (p : BitPlace) (s : State) → wordsPerEntry ≤ s .room → SpentOut s (listed e p s)
+unfolding listed
+spent-listed e p s r = omega arith
+
+spent-simple : (e : Env) → Simple e Spent SpentR
+unfolding _⨾_ field store say fromSlot withSlots withOrder withClock withSaid
+spent-simple e = record {
+  seq = λ {m} {n} h k. record { at = λ s. spent-after s (m s) n (h .at s) k };
+  seqʳ = λ {m} {n} h k. record { at = λ s r. spent-after s (m s) n (h .at s r) k };
+  narrow = λ h. record { at = λ s r. h .at s };
+  dueʳ = λ h. due-spent h;
+  passes = spent-pass;
+  refuses = λ r small. record { at = λ s q. spent-refuse r small .at s };
+  checks = λ t r small. spent-check _ r small;
+  checksʳ = λ t r small h. check-narrow _ r small h;
+  looks = λ f h. record { at = λ s. h (view s) .at s };
+  looksʳ = λ f h. record { at = λ s r. h (view s) .at s r };
+  slots = λ i f h. record { at = λ s r. h (slotAt (s .slots) i) .at s r };
+  fields = λ k a n v h l. record { at = λ s r. spent-listed _ _ s r };
+  clocked = λ l c. record { at = λ s r. spent-listed _ _ s r };
+  stores = λ i x. spent-change _ (λ s. refl);
+  orders = λ o. spent-change _ (λ s. refl);
+  clocks = λ c. spent-change _ (λ s. refl);
+  says = λ f. spent-change _ (λ s. refl);
+}
+
+spent-packets : SimplePackets Spent SpentR
+unfolding mark endPacket startEvent startPacket withLast
+spent-packets = record {
+  simple = spent-simple;
+  either = λ t h k. record { at = λ s. spent-if s (t (view s)) _ _ (h .at s) (k .at s) };
+  marks = λ k n v. record { at = λ s r. spent-listed _ _ s r };
+  starts = spent-change _ (λ s. refl);
+  startsPacket = spent-change _ (λ s. refl);
+  lasts = spent-change _ (λ s. refl);
+  ends = λ to n. due-spent (record { at = λ s r. spent-listed _ _ s r });
+}
+
+-- what stops is refused
+pub packets-refused : (t : Asked) (b : List ℕ) (room : ℕ) (es : List Entry) (v : Verdict) → readPackets t b 0 Missing (length b) (begin room) ≡ stop es v → 1 ≤ numberOf v
+packets-refused t b room es v h = let g : SpentOut (begin room) (stop es v) = subst (SpentOut (begin room)) h (simple-packets spent-packets t b 0 Missing (length b) .at (begin room)) in g .refused
+
+-- readings
+
+ended-spent : (s : State) (o : Out) → SpentOut s o → SpentReading (s .room) (ended o)
+unfolding ended numberOf
+ended-spent s (stop es v) h = record { within = h .within; full = h .full }
+ended-spent s (go es s′) h = record { within = omega arith; full = λ e. absurd (omega arith) }
+
+stream-spent : (t : Asked) (b : List ℕ) (room : ℕ) → SpentReading room (readStream t b room)
+unfolding readStream numberOf refusalNumber
+stream-spent t b room = by (eqb (length b) 0 || ltb streamLimit (length b))
+  where
+    by : (x : Bool) → SpentReading room (elim x [ true ↦ record { entries = []; verdict = Refused StreamSize (bitPlace 0) } | false ↦ ended (readPackets t b 0 Missing (length b) (begin room)) ])
+    by true = record { within = omega arith; full = λ e. absurd (omega arith) }
+    by false = unfold begin in ended-spent (begin room) _ (simple-packets spent-packets t b 0 Missing (length b) .at (begin room))
+
+-- the entries take no more than the room; and where the number is 40, the room has no place for one more
+pub reading-spent : (x b : List ℕ) (room : ℕ) → SpentReading room (readAll x b room)
+unfolding readAll numberOf
+reading-spent x b room = by (parse x)
+  where
+    by : (p : Parsed _) → SpentReading room (readParsed x p b room)
+    by (bad n y) = unfold readParsed in record { within = omega arith; full = λ e. absurd (omega arith) }
+    by (good t y) = unfold readParsed in stream-spent (asked t) b room

@@ -1,0 +1,86 @@
+-- What holds before a step and behind it, of the entries that it lists, and of the verdict where it stops.
+use mathlib.Core.Path.{_≡_, refl}
+use mathlib.Core.List.{List}
+use mathlib.Core.Bool.{Bool, true, false}
+use Rattle.rules.specs.declared.Entry.{Entry}
+use Rattle.rules.specs.declared.Refusal.{Refusal}
+use Rattle.rules.specs.declared.Refusal.the-variants.{ListFull}
+use Rattle.rules.specs.declared.Verdict.{Verdict}
+use Rattle.rules.specs.declared.Verdict.the-variants.{Refused}
+use Rattle.rules.specs.Step.{State, Out, stop, go, Step, onto, after, _⨾_, refuse, check, due, change, pass}
+use Rattle.promises.specs.Words.{All}
+use Rattle.promises.proofs.Each.{all-append}
+
+-- Q of every entry, U of the verdict; I is what is asked of a refusal's ids
+module _ (Q : Entry → Type 0) (U : Verdict → Type 0) (I : Refusal → Type 0) where
+  abbrev pub Ok : (State → Type 0) → Out → Type 0
+  Ok B (stop es v) = All Q es × U v
+  Ok B (go es s) = All Q es × B s
+
+  pub record Triple (A : State → Type 0) (m : Step) (B : State → Type 0) : Type 0 where
+    pub at : (s : State) → A s → Ok B (m s)
+
+  ok-onto : (B : State → Type 0) (es : List Entry) (o : Out) → All Q es → Ok B o → Ok B (onto es o)
+  unfolding onto
+  ok-onto B es (stop fs v) h k = (all-append Q es fs h (k .0), k .1)
+  ok-onto B es (go fs s) h k = (all-append Q es fs h (k .0), k .1)
+
+  pub ok-after : (A B : State → Type 0) (o : Out) (n : Step) → Ok A o → Triple A n B → Ok B (after o n)
+  unfolding after
+  ok-after A B (stop es v) n h k = h
+  ok-after A B (go es s) n h k = ok-onto B es (n s) (h .0) (k .at s (h .1))
+
+  module _ {A B C : State → Type 0} where
+    pub then : {m n : Step} → Triple A m B → Triple B n C → Triple A (m ⨾ n) C
+    unfolding _⨾_
+    then {m} {n} h k = record { at = λ s a. ok-after B C (m s) n (h .at s a) k }
+
+  module _ {A : State → Type 0} where
+    pub passing : Triple A pass A
+    unfolding pass
+    passing = record { at = λ s a. (tt, a) }
+
+    pub changing : {B : State → Type 0} (f : State → State) → ((s : State) → A s → B (f s)) → Triple A (change f) B
+    unfolding change
+    changing f h = record { at = λ s a. (tt, h s a) }
+
+    pub weaker : {A′ B : State → Type 0} {m : Step} → ((s : State) → A′ s → A s) → Triple A m B → Triple A′ m B
+    weaker f h = record { at = λ s a. h .at s (f s a) }
+
+    pub naming : {B : State → Type 0} (r : Refusal) → ((s : State) → A s → U (Refused r (s .place))) → Triple A (refuse r) B
+    unfolding refuse
+    naming r u = record { at = λ s h. (tt, u s h) }
+
+    -- where a refusal at the state's place will do
+    module _ (u : (r : Refusal) → I r → (s : State) → A s → U (Refused r (s .place))) where
+      pub refusing : {B : State → Type 0} (r : Refusal) → I r → Triple A (refuse r) B
+      refusing r i = naming r (u r i)
+
+      -- a test, and what its failing tells
+      pub checking : (t : State → Bool) (r : Refusal) → I r → Triple A (check t r) (λ s. A s × (t s ≡ false))
+      unfolding check
+      checking t r i = record { at = λ s h. by s h (t s) refl }
+        where
+          by : (s : State) → A s → (b : Bool) → t s ≡ b → Ok (λ s. A s × (t s ≡ false)) (elim b [ true ↦ refuse r s | false ↦ pass s ])
+          by s h true e = unfold refuse in (tt, u r i s h)
+          by s h false e = unfold pass in (tt, (h, e))
+
+      pub tested : {B : State → Type 0} (t : State → Bool) (r : Refusal) → I r → {m : Step} → Triple (λ s. A s × (t s ≡ false)) m B → Triple A (check t r ⨾ m) B
+      tested {B} t r i {m} h = then (checking t r i) h
+
+      pub untested : {B : State → Type 0} (t : State → Bool) (r : Refusal) → I r → {m : Step} → Triple A m B → Triple A (check t r ⨾ m) B
+      untested {B} t r i {m} h = then (checking t r i) (record { at = λ s a. h .at s (a .0) })
+
+      pub checks : (t : State → Bool) (r : Refusal) → I r → Triple A (check t r) A
+      checks t r i = by
+        where
+          by : Triple A (check t r) A
+          by = record { at = λ s a. out (check t r s) (checking t r i .at s a) }
+            where
+              out : (o : Out) → Ok (λ s. A s × (t s ≡ false)) o → Ok A o
+              out (stop es v) h = h
+              out (go es s) h = (h .0, h .1 .0)
+
+      pub dued : I ListFull → {B : State → Type 0} {m : Step} → Triple A m B → Triple A (due ⨾ m) B
+      unfolding due
+      dued i {B} {m} h = untested _ ListFull i h

@@ -1,0 +1,264 @@
+-- Every word of an entry of a field is below 2 ^ 64, the clock's values among them.
+use mathlib.Core.Path.{_≡_, refl}
+use Prim.Native.Nat.{ℕ, _+_, _-_, _*_, _/_, _^_, _≤_, _<_}
+use native.Mathlib.Omega.{arith}
+use mathlib.Core.List.{List}
+use mathlib.Core.Bool.{Bool}
+use mathlib.Core.Option.{Option, none, some}
+use lib.ListN.{length, take, drop, length-take}
+use borrow.Author.Tests.{ltb-false}
+use Rattle.rules.specs.declared.BitPlace.{BitPlace}
+use Rattle.rules.specs.declared.ByteLength.{ByteLength}
+use Rattle.rules.specs.declared.Order.{Order}
+use Rattle.rules.specs.declared.LastOrder.{LastOrder}
+use Rattle.rules.specs.declared.LastOrder.the-variants.{Was}
+use Rattle.rules.specs.declared.Content.{Content}
+use Rattle.rules.specs.declared.Content.the-variants.{Unsigned, Signed}
+use Rattle.rules.specs.declared.Stated.{Stated}
+use Rattle.rules.specs.declared.Stated.the-variants.{Missing, As}
+use Rattle.rules.specs.declared.Said.{Said}
+use Rattle.rules.specs.declared.Leb.{Leb}
+use Rattle.rules.specs.declared.Leb.the-variants.{Value, Past, Large}
+use Rattle.rules.specs.declared.Ended.{Ended}
+use Rattle.rules.specs.declared.Ended.the-variants.{After, Never}
+use Rattle.rules.specs.declared.Entry.{Entry}
+use Rattle.rules.specs.declared.Refusal.{Refusal}
+use Rattle.rules.specs.declared.Refusal.the-variants.{StreamSize, PastBound, OrderChanged, LebTooLarge, NoZeroByte, SlotUnset, SlotOfWrongSort, LengthTooLarge, SelectorInNoOption, WrongMagic, WrongUuid, StreamClassChanged, StreamClassUnknown, LengthsContradict, ClocksContradict, ClockTooLarge, EventClassUnknown, EventTookNoBits, ClockWentBack, ListFull}
+use Rattle.rules.specs.declared.Verdict.{Verdict}
+use Rattle.rules.specs.declared.Verdict.the-variants.{Accepted, TableRefused, Refused}
+use Rattle.rules.specs.Bits.{bits}
+use Rattle.rules.specs.Leb128.{lebUnsigned, lebSigned}
+use Rattle.rules.specs.Clock.{clockAfter}
+use Rattle.rules.specs.Text.{textLength, zeroAt}
+use Rattle.rules.specs.Place.{alignFrom, roundUp}
+use Rattle.rules.specs.Slots.{slotAt}
+use Rattle.rules.specs.Entry.{entry, clockAdvanced}
+use Rattle.rules.specs.Step.{State, Out, Step, _⨾_, refuse, check, due, listed, change, pass, withSlots, withOrder, withClock, withSaid}
+use Rattle.rules.specs.Class.{Role, noRole, magic, streamClassId, streamId, uuid, totalLength, contentLength, clock, endClock, discarded, sequence, eventClassId}
+use Rattle.rules.specs.Class.{Class, Sort, bitArray, boolean, unsignedInt, signedInt, float, kindOf}
+use Rattle.rules.specs.Field.{Env, aligned, fit, field, store, newClock, say, role, blobRole, fromSlot, valueOf, slotOf, ahead, bytesAt, readFixed, readLeb, readZero, readText, readBlob}
+use Rattle.rules.specs.Packet.{readRoot}
+use Rattle.promises.specs.Words.{Word, WordEntry, WordIds, WordVerdict}
+use Rattle.promises.proofs.Law.{SlotOf, Law, FitRoot, law-root}
+use Rattle.promises.proofs.Triple.{Ok, Triple, then, passing, changing, refusing, checks, tested, untested, dued}
+use Rattle.promises.proofs.Values.{LebFits, unsigned-fits, signed-fits, zero-there, value-word, text-le, clock-word, WordSlots, slot-word, set-word, slotOf-word}
+use Rattle.promises.proofs.Bounds.{ahead-fits}
+
+abbrev pub StatedWord : Stated → Type 0
+StatedWord Missing = Unit {0}
+StatedWord (As v) = Word v
+
+pub record WordSaid (d : Said) : Type 0 where
+  pub stream : Word (d .stream)
+  pub event : Word (d .event)
+  pub total : StatedWord (d .total)
+  pub content : StatedWord (d .content)
+
+pub record Wordy (s : State) : Type 0 where
+  pub place : Word (s .place .0)
+  pub clock : Word (s .clock)
+  pub slots : WordSlots (s .slots)
+  pub said : WordSaid (s .said)
+
+abbrev Fine : (State → Type 0) → Step → Type 0
+Fine A m = Triple WordEntry WordVerdict WordIds A m Wordy
+
+abbrev pub Worded : Step → Type 0
+Worded m = Triple WordEntry WordVerdict WordIds Wordy m Wordy
+
+pub place-of : (r : Refusal) → WordIds r → (s : State) → Wordy s → WordVerdict (Refused r (s .place))
+place-of r i s h = (h .place, i)
+
+infixr 20 _⨾ʷ_
+pub _⨾ʷ_ : {A : State → Type 0} {m n : Step} → Fine A m → Worded n → Fine A (m ⨾ n)
+h ⨾ʷ k = then WordEntry WordVerdict WordIds h k
+
+pub word-listed : (x : Entry) (p : BitPlace) (s : State) → WordEntry x → Word (p .0) → Wordy s → Ok WordEntry WordVerdict WordIds Wordy (listed x p s)
+unfolding listed
+word-listed x p s h k w = ((h, tt), record { place = k; clock = w .clock; slots = w .slots; said = w .said })
+
+pub word-check : (t : State → Bool) (r : Refusal) → WordIds r → Worded (check t r)
+word-check t r i = checks WordEntry WordVerdict WordIds place-of t r i
+
+pub word-pass : Worded pass
+word-pass = passing WordEntry WordVerdict WordIds
+
+word-refuse : (r : Refusal) → WordIds r → Worded (refuse r)
+word-refuse r i = refusing WordEntry WordVerdict WordIds place-of r i
+
+pub word-due : {m : Step} → Worded m → Worded (due ⨾ m)
+word-due h = dued WordEntry WordVerdict WordIds place-of tt h
+
+word-order : (o : LastOrder) → Worded (change (withOrder o))
+unfolding withOrder
+word-order o = changing WordEntry WordVerdict WordIds _ (λ s h. record { place = h .place; clock = h .clock; slots = h .slots; said = h .said })
+
+word-store : (i : ℕ) (x : Content) → SlotOf Word x → Worded (store i x)
+unfolding store withSlots
+word-store i x g = changing WordEntry WordVerdict WordIds _ (λ s h. record { place = h .place; clock = h .clock; slots = set-word (s .slots) i x (h .slots) g; said = h .said })
+
+word-say : (f : Said → Said) → ((d : Said) → WordSaid d → WordSaid (f d)) → Worded (say f)
+unfolding say withSaid
+word-say f g = changing WordEntry WordVerdict WordIds _ (λ s h. record { place = h .place; clock = h .clock; slots = h .slots; said = g (s .said) (h .said) })
+
+word-newClock : (l : ℕ) (o : Option ℕ) → Word l → ((c : ℕ) → o ≡ some c → Word c) → Worded (newClock l o)
+unfolding newClock
+word-newClock l none g h = word-refuse ClockTooLarge tt
+word-newClock l (some c) g h = by ⨾ʷ changing WordEntry WordVerdict WordIds (withClock c) (λ s w. unfold withClock in record { place = w .place; clock = h c refl; slots = w .slots; said = w .said })
+  where
+    by : Worded (λ s. listed (entry clockAdvanced (s .place) l c) (s .place) s)
+    by = record { at = λ s w. word-listed (entry clockAdvanced (s .place) l c) (s .place) s (omega arith, w .place, g, h c refl) (w .place) w }
+
+word-role : (r : Role) (l v : ℕ) → Word l → Word v → Worded (role r l v)
+unfolding role
+word-role noRole l v g h = word-pass
+word-role magic l v g h = word-check _ WrongMagic tt
+word-role streamClassId l v g h = word-say _ (λ d w. record { stream = h; event = w .event; total = w .total; content = w .content })
+word-role streamId l v g h = word-pass
+word-role uuid l v g h = word-pass
+word-role totalLength l v g h = word-say _ (λ d w. record { stream = w .stream; event = w .event; total = h; content = w .content })
+word-role contentLength l v g h = word-say _ (λ d w. record { stream = w .stream; event = w .event; total = w .total; content = h })
+word-role clock l v g h = word-due (record { at = λ s w. word-newClock l (clockAfter (s .clock) l v) g (λ c p. clock-word (s .clock) l v c p) .at s w })
+word-role endClock l v g h = word-say _ (λ d w. record { stream = w .stream; event = w .event; total = w .total; content = w .content })
+word-role discarded l v g h = word-pass
+word-role sequence l v g h = word-pass
+word-role eventClassId l v g h = word-say _ (λ d w. record { stream = w .stream; event = h; total = w .total; content = w .content })
+
+word-blobRole : (e : Env) (r : Role) (b : List ℕ) → Worded (blobRole e r b)
+unfolding blobRole
+word-blobRole e noRole b = word-pass
+word-blobRole e magic b = word-pass
+word-blobRole e streamClassId b = word-pass
+word-blobRole e streamId b = word-pass
+word-blobRole e uuid b = word-check _ WrongUuid tt
+word-blobRole e totalLength b = word-pass
+word-blobRole e contentLength b = word-pass
+word-blobRole e clock b = word-pass
+word-blobRole e endClock b = word-pass
+word-blobRole e discarded b = word-pass
+word-blobRole e sequence b = word-pass
+word-blobRole e eventClassId b = word-pass
+
+kind-le : (k : Sort) → kindOf k ≤ 32
+unfolding kindOf
+kind-le bitArray = omega arith
+kind-le boolean = omega arith
+kind-le unsignedInt = omega arith
+kind-le signedInt = omega arith
+kind-le float = omega arith
+
+-- an environment whose places are words
+pub record Env64 (e : Env) : Type 0 where
+  pub start : Word (e .start .0)
+  pub bound : Word (e .bound .0)
+
+abbrev pub To64 : ℕ → Type 0
+To64 n = n ≤ 64
+
+module _ (e : Env) (g : Env64 e) where
+  abbrev Room : ℕ → ℕ → State → Type 0
+  Room a n s = Wordy s × ((aligned e a s) .0 + n ≤ e .bound .0)
+
+  fitting : (a n : ℕ) {m : Step} → Fine (Room a n) m → Worded (fit e a n ⨾ m)
+  unfolding fit
+  fitting a n h = tested WordEntry WordVerdict WordIds place-of _ PastBound tt (record { at = λ s x. h .at s (x .0, ltb-false _ _ (x .1)) })
+
+  plain-fit : (a n : ℕ) {m : Step} → Worded m → Worded (fit e a n ⨾ m)
+  unfolding fit
+  plain-fit a n h = untested WordEntry WordVerdict WordIds place-of _ PastBound tt h
+
+  a-field : (k a n v : ℕ) → k ≤ 32 → Word v → Fine (Room a n) (field e k a n v)
+  unfolding field
+  a-field k a n v h w = record {
+    at = λ s x.
+        let b : (aligned e a s) .0 + n ≤ e .bound .0 = x .1 in
+        let c : Word (e .bound .0) = g .bound in
+        word-listed (entry k (aligned e a s) n v) _ s (omega arith) (omega arith) (x .0);
+  }
+
+  tagged : (k v : ℕ) → k ≤ 32 → Word v → Worded (field e k 1 0 v)
+  unfolding field aligned alignFrom roundUp
+  tagged k v h w = record {
+    at = λ s x.
+        let b : Word (s .place .0) = x .place in
+        let c : Word (e .start .0) = g .start in
+        word-listed (entry k (aligned e 1 s) 0 v) _ s (omega arith) (omega arith) x;
+  }
+
+  word-fixed : (k : Sort) (n : ℕ) (o : Order) (a i : ℕ) (r : Role) → n ≤ 64 → Worded (readFixed e k n o a i r)
+  unfolding readFixed
+  word-fixed k n o a i r h =
+      word-due (plain-fit a 0 (untested WordEntry WordVerdict WordIds place-of _ OrderChanged tt (fitting a n (record {
+        at = λ s x.
+            (let p : ℕ = (aligned e a s) .0 in
+            let v : ℕ = bits o (e .bytes) p n in
+            let w : Word (valueOf k n v) = value-word k n o (e .bytes) p h in
+            a-field (kindOf k) a n (valueOf k n v) (kind-le k) w ⨾ʷ word-order (Was o) ⨾ʷ word-store i (slotOf k n v) (slotOf-word k n o (e .bytes) p h)
+            ⨾ʷ word-role r n (valueOf k n v) (omega arith) w) .at s x;
+      }))))
+
+  word-leb : (k : ℕ) (sl : ℕ → Content) (i : ℕ) (r : Role) (x : Leb) (s : State) → k ≤ 32 → ((v : ℕ) → Word v → SlotOf Word (sl v)) → Wordy s → (aligned e 8 s) .0 ≤ e .bound .0
+      → LebFits (ahead e (aligned e 8 s)) x → Ok WordEntry WordVerdict WordIds Wordy (readLeb e k sl i r x s)
+  unfolding readLeb
+  word-leb k sl i r Past s q f h b p = word-refuse PastBound tt .at s h
+  word-leb k sl i r Large s q f h b p = word-refuse LebTooLarge tt .at s h
+  word-leb k sl i r (Value v n) s q f h b p =
+      let y = p v n refl in
+      let u : Word v = y .1 in
+      (a-field k 8 (8 * n .0) v q u ⨾ʷ word-store i (sl v) (f v u) ⨾ʷ word-role r (7 * n .0) v (omega (arith, y .0 .few)) u) .at s
+      (h, ahead-fits e (aligned e 8 s) (n .0) b (y .0 .there))
+
+  word-zero : (x : Ended) (s : State) → Wordy s → (aligned e 8 s) .0 ≤ e .bound .0 → ((n : ByteLength) → x ≡ After n → n .0 < length (ahead e (aligned e 8 s))) → Ok WordEntry WordVerdict WordIds Wordy (readZero e x s)
+  unfolding readZero
+  word-zero Never s h b p = word-refuse NoZeroByte tt .at s h
+  word-zero (After n) s h b p =
+      let l : n .0 < length (ahead e (aligned e 8 s)) = p n refl in
+      let f : (aligned e 8 s) .0 + 8 * (n .0 + 1) ≤ e .bound .0 = ahead-fits e (aligned e 8 s) (n .0 + 1) b (omega arith) in
+      let c : Word (e .bound .0) = g .bound in
+      a-field 23 8 (8 * (n .0 + 1)) (n .0) (omega arith) (omega arith) .at s (h, f)
+
+  at-zero : {m : Step} → Fine (λ s. Wordy s × ((aligned e 8 s) .0 ≤ e .bound .0)) m → Worded (fit e 8 0 ⨾ m)
+  at-zero h = fitting 8 0 (record { at = λ s x. let b : (aligned e 8 s) .0 + 0 ≤ e .bound .0 = x .1 in h .at s (x .0, omega arith) })
+
+  text-word : (p : BitPlace) (n : ℕ) → textLength (bytesAt e p n) ≤ n
+  unfolding bytesAt
+  text-word p n = omega (arith, text-le (take n (drop (p .0 / 8) (e .bytes))), length-take n (drop (p .0 / 8) (e .bytes)))
+
+  pub word-law : Law e To64 Word Worded Worded
+  unfolding fromSlot
+  word-law = record {
+    none? = omega arith;
+    one? = omega arith;
+    seq = λ h k. h ⨾ʷ k;
+    dueʳ = λ h. word-due h;
+    passes = word-pass;
+    unset = word-refuse SlotUnset tt;
+    wrongSort = word-refuse SlotOfWrongSort tt;
+    inNone = word-refuse SelectorInNoOption tt;
+    within = λ n h. untested WordEntry WordVerdict WordIds place-of _ LengthTooLarge tt h;
+    slot = λ i f h. record { at = λ s x. h (slotAt (s .slots) i) (slot-word (s .slots) i (x .slots)) .at s x };
+    fixes = λ k n o a i r w. word-fixed k n o (2 ^ a) i r w;
+    lebs = λ i r. at-zero (record { at = λ s x. word-leb 21 Unsigned i r (lebUnsigned (ahead e (aligned e 8 s))) s (omega arith) (λ v w. w) (x .0) (x .1) (unsigned-fits _) });
+    signedLebs = λ i. at-zero (record { at = λ s x. word-leb 22 Signed i noRole (lebSigned (ahead e (aligned e 8 s))) s (omega arith) (λ v w. w) (x .0) (x .1) (signed-fits _) });
+    zeros = at-zero (record { at = λ s x. word-zero (zeroAt (ahead e (aligned e 8 s))) s (x .0) (x .1) (zero-there _) });
+    texts = λ k n h. unfold readText in
+        plain-fit 8 0 (fitting 8 (8 * n) (record {
+          at = λ s x.
+              let b : (aligned e 8 s) .0 + 8 * n ≤ e .bound .0 = x .1 in
+              let c : Word (e .bound .0) = g .bound in
+              a-field k 8 (8 * n) (textLength (bytesAt e (aligned e 8 s) n)) (h .1) (omega (arith, text-word (aligned e 8 s) n)) .at s x;
+        }));
+    blobs = λ k n r h. unfold readBlob in
+        plain-fit 8 0 (fitting 8 (8 * n) (record {
+          at = λ s x.
+              let b : (aligned e 8 s) .0 + 8 * n ≤ e .bound .0 = x .1 in
+              let c : Word (e .bound .0) = g .bound in
+              (a-field k 8 (8 * n) n (h .1) (omega arith) ⨾ʷ word-blobRole e r (bytesAt e (aligned e 8 s) n)) .at s x;
+        }));
+    heads = λ k a v h l w x. fitting a 0 (a-field k a 0 v (h .1) w ⨾ʷ x);
+    tags = λ k v h w x. tagged k v (h .1) w ⨾ʷ x;
+    tag = λ k v h w. tagged k v (h .1) w;
+  }
+
+  pub word-root : (c : Option Class) → FitRoot To64 Word c → Worded (readRoot e c)
+  word-root c w = law-root e word-law c w

@@ -1,0 +1,5 @@
+pub mod Figures
+pub mod Words
+pub mod Edition
+pub mod Missing
+pub mod Laws

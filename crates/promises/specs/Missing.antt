@@ -1,0 +1,87 @@
+-- Demand 3: the first finding of a class that was left out, and the reading that ends just before it.
+use mathlib.Core.Path.{_≡_}
+use Prim.Native.Nat.{ℕ, suc}
+use mathlib.Core.List.{List, [], _∷_}
+use mathlib.Core.Bool.{Bool, true, false, not, _&&_}
+use mathlib.Core.Option.{Option, none, some}
+use lib.ListN.{take}
+use lib.Dec.{eqb}
+use Rattle.rules.specs.declared.Entry.{Entry}
+use Rattle.rules.specs.declared.Refusal.the-variants.{StreamClassUnknown, EventClassUnknown}
+use Rattle.rules.specs.declared.Verdict.{Verdict}
+use Rattle.rules.specs.declared.Verdict.the-variants.{Refused}
+use Rattle.rules.specs.Entry.{streamClassFound, eventClassFound}
+use Rattle.rules.specs.Table.{Table, findStream, findEvent}
+use Rattle.rules.specs.Parse.{good, parse}
+use Rattle.rules.specs.Read.{Reading, readAll}
+use Rattle.promises.specs.Edition.{keep, both, leave}
+
+-- an entry of a list, by its number from 0, and the refusal that names the class of which it is the finding
+pub record Lost : Type 0 where
+  pub index : ℕ
+  pub refusal : Verdict
+
+-- gs and ge say which stream classes and which event classes were left out, by their ids
+module _ (gs : ℕ → Bool) (ge : ℕ → ℕ → Bool) where
+  -- the stream class id behind an entry, where it was i in front: that of the latest entry 2
+  unfoldable pub under : ℕ → Entry → ℕ
+  under i e = elim (eqb (e .kind) streamClassFound) [ true ↦ e .value | false ↦ i ]
+
+  -- where an entry is the finding of a class left out, under a stream class id: the refusal that names it, at the entry's place
+  unfoldable pub lost : ℕ → Entry → Option Verdict
+  lost i e =
+      elim (eqb (e .kind) streamClassFound && gs (e .value)) [
+        | true ↦ some (Refused (StreamClassUnknown (e .value)) (e .place))
+        | false ↦ elim (eqb (e .kind) eventClassFound && ge i (e .value)) [ true ↦ some (Refused (EventClassUnknown i (e .value)) (e .place)) | false ↦ none ]
+      ]
+
+  unfoldable pub later : Option Lost → Option Lost
+  later none = none
+  later (some l) = some (record { index = suc (l .index); refusal = l .refusal })
+
+  unfoldable pub front : Option Verdict → Option Lost → Option Lost
+  front none o = later o
+  front (some v) o = some (record { index = 0; refusal = v })
+
+  -- the first finding of a class left out
+  unfoldable pub firstLost : ℕ → List Entry → Option Lost
+  firstLost i [] = none
+  firstLost i (e ∷ es) = front (lost i e) (firstLost (under i e) es)
+
+unfoldable pub has : {A : Type 0} → Option A → Bool
+has none = false
+has (some a) = true
+
+-- a class that a table has, and that does not stay; an event class goes with its stream class
+unfoldable pub goneStream : (ℕ → Bool) → Table → ℕ → Bool
+goneStream ks t i = has (findStream (t .streams) i) && not (ks i)
+
+unfoldable pub goneEvent : (ℕ → Bool) → (ℕ → ℕ → Bool) → Table → ℕ → ℕ → Bool
+goneEvent ks ke t i j = has (findEvent (t .events) i j) && not (ks i && ke i j)
+
+-- the first finding of a class left out in a reading's list. An entry 5 stands behind an entry 2, so that the 0 is not used
+unfoldable pub missed : (ℕ → Bool) → (ℕ → ℕ → Bool) → Table → Reading → Option Lost
+missed ks ke t r = firstLost (goneStream ks t) (goneEvent ks ke t) 0 (r .entries)
+
+-- a table x, accepted as t; a stream b; room for a list
+pub record MissingClass (ks : ℕ → Bool) (ke : ℕ → ℕ → Bool) (x : List ℕ) (t : Table) (b : List ℕ) (room : ℕ) : Type 0 where
+  -- the rest is accepted
+  pub accepted : parse (leave ks ke x) ≡ good (keep ks (both ks ke) t) []
+  -- the full reading lists the finding of a class that was left out
+  pub cut : (l : Lost) → missed ks ke t (readAll x b room) ≡ some l
+      → ((readAll (leave ks ke x) b room) .entries ≡ take (l .index) ((readAll x b room) .entries)) × ((readAll (leave ks ke x) b room) .verdict ≡ l .refusal)
+  -- it lists none
+  pub same : missed ks ke t (readAll x b room) ≡ none → readAll (leave ks ke x) b room ≡ readAll x b room
+
+abbrev pub Demand3 : Type 0
+Demand3 = (ks : ℕ → Bool) (ke : ℕ → ℕ → Bool) (x : List ℕ) (t : Table) (y : List ℕ) → parse x ≡ good t y → (b : List ℕ) (room : ℕ)
+    → MissingClass ks ke x t b room
+
+-- the same as one equation: the short reading is a function of the whole one
+unfoldable pub shortened : Option Lost → Reading → Reading
+shortened none r = r
+shortened (some l) r = record { entries = take (l .index) (r .entries); verdict = l .refusal }
+
+abbrev pub Demand3≡ : Type 0
+Demand3≡ = (ks : ℕ → Bool) (ke : ℕ → ℕ → Bool) (x : List ℕ) (t : Table) (y : List ℕ) → parse x ≡ good t y → (b : List ℕ) (room : ℕ)
+    → readAll (leave ks ke x) b room ≡ shortened (missed ks ke t (readAll x b room)) (readAll x b room)

@@ -1,0 +1,59 @@
+-- Numbers that fit their words: a byte is below 256, and a word of the list below 2 ^ 64.
+use Prim.Native.Nat.{ℕ, _^_, _<_}
+use mathlib.Core.List.{List, [], _∷_}
+use Rattle.rules.specs.Read.{Reading}
+use Rattle.rules.specs.declared.Entry.{Entry}
+use Rattle.rules.specs.declared.Refusal.{Refusal}
+use Rattle.rules.specs.declared.Refusal.the-variants.{StreamSize, PastBound, OrderChanged, LebTooLarge, NoZeroByte, SlotUnset, SlotOfWrongSort, LengthTooLarge, SelectorInNoOption, WrongMagic, WrongUuid, StreamClassChanged, StreamClassUnknown, LengthsContradict, ClocksContradict, ClockTooLarge, EventClassUnknown, EventTookNoBits, ClockWentBack, ListFull}
+use Rattle.rules.specs.declared.Verdict.{Verdict}
+use Rattle.rules.specs.declared.Verdict.the-variants.{Accepted, TableRefused, Refused}
+
+abbrev pub Word : ℕ → Type 0
+Word n = n < 2 ^ 64
+
+abbrev pub Bytes : List ℕ → Type 0
+Bytes [] = Unit {0}
+Bytes (b ∷ bs) = (b < 256) × Bytes bs
+
+abbrev pub AllWords : List ℕ → Type 0
+AllWords [] = Unit {0}
+AllWords (n ∷ l) = Word n × AllWords l
+
+-- what holds of every entry of a list
+abbrev pub All : (Entry → Type 0) → List Entry → Type 0
+All P [] = Unit {0}
+All P (e ∷ es) = P e × All P es
+
+-- the words of an entry, and a verdict's place and ids
+abbrev pub WordEntry : Entry → Type 0
+WordEntry x = Word (x .kind) × Word (x .place .0) × Word (x .bits) × Word (x .value)
+
+abbrev pub WordIds : Refusal → Type 0
+WordIds StreamSize = Unit {0}
+WordIds PastBound = Unit {0}
+WordIds OrderChanged = Unit {0}
+WordIds LebTooLarge = Unit {0}
+WordIds NoZeroByte = Unit {0}
+WordIds SlotUnset = Unit {0}
+WordIds SlotOfWrongSort = Unit {0}
+WordIds LengthTooLarge = Unit {0}
+WordIds SelectorInNoOption = Unit {0}
+WordIds WrongMagic = Unit {0}
+WordIds WrongUuid = Unit {0}
+WordIds StreamClassChanged = Unit {0}
+WordIds (StreamClassUnknown i) = Word i
+WordIds LengthsContradict = Unit {0}
+WordIds ClocksContradict = Unit {0}
+WordIds ClockTooLarge = Unit {0}
+WordIds (EventClassUnknown i j) = Word i × Word j
+WordIds EventTookNoBits = Unit {0}
+WordIds ClockWentBack = Unit {0}
+WordIds ListFull = Unit {0}
+
+abbrev pub WordVerdict : Verdict → Type 0
+WordVerdict (Accepted p) = Word (p .0)
+WordVerdict (TableRefused n b) = Word n × Word (b .0)
+WordVerdict (Refused r p) = Word (p .0) × WordIds r
+
+abbrev pub WordReading : Reading → Type 0
+WordReading r = All WordEntry (r .entries) × WordVerdict (r .verdict)
