@@ -20,3 +20,4 @@ pub mod Finds
 pub mod Words
 pub mod Listed
 pub mod Laws
+pub mod Cases

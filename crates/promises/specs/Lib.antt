@@ -3,3 +3,4 @@ pub mod Words
 pub mod Edition
 pub mod Missing
 pub mod Laws
+pub mod Cases

@@ -1,0 +1,161 @@
+-- Small tables and streams at the places where a builder goes wrong, as one statement: document 01's "Errors a builder falls into", and
+-- steps where two numbers lie close together. A table is written record by record.
+use mathlib.Core.Path.{_≡_}
+use Prim.Native.Nat.{ℕ}
+use mathlib.Core.List.{List, [], _∷_, _++_}
+use lib.ListN.{replicate}
+use Rattle.rules.specs.declared.Result.{Result}
+use Rattle.rules.specs.Parse.{checked, checkedNumber}
+use Rattle.rules.specs.Read.{Reading, readAll, resultOf}
+use Rattle.promises.specs.Figures.{stream1, listed}
+
+-- Records
+
+abbrev pub bytes8 : ℕ → List ℕ
+bytes8 n = n ∷ replicate 7 0
+
+abbrev pub preamble : List ℕ
+preamble = 1 ∷ 2 ∷ []
+
+abbrev pub clockClass : ℕ → List ℕ
+clockClass id = 3 ∷ id ∷ bytes8 1
+
+abbrev pub streamClass : ℕ → ℕ → List ℕ
+streamClass id clock = 4 ∷ (bytes8 id ++ (clock ∷ []))
+
+abbrev pub eventClass : ℕ → ℕ → List ℕ
+eventClass stream id = 5 ∷ (bytes8 stream ++ bytes8 id)
+
+abbrev pub root : ℕ → List ℕ
+root n = 6 ∷ n ∷ []
+
+abbrev pub boolean : ℕ → List ℕ
+boolean slot = 17 ∷ 8 ∷ 0 ∷ 0 ∷ slot ∷ []
+
+-- bits, order, align, slot, role
+abbrev pub unsigned : ℕ → ℕ → ℕ → ℕ → ℕ → List ℕ
+unsigned n o a i r = 18 ∷ n ∷ o ∷ a ∷ i ∷ r ∷ []
+
+-- eight bits at any place, with a role or a slot
+abbrev pub plain : ℕ → ℕ → List ℕ
+plain slot role = unsigned 8 0 0 slot role
+
+abbrev pub signed : ℕ → List ℕ
+signed slot = 19 ∷ 8 ∷ 0 ∷ 0 ∷ slot ∷ []
+
+abbrev pub leb128 : List ℕ
+leb128 = 21 ∷ 255 ∷ 0 ∷ []
+
+abbrev pub string : List ℕ
+string = 23 ∷ []
+
+abbrev pub dynamicBlob : ℕ → List ℕ
+dynamicBlob slot = 27 ∷ slot ∷ []
+
+abbrev pub structure : ℕ → List ℕ
+structure n = 28 ∷ n ∷ 0 ∷ []
+
+abbrev pub optional : ℕ → ℕ → List ℕ
+optional slot ranges = 31 ∷ slot ∷ ranges ∷ []
+
+abbrev pub variant : ℕ → ℕ → List ℕ
+variant slot options = 32 ∷ slot ∷ options ∷ []
+
+abbrev pub range : ℕ → ℕ → List ℕ
+range low high = 33 ∷ 0 ∷ (bytes8 low ++ bytes8 high)
+
+abbrev pub option : ℕ → List ℕ
+option ranges = 34 ∷ ranges ∷ []
+
+-- Tables
+
+-- one stream class with no roots, one event class with a payload
+abbrev pub payload : List ℕ → List ℕ
+payload c = preamble ++ streamClass 0 255 ++ eventClass 0 0 ++ root 5 ++ c
+
+-- a variant by slot 16 of these options, behind its selector
+abbrev pub chosen : ℕ → List ℕ → List ℕ
+chosen n options = payload (structure 2 ++ plain 16 0 ++ variant 16 n ++ options)
+
+-- a packet context of a total length, and events of one aligned field
+abbrev pub aligned16 : List ℕ
+aligned16 =
+    preamble ++ streamClass 0 255 ++ root 1 ++ structure 1 ++ plain 255 5 ++ eventClass 0 0 ++ root 5 ++ structure 1 ++ unsigned 8 0 4 255 0
+
+-- an event header that says the class's id; event classes 0 and 2
+abbrev pub numbered : List ℕ
+numbered =
+    preamble ++ streamClass 0 255 ++ root 2 ++ structure 1 ++ plain 255 11
+    ++ eventClass 0 0 ++ root 5 ++ structure 0 ++ eventClass 0 2 ++ root 5 ++ structure 0
+
+-- a packet context of a total length, an event header with a stamp of eight bits, no payload
+abbrev pub stamped : List ℕ
+stamped =
+    preamble ++ clockClass 1 ++ streamClass 0 1 ++ root 1 ++ structure 1 ++ plain 255 5 ++ root 2 ++ structure 1 ++ plain 255 7 ++ eventClass 0 0
+
+-- a packet context of total and content lengths
+abbrev pub measured : List ℕ
+measured = preamble ++ streamClass 0 255 ++ root 1 ++ structure 2 ++ plain 255 5 ++ plain 255 6
+
+-- the first event sets slot 16, and the second one only reads it
+abbrev pub remembered : List ℕ
+remembered =
+    preamble ++ streamClass 0 255 ++ root 2 ++ structure 1 ++ plain 255 11
+    ++ eventClass 0 0 ++ root 5 ++ structure 1 ++ plain 16 0 ++ eventClass 0 1 ++ root 5 ++ structure 1 ++ dynamicBlob 16
+
+-- Answers
+
+abbrev pub answer : List ℕ → List ℕ → Result
+answer table stream = resultOf (readAll table stream 400)
+
+abbrev pub result : ℕ → ℕ → ℕ → ℕ → ℕ → Result
+result n k p i j = record { number = n; entries = k; place = p; first = i; second = j }
+
+abbrev pub number : List ℕ → ℕ
+number table = checkedNumber (checked table)
+
+pub record Cases : Type 0 where
+  -- "Aligning from the stream's start, not the packet's.": four events in each of two packets of nine bytes
+  pub from-packet : answer aligned16 (72 ∷ (replicate 8 0 ++ (72 ∷ replicate 8 0))) ≡ result 0 44 144 0 0
+  -- "Taking the nearest event class when the id isn't there."
+  pub exact-class : answer numbered (0 ∷ 2 ∷ 1 ∷ []) ≡ result 37 16 24 0 1
+  -- "Looping for ever on an event of no bits."
+  pub no-bits : answer (payload (structure 0)) (0 ∷ []) ≡ result 38 6 0 0 0
+  -- "Refusing ranges that overlap within one option."
+  pub overlap : number (chosen 1 (option 2 ++ range 0 9 ++ range 5 12 ++ plain 255 0)) ≡ 0
+  pub meeting : number (chosen 2 (option 1 ++ range 0 9 ++ plain 255 0 ++ option 1 ++ range 9 12 ++ plain 255 0)) ≡ 13
+  -- 40 comes before the lookup that an entry waits for (33)
+  pub room-none : resultOf (readAll preamble stream1 3) ≡ result 40 0 0 0 0
+  pub room-first : resultOf (readAll preamble stream1 7) ≡ result 40 1 0 0 0
+  pub unknown-class : resultOf (readAll preamble stream1 8) ≡ result 33 1 0 0 0
+  -- a slot that is unset, and of the wrong sort: as a length, as a flag, as a number
+  pub unset : answer (payload (structure 1 ++ dynamicBlob 16)) (0 ∷ []) ≡ result 26 6 0 0 0
+  pub signed-length : answer (payload (structure 2 ++ signed 16 ++ dynamicBlob 16)) (0 ∷ []) ≡ result 27 7 8 0 0
+  pub number-flag : answer (payload (structure 2 ++ plain 16 0 ++ optional 16 0 ++ plain 255 0)) (0 ∷ []) ≡ result 27 7 8 0 0
+  pub flag-number : answer (payload (structure 2 ++ boolean 16 ++ optional 16 1 ++ range 0 1 ++ plain 255 0)) (0 ∷ []) ≡ result 27 7 8 0 0
+  -- slots 16 to 63 are unset when an event starts
+  pub forgotten : answer remembered (0 ∷ 3 ∷ 1 ∷ 0 ∷ []) ≡ result 26 14 24 0 0
+  -- an optional that is there, and one that is not
+  pub absent : (readAll (payload (structure 2 ++ boolean 16 ++ optional 16 0 ++ plain 255 0)) (0 ∷ []) 400) .entries
+      ≡ listed 1 0 0 0 ∷ listed 2 0 0 0 ∷ listed 3 0 8 8 ∷ listed 4 0 0 0 ∷ listed 5 0 0 0 ∷ listed 28 0 0 2 ∷ listed 17 0 8 0 ∷ listed 31 8 0 0 ∷ listed 7 8 0 1 ∷ []
+  pub present : (readAll (payload (structure 2 ++ boolean 16 ++ optional 16 0 ++ plain 255 0)) (2 ∷ 7 ∷ []) 400) .entries
+      ≡ listed 1 0 0 0 ∷ listed 2 0 0 0 ∷ listed 3 0 16 16 ∷ listed 4 0 0 0 ∷ listed 5 0 0 0 ∷ listed 28 0 0 2 ∷ listed 17 0 8 1 ∷ listed 31 8 0 1 ∷ listed 18 8 8 7
+      ∷ listed 7 16 0 1 ∷ []
+  -- the order changes in the middle of a byte
+  pub turned : answer (payload (structure 2 ++ unsigned 4 0 0 255 0 ++ unsigned 4 1 0 255 0)) (0 ∷ []) ≡ result 23 7 4 0 0
+  -- a selector in the second option, and in none
+  pub second-option : answer (chosen 2 (option 1 ++ range 0 3 ++ string ++ option 1 ++ range 5 9 ++ plain 255 0)) (5 ∷ 1 ∷ []) ≡ result 0 10 16 0 0
+  pub no-option : answer (chosen 2 (option 1 ++ range 0 3 ++ string ++ option 1 ++ range 5 9 ++ plain 255 0)) (4 ∷ 1 ∷ []) ≡ result 29 7 8 0 0
+  -- a string with no zero byte
+  pub endless : answer (payload (structure 1 ++ string)) (97 ∷ 98 ∷ []) ≡ result 25 6 0 0 0
+  -- nine bytes that go on and no tenth; ten that go on; ten whose number needs 65 bits
+  pub leb-cut : answer (payload (structure 1 ++ leb128)) (replicate 9 128) ≡ result 22 6 0 0 0
+  pub leb-long : answer (payload (structure 1 ++ leb128)) (replicate 10 128) ≡ result 24 6 0 0 0
+  pub leb-large : answer (payload (structure 1 ++ leb128)) (replicate 9 128 ++ (2 ∷ [])) ≡ result 24 6 0 0 0
+  -- content above total; a total that is no multiple of 8; a total past the stream; a content that ends before the context does
+  pub content-above : answer measured (16 ∷ 24 ∷ 0 ∷ []) ≡ result 34 5 16 0 0
+  pub total-odd : answer measured (20 ∷ 16 ∷ 0 ∷ []) ≡ result 34 5 16 0 0
+  pub total-past : answer measured (32 ∷ 16 ∷ 0 ∷ []) ≡ result 34 5 16 0 0
+  pub content-short : answer measured (16 ∷ 8 ∷ 0 ∷ []) ≡ result 34 5 16 0 0
+  -- the clock starts at 0 in each packet, and an event's may not be below the last one's
+  pub clock-back : answer stamped (16 ∷ 200 ∷ 16 ∷ 100 ∷ []) ≡ result 39 20 32 0 0
