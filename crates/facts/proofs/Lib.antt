@@ -1,5 +1,6 @@
 pub mod Numbers
 pub mod Every
+pub mod Bytes
 pub mod Truth
 pub mod Refusals
 pub mod Steps

@@ -1,17 +1,14 @@
 -- Laws of lent words: how many words entries take, and what a list holds when a function has written entries into its front.
 -- In order: the words of entries; a function's answer and list; two functions one after the other.
 use mathlib.Core.Path.{_≡_, refl, sym, ap, _∙_}
-use Prim.Native.Nat.{ℕ, zero, suc, _+_, _-_, _*_, _≤_, _<_}
+use Prim.Native.Nat.{ℕ, _+_, _-_, _*_}
 use native.Mathlib.Omega.{arith}
 use mathlib.Core.List.{List, [], _∷_, _++_, append-assoc}
 use lib.ListN.{length, length-append, take, drop}
 use lib.Seq.{take-at, drop-at, drop-drop}
 use Rattle.rules.specs.declared.Entry.{Entry}
-use Rattle.rules.specs.declared.Verdict.{Verdict}
 use Rattle.rules.specs.Limits.{wordsPerEntry}
 use Rattle.rules.specs.Entry.{words}
-use Rattle.rules.specs.Step.{State, Out, stop, go, Step, onto, after}
-use Rattle.facts.proofs.Steps.{listOf, list-onto}
 
 pub length-words : (es : List Entry) → length (words es) ≡ wordsPerEntry * length es
 unfolding words

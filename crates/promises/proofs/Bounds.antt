@@ -1,6 +1,6 @@
 -- Inside a packet the place stays between the packet's start and the bound; and behind a stated length it has moved.
 use mathlib.Core.Path.{_≡_, refl}
-use mathlib.Core.Logic.{_⊎_, inl, inr}
+use mathlib.Core.Logic.{inl, inr}
 use Prim.Native.Nat.{ℕ, _+_, _-_, _*_, _/_, _^_, _≤_, _<_}
 use native.Mathlib.Omega.{arith}
 use native.Mathlib.Nat.{le-refl}
@@ -17,7 +17,6 @@ use Rattle.rules.specs.declared.LastOrder.{LastOrder}
 use Rattle.rules.specs.declared.LastOrder.the-variants.{Was}
 use Rattle.rules.specs.declared.Content.{Content}
 use Rattle.rules.specs.declared.Content.the-variants.{Unsigned, Signed}
-use Rattle.rules.specs.declared.Stated.the-variants.{Missing}
 use Rattle.rules.specs.declared.Said.{Said}
 use Rattle.rules.specs.declared.Leb.{Leb}
 use Rattle.rules.specs.declared.Leb.the-variants.{Value, Past, Large}
@@ -44,8 +43,14 @@ use Rattle.rules.specs.Packet.{readRoot}
 use Rattle.promises.specs.Laws.{Between, Moved, Inside}
 use Rattle.promises.proofs.Law.{Any, any-slot, Law, FitRoot, law-root}
 use Rattle.promises.proofs.Rising.{alignFrom-le}
-use Rattle.promises.proofs.Values.{LebFits, unsigned-fits, signed-fits, zero-there}
+use Rattle.leb128.specs.Answer.{ValueSays}
+use Rattle.leb128.proofs.ValueSays.{unsigned-value, signed-value}
+use Rattle.text.proofs.Laws.{zero-found}
 use Rattle.promises.proofs.Triple.{Ok, Triple, then, passing, changing, refusing, checks, tested, untested, dued}
+
+-- what a reading of a LEB128 number among some bytes gives
+abbrev pub LebFits : List ℕ → Leb → Type 0
+LebFits bs x = (v : ℕ) (n : ByteLength) → x ≡ Value v n → ValueSays bs v n
 
 pub ahead-fits : (e : Env) (p : BitPlace) (n : ℕ) → p .0 ≤ e .bound .0 → n ≤ length (ahead e p) → p .0 + 8 * n ≤ e .bound .0
 unfolding ahead
@@ -192,9 +197,9 @@ module _ (e : Env) where
   bound-leb k sl i r Past s h b g = refusing In At NoMore place-of PastBound tt .at s h
   bound-leb k sl i r Large s h b g = refusing In At NoMore place-of LebTooLarge tt .at s h
   bound-leb k sl i r (Value v n) s h b g =
-      let y = g v n refl .0 in
-      (strict-field k 8 (8 * n .0) v (omega arith) (omega (arith, y .some?)) ⨾ᵇ strict-store i (sl v) ⨾ᵇ bound-role r (7 * n .0) v) .at s
-      (h, ahead-fits e (aligned e 8 s) (n .0) b (y .there))
+      let y = g v n refl in
+      (strict-field k 8 (8 * n .0) v (omega arith) (omega (arith, y .some)) ⨾ᵇ strict-store i (sl v) ⨾ᵇ bound-role r (7 * n .0) v) .at s
+      (h, ahead-fits e (aligned e 8 s) (n .0) b (y .inside))
 
   bound-zero : (x : Ended) (s : State) → Inside e s → (aligned e 8 s) .0 ≤ e .bound .0 → ((n : ByteLength) → x ≡ After n → n .0 < length (ahead e (aligned e 8 s)))
       → Ok In At NoMore (Inside e) (readZero e x s)
@@ -229,9 +234,9 @@ module _ (e : Env) where
     within = λ n h. untested In At NoMore place-of _ LengthTooLarge tt h;
     slot = λ i f h. record { at = λ s x. h (slotAt (s .slots) i) (any-slot (slotAt (s .slots) i)) .at s x };
     fixes = λ k n o a i r w. bound-fixed k n o (2 ^ a) i r w (pow-pos a);
-    lebs = λ i r. at-zero 8 (record { at = λ s x. bound-leb 21 Unsigned i r (lebUnsigned (ahead e (aligned e 8 s))) s (x .0) (x .1) (unsigned-fits _) });
-    signedLebs = λ i. at-zero 8 (record { at = λ s x. bound-leb 22 Signed i noRole (lebSigned (ahead e (aligned e 8 s))) s (x .0) (x .1) (signed-fits _) });
-    zeros = at-zero 8 (record { at = λ s x. bound-zero (zeroAt (ahead e (aligned e 8 s))) s (x .0) (x .1) (zero-there _) });
+    lebs = λ i r. at-zero 8 (record { at = λ s x. bound-leb 21 Unsigned i r (lebUnsigned (ahead e (aligned e 8 s))) s (x .0) (x .1) (unsigned-value _) });
+    signedLebs = λ i. at-zero 8 (record { at = λ s x. bound-leb 22 Signed i noRole (lebSigned (ahead e (aligned e 8 s))) s (x .0) (x .1) (signed-value _) });
+    zeros = at-zero 8 (record { at = λ s x. bound-zero (zeroAt (ahead e (aligned e 8 s))) s (x .0) (x .1) (λ n z. zero-found _ n z .0) });
     texts = λ k n h. unfold readText in
         plain-fit 8 0 (fitting 8 (8 * n) (record { at = λ s x. a-field k 8 (8 * n) (textLength (bytesAt e (aligned e 8 s) n)) (omega arith) .at s x }));
     blobs = λ k n r h. unfold readBlob in

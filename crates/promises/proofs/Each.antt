@@ -1,7 +1,6 @@
 -- Entries that are all of a kind, and steps that list only such. The entries of fields have kinds 16 to 32, and those of clocks kind 6.
 use mathlib.Core.Path.{_≡_, refl}
 use mathlib.Core.Logic.{_⊎_, inl, inr}
-use Prim.Native.Nat.{ℕ}
 use mathlib.Core.List.{List, [], _∷_, _++_}
 use mathlib.Core.Bool.{Bool, true, false}
 use mathlib.Core.Option.{Option}

@@ -1,5 +1,5 @@
 -- The starred figures hold: each by computation.
-use mathlib.Core.Path.{_≡_, refl}
+use mathlib.Core.Path.{refl}
 use Rattle.rules.specs.Opened.{opened}
 use Rattle.promises.specs.Figures.{Figures}
 

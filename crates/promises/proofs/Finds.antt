@@ -8,11 +8,7 @@ use mathlib.Core.Bool.{Bool, true, false, not}
 use mathlib.Core.Option.{Option, none, some}
 use lib.ListN.{length, take, length-take}
 use Rattle.rules.specs.declared.Entry.{Entry}
-use Rattle.rules.specs.declared.BitPlace.{BitPlace}
-use Rattle.rules.specs.declared.Stated.{Stated}
-use Rattle.rules.specs.declared.Stated.the-variants.{Missing, As}
-use Rattle.rules.specs.declared.Refusal.{Refusal}
-use Rattle.rules.specs.declared.Refusal.the-variants.{StreamSize, StreamClassChanged, StreamClassUnknown, LengthsContradict, ClocksContradict, EventClassUnknown, EventTookNoBits, ClockWentBack}
+use Rattle.rules.specs.declared.Refusal.the-variants.{StreamClassUnknown, EventClassUnknown}
 use Rattle.rules.specs.declared.Verdict.{Verdict}
 use Rattle.rules.specs.declared.Verdict.the-variants.{Refused}
 use Rattle.rules.specs.Place.{bitPlace}

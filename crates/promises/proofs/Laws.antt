@@ -1,6 +1,6 @@
 -- The laws of the rules, gathered: each is shown in a file of its own and put together here for an accepted table.
-use mathlib.Core.Path.{_≡_, refl, ap, subst}
-use Prim.Native.Nat.{ℕ, _+_, _*_, _≤_}
+use mathlib.Core.Path.{_≡_, refl}
+use Prim.Native.Nat.{ℕ, _*_, _≤_}
 use native.Mathlib.Omega.{arith}
 use native.Mathlib.Nat.{le-refl}
 use mathlib.Core.List.{List, []}
@@ -15,14 +15,13 @@ use Rattle.rules.specs.declared.Verdict.the-variants.{Refused}
 use Rattle.rules.specs.Limits.{streamLimit}
 use Rattle.rules.specs.Place.{bitPlace}
 use Rattle.rules.specs.Verdict.{numberOf, refusalNumber, placeOf}
-use Rattle.rules.specs.Step.{State, Out, stop, go}
+use Rattle.rules.specs.Step.{Out, stop, go}
 use Rattle.rules.specs.Field.{Env}
 use Rattle.rules.specs.Table.{Table, asked}
 use Rattle.rules.specs.Parse.{good, parse}
 use Rattle.rules.specs.Packet.{readEvent, readPackets}
 use Rattle.rules.specs.Read.{Reading, ended, begin, readStream, readAll, readParsed}
-use Rattle.promises.specs.Words.{All}
-use Rattle.promises.specs.Laws.{Rising, Within, Inside, Laws, TheLaws}
+use Rattle.promises.specs.Laws.{Rising, Within, Inside, TheLaws}
 use Rattle.promises.proofs.Law.{Any}
 use Rattle.promises.proofs.Triple.{Ok}
 use Rattle.promises.proofs.Rising.{RiseOut, Onward}

@@ -1,7 +1,7 @@
 -- An accepted table of bytes: every word that a reading lists, and those of its verdict, are below 2 ^ 64.
 -- In order: packets; what an accepted table's bytes can say; readings.
 use mathlib.Core.Path.{_≡_, refl, sym, subst}
-use Prim.Native.Nat.{ℕ, zero, suc, _+_, _-_, _*_, _%_, _^_, _≤_, _<_}
+use Prim.Native.Nat.{ℕ, zero, suc, _+_, _-_, _*_, _%_, _≤_}
 use native.Mathlib.Omega.{arith}
 use mathlib.Core.List.{List, [], _∷_}
 use mathlib.Core.Bool.{Bool, true, false, not, _||_}
@@ -18,20 +18,22 @@ use Rattle.rules.specs.declared.Verdict.the-variants.{Refused}
 use Rattle.rules.specs.Limits.{streamLimit}
 use Rattle.rules.specs.Place.{bitPlace, further}
 use Rattle.rules.specs.Entry.{entry, words}
-use Rattle.rules.specs.Step.{State, Out, stop, go, Step, _⨾_, listed, change, withLast}
+use Rattle.rules.specs.Step.{State, Out, stop, go, Step, _⨾_, change, withLast}
 use Rattle.rules.specs.Record.{Record, unknown, fragment, root, class, range, option, Layout, layouts, no, bitsLayout, layoutOf, recordOf, behind, size, u8, u16, number}
 use Rattle.rules.specs.Table.{Table, Asked, asked, StreamClass, EventClass}
 use Rattle.rules.specs.Parse.{good, parse}
 use Rattle.rules.specs.Field.{Env}
 use Rattle.rules.specs.Packet.{readEvent, readEvents, readContent, readPacket, readPackets, withEvent, withStream, mark, readRoot, startEvent, startPacket, nothingSaid, endPacket}
-use Rattle.rules.specs.Read.{Reading, ended, begin, readStream, readAll, readParsed}
+use Rattle.rules.specs.Read.{ended, begin, readStream, readAll, readParsed}
+use Rattle.facts.specs.Bytes.{Bytes}
+use Rattle.facts.proofs.Bytes.{bytes-take, bytes-drop}
 use Rattle.facts.proofs.Truth.{or-false}
-use Rattle.promises.specs.Words.{Word, Bytes, All, AllWords, WordEntry, WordIds, WordVerdict, WordReading}
+use Rattle.promises.specs.Words.{Word, All, AllWords, WordEntry, WordIds, WordVerdict, WordReading}
 use Rattle.promises.proofs.Triple.{Ok, changing, naming, tested, untested}
 use Rattle.promises.proofs.Packets.{Fitting}
 use Rattle.promises.proofs.Accepted.{accepted-fits}
 use Rattle.promises.proofs.Exact.{found-id}
-use Rattle.promises.proofs.Values.{bytes-take, bytes-drop, no-word, packet-word}
+use Rattle.promises.proofs.Values.{no-word, packet-word}
 use Rattle.promises.proofs.Words.{Wordy, Worded, Env64, To64, place-of, _⨾ʷ_, word-listed, word-check, word-pass, word-due, word-root}
 
 -- Packets
@@ -151,15 +153,13 @@ module _ (t : Asked) (w : Fitting To64 Word t) (ids : (i : ℕ) (c : StreamClass
 
 u8-le : (x : List ℕ) (i : ℕ) → Bytes x → u8 x i ≤ 65535
 unfolding u8
-u8-le [] i h = omega arith
-u8-le (b ∷ x) zero h = let g : b < 256 = h .0 in omega arith
-u8-le (b ∷ x) (suc i) h = u8-le x i (h .1)
+u8-le x i h = omega (arith, h i)
 
 u16-le : (x : List ℕ) → Bytes x → u16 x 0 ≤ 65535
 unfolding u16 number
 u16-le [] h = omega arith
-u16-le (a ∷ []) h = let g : a < 256 = h .0 in omega arith
-u16-le (a ∷ b ∷ x) h = let g : a < 256 = h .0 in let k : b < 256 = h .1 .0 in omega arith
+u16-le (a ∷ []) h = omega (arith, h 0)
+u16-le (a ∷ b ∷ x) h = omega (arith, h 0, h 1)
 
 abbrev CountOk : Record → Type 0
 CountOk unknown = Unit {0}

@@ -1,18 +1,18 @@
 -- A parser that accepts looks at no byte behind what it takes, and by no id of earlier records.
 use mathlib.Core.Path.{_≡_, refl, sym, ap, _∙_, subst}
-use Prim.Native.Nat.{ℕ, zero, suc, _+_, _-_, _≤_, _<_}
+use Prim.Native.Nat.{ℕ, zero, suc, _+_, _-_, _≤_}
 use native.Mathlib.Omega.{arith}
 use mathlib.Core.List.{List, [], _∷_, _++_, append-assoc}
-use mathlib.Core.Bool.{Bool, true, false, not, _&&_, _||_}
-use mathlib.Core.Option.{Option, none, some}
-use lib.ListN.{length, length-append, take, drop, take-append-drop}
+use mathlib.Core.Bool.{Bool, true, false}
+use mathlib.Core.Option.{Option, none}
+use lib.ListN.{length, length-append, take, take-append-drop}
 use lib.Seq.{take-at, drop-at, length-take-le, take-all}
-use lib.Dec.{ltb, leb, eqb}
+use lib.Dec.{ltb}
 use borrow.Author.Tests.{ltb-false, le-ltb}
-use Rattle.rules.specs.Class.{Sign, Range, Class, Classes, Options, noMember, member, noOption, option as anOption, fixed, leb128, signedLeb128, string, staticString, staticBlob, dynamicString, dynamicBlob, structure, staticArray, dynamicArray, variant}
+use Rattle.rules.specs.Class.{Sign, Range, Class, noMember, member, noOption, option as anOption, structure, staticArray, dynamicArray, variant}
 use Rattle.rules.specs.Record.{Record, unknown, fragment, preamble, traceClass, clockClass, streamClass, eventClass, root, class, range, option, Fragment, Says, Shape, bitField, lebField, signedLebField, zeroString, text, blob, textOf, blobOf, members, elements, elementsOf, option?, options, recordOf, size, behind, layoutOf, u8}
-use Rattle.rules.specs.Parse.{Parsed, bad, good, Parser, then, sound, missing, one, Ranges, rangeOf, countOf, theSign, selected, orderOf, parseRanges, parseMembers, parseOptions, parseShape, parseBody, parseClass}
-use Rattle.rules.specs.Faults.{pick, Seen, recordFault, fragmentFault, Spot, inside, Under, memberSpot, classFault, rangeFault, optionFault, roleOf}
+use Rattle.rules.specs.Parse.{Parsed, bad, good, Parser, then, sound, missing, one, Ranges, rangeOf, countOf, theSign, selected, parseRanges, parseMembers, parseOptions, parseShape, parseBody, parseClass}
+use Rattle.rules.specs.Faults.{pick, Seen, recordFault, fragmentFault, Spot, inside, Under, memberSpot, classFault, rangeFault, optionFault}
 
 -- a whole record that is no fragment's first
 unfoldable pub isFragment : Record → Bool

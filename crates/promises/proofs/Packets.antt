@@ -28,7 +28,7 @@ use Rattle.facts.proofs.Truth.{or-false, if-agree}
 use Rattle.promises.specs.Laws.{Moved, Inside}
 use Rattle.promises.proofs.Law.{Any, FitRoot}
 use Rattle.promises.proofs.Triple.{Ok, then, changing, naming, checks, dued}
-use Rattle.promises.proofs.Rising.{RiseOut, Rise, Onward, onward-free, rise-after, _⨾ᵘ_, rise-pass, rise-refuse, rise-if, rise-check, rise-due, rise-change, rise-mark, rise-root}
+use Rattle.promises.proofs.Rising.{RiseOut, Rise, Onward, rise-after, _⨾ᵘ_, rise-refuse, rise-check, rise-due, rise-change, rise-mark, rise-root}
 use Rattle.promises.proofs.Bounds.{In, At, NoMore, Bounded, place-of, bound-root}
 
 -- a table whose classes fit

@@ -1,6 +1,6 @@
 -- The place never goes back: each entry's place is at or behind the one before, and where a step goes on or stops is at or behind the last.
 use mathlib.Core.Path.{_≡_, refl}
-use Prim.Native.Nat.{ℕ, _+_, _-_, _*_, _≤_}
+use Prim.Native.Nat.{ℕ, _+_, _-_, _≤_}
 use native.Mathlib.Omega.{arith}
 use native.Mathlib.Nat.{le-refl, div-add-mod', mod-lt}
 use mathlib.Core.List.{List, [], _∷_, _++_}
@@ -12,7 +12,6 @@ use Rattle.rules.specs.declared.Refusal.{Refusal}
 use Rattle.rules.specs.declared.Refusal.the-variants.{ListFull}
 use Rattle.rules.specs.Verdict.{placeOf}
 use Rattle.rules.specs.Place.{roundUp, alignFrom}
-use Rattle.rules.specs.Entry.{entry}
 use Rattle.rules.specs.Slots.{slotAt}
 use Rattle.rules.specs.Step.{State, Out, stop, go, Step, onto, after, _⨾_, refuse, check, due, listed, change, pass, withSlots, withOrder, withClock, withSaid}
 use Rattle.rules.specs.Class.{Class}

@@ -1,18 +1,18 @@
 -- The roots of a fragment, as Local has it for classes: what follows them must be no root.
-use mathlib.Core.Path.{_≡_, refl, sym, ap, _∙_, subst}
-use Prim.Native.Nat.{ℕ, zero, suc, _+_, _-_, _≤_, _<_}
+use mathlib.Core.Path.{_≡_, refl, sym, ap, _∙_}
+use Prim.Native.Nat.{ℕ, zero, suc, _+_, _-_, _≤_}
 use native.Mathlib.Omega.{arith}
 use mathlib.Core.List.{List, [], _∷_, _++_, append-assoc}
-use mathlib.Core.Bool.{Bool, true, false, not, _&&_, _||_}
+use mathlib.Core.Bool.{Bool, true, false, not, _&&_}
 use mathlib.Core.Option.{Option, none, some}
-use lib.ListN.{length, length-append, take, drop, getD}
-use lib.Dec.{ltb, leb, eqb}
-use borrow.Author.Tests.{ltb-false, le-ltb, le-leb, leb-true}
+use lib.ListN.{length, length-append, take}
+use lib.Dec.{ltb, leb}
+use borrow.Author.Tests.{le-leb, leb-true}
 use Rattle.rules.specs.Class.{Class}
 use Rattle.rules.specs.Record.{Record, unknown, fragment, root, class, range, option, recordOf, size, behind, layoutOf, layouts, no, u8}
 use Rattle.rules.specs.Parse.{Parsed, bad, good, Parser, then, sound, missing, one, isRoot, anyRoot, parseClass, parseRoots}
 use Rattle.rules.specs.Faults.{pick, Seen, recordFault, top, Under, rootFault}
-use Rattle.promises.proofs.Local.{Whole, Plain, nothing, after, isFragment, Taken, Local, local-class, whole-size, whole-record, whole-behind, whole-missing, first-whole, first-split, first-record, plain-append, bad-good}
+use Rattle.promises.proofs.Local.{Whole, Plain, nothing, after, isFragment, local-class, whole-size, whole-record, whole-behind, first-whole, first-split, first-record, plain-append, bad-good}
 
 -- no root stands here
 abbrev pub Stops : List ℕ → Type 0

@@ -12,10 +12,10 @@ use Rattle.rules.specs.declared.BitPlace.{BitPlace}
 use Rattle.rules.specs.declared.Entry.{Entry}
 use Rattle.rules.specs.declared.Refusal.the-variants.{EventTookNoBits, ClockWentBack}
 use Rattle.rules.specs.Class.{Class}
-use Rattle.rules.specs.Step.{State, Out, stop, go, Step, onto, after, _⨾_, refuse, check, change, pass, withLast}
+use Rattle.rules.specs.Step.{State, Out, stop, go, Step, onto, after, _⨾_, refuse, check, pass, withLast}
 use Rattle.rules.specs.Table.{StreamClass, EventClass, Asked}
 use Rattle.rules.specs.Field.{Env}
-use Rattle.rules.specs.Packet.{readEvent, readEvents, withEvent, mark, readRoot, startEvent, endPacket}
+use Rattle.rules.specs.Packet.{readEvent, readEvents, withEvent, readRoot, startEvent, endPacket}
 use Rattle.facts.proofs.Truth.{if-agree}
 use Rattle.promises.proofs.Rising.{RiseOut, Rise, rising-le, rise-check, rise-due, rise-change, rise-mark, rise-root}
 

@@ -23,7 +23,7 @@ use Rattle.rules.specs.Table.{Asked, asked}
 use Rattle.rules.specs.Field.{Env, field, store, say, fromSlot}
 use Rattle.rules.specs.Packet.{readPackets, mark, startEvent, startPacket, endPacket}
 use Rattle.rules.specs.Parse.{Parsed, bad, good, parse}
-use Rattle.rules.specs.Read.{Reading, ended, begin, readStream, readAll, readParsed}
+use Rattle.rules.specs.Read.{ended, begin, readStream, readAll, readParsed}
 use Rattle.facts.proofs.Refusals.{refusalNumber-bounds}
 use Rattle.facts.proofs.Steps.{onto-nil}
 use Rattle.promises.specs.Laws.{SpentReading}

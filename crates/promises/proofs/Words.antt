@@ -23,9 +23,8 @@ use Rattle.rules.specs.declared.Ended.{Ended}
 use Rattle.rules.specs.declared.Ended.the-variants.{After, Never}
 use Rattle.rules.specs.declared.Entry.{Entry}
 use Rattle.rules.specs.declared.Refusal.{Refusal}
-use Rattle.rules.specs.declared.Refusal.the-variants.{StreamSize, PastBound, OrderChanged, LebTooLarge, NoZeroByte, SlotUnset, SlotOfWrongSort, LengthTooLarge, SelectorInNoOption, WrongMagic, WrongUuid, StreamClassChanged, StreamClassUnknown, LengthsContradict, ClocksContradict, ClockTooLarge, EventClassUnknown, EventTookNoBits, ClockWentBack, ListFull}
-use Rattle.rules.specs.declared.Verdict.{Verdict}
-use Rattle.rules.specs.declared.Verdict.the-variants.{Accepted, TableRefused, Refused}
+use Rattle.rules.specs.declared.Refusal.the-variants.{PastBound, OrderChanged, LebTooLarge, NoZeroByte, SlotUnset, SlotOfWrongSort, LengthTooLarge, SelectorInNoOption, WrongMagic, WrongUuid, ClockTooLarge}
+use Rattle.rules.specs.declared.Verdict.the-variants.{Refused}
 use Rattle.rules.specs.Bits.{bits}
 use Rattle.rules.specs.Leb128.{lebUnsigned, lebSigned}
 use Rattle.rules.specs.Clock.{clockAfter}
@@ -33,16 +32,18 @@ use Rattle.rules.specs.Text.{textLength, zeroAt}
 use Rattle.rules.specs.Place.{alignFrom, roundUp}
 use Rattle.rules.specs.Slots.{slotAt}
 use Rattle.rules.specs.Entry.{entry, clockAdvanced}
-use Rattle.rules.specs.Step.{State, Out, Step, _⨾_, refuse, check, due, listed, change, pass, withSlots, withOrder, withClock, withSaid}
+use Rattle.rules.specs.Step.{State, Step, _⨾_, refuse, check, due, listed, change, pass, withSlots, withOrder, withClock, withSaid}
 use Rattle.rules.specs.Class.{Role, noRole, magic, streamClassId, streamId, uuid, totalLength, contentLength, clock, endClock, discarded, sequence, eventClassId}
 use Rattle.rules.specs.Class.{Class, Sort, bitArray, boolean, unsignedInt, signedInt, float, kindOf}
 use Rattle.rules.specs.Field.{Env, aligned, fit, field, store, newClock, say, role, blobRole, fromSlot, valueOf, slotOf, ahead, bytesAt, readFixed, readLeb, readZero, readText, readBlob}
 use Rattle.rules.specs.Packet.{readRoot}
+use Rattle.leb128.proofs.ValueSays.{unsigned-value, signed-value}
+use Rattle.text.proofs.Laws.{text-le, zero-found}
 use Rattle.promises.specs.Words.{Word, WordEntry, WordIds, WordVerdict}
 use Rattle.promises.proofs.Law.{SlotOf, Law, FitRoot, law-root}
 use Rattle.promises.proofs.Triple.{Ok, Triple, then, passing, changing, refusing, checks, tested, untested, dued}
-use Rattle.promises.proofs.Values.{LebFits, unsigned-fits, signed-fits, zero-there, value-word, text-le, clock-word, WordSlots, slot-word, set-word, slotOf-word}
-use Rattle.promises.proofs.Bounds.{ahead-fits}
+use Rattle.promises.proofs.Values.{value-word, clock-word, WordSlots, slot-word, set-word, slotOf-word}
+use Rattle.promises.proofs.Bounds.{LebFits, ahead-fits}
 
 abbrev pub StatedWord : Stated → Type 0
 StatedWord Missing = Unit {0}
@@ -204,9 +205,9 @@ module _ (e : Env) (g : Env64 e) where
   word-leb k sl i r Large s q f h b p = word-refuse LebTooLarge tt .at s h
   word-leb k sl i r (Value v n) s q f h b p =
       let y = p v n refl in
-      let u : Word v = y .1 in
-      (a-field k 8 (8 * n .0) v q u ⨾ʷ word-store i (sl v) (f v u) ⨾ʷ word-role r (7 * n .0) v (omega (arith, y .0 .few)) u) .at s
-      (h, ahead-fits e (aligned e 8 s) (n .0) b (y .0 .there))
+      let u : Word v = y .fits in
+      (a-field k 8 (8 * n .0) v q u ⨾ʷ word-store i (sl v) (f v u) ⨾ʷ word-role r (7 * n .0) v (omega (arith, y .most)) u) .at s
+      (h, ahead-fits e (aligned e 8 s) (n .0) b (y .inside))
 
   word-zero : (x : Ended) (s : State) → Wordy s → (aligned e 8 s) .0 ≤ e .bound .0 → ((n : ByteLength) → x ≡ After n → n .0 < length (ahead e (aligned e 8 s))) → Ok WordEntry WordVerdict WordIds Wordy (readZero e x s)
   unfolding readZero
@@ -238,9 +239,9 @@ module _ (e : Env) (g : Env64 e) where
     within = λ n h. untested WordEntry WordVerdict WordIds place-of _ LengthTooLarge tt h;
     slot = λ i f h. record { at = λ s x. h (slotAt (s .slots) i) (slot-word (s .slots) i (x .slots)) .at s x };
     fixes = λ k n o a i r w. word-fixed k n o (2 ^ a) i r w;
-    lebs = λ i r. at-zero (record { at = λ s x. word-leb 21 Unsigned i r (lebUnsigned (ahead e (aligned e 8 s))) s (omega arith) (λ v w. w) (x .0) (x .1) (unsigned-fits _) });
-    signedLebs = λ i. at-zero (record { at = λ s x. word-leb 22 Signed i noRole (lebSigned (ahead e (aligned e 8 s))) s (omega arith) (λ v w. w) (x .0) (x .1) (signed-fits _) });
-    zeros = at-zero (record { at = λ s x. word-zero (zeroAt (ahead e (aligned e 8 s))) s (x .0) (x .1) (zero-there _) });
+    lebs = λ i r. at-zero (record { at = λ s x. word-leb 21 Unsigned i r (lebUnsigned (ahead e (aligned e 8 s))) s (omega arith) (λ v w. w) (x .0) (x .1) (unsigned-value _) });
+    signedLebs = λ i. at-zero (record { at = λ s x. word-leb 22 Signed i noRole (lebSigned (ahead e (aligned e 8 s))) s (omega arith) (λ v w. w) (x .0) (x .1) (signed-value _) });
+    zeros = at-zero (record { at = λ s x. word-zero (zeroAt (ahead e (aligned e 8 s))) s (x .0) (x .1) (λ n z. zero-found _ n z .0) });
     texts = λ k n h. unfold readText in
         plain-fit 8 0 (fitting 8 (8 * n) (record {
           at = λ s x.

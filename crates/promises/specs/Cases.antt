@@ -6,7 +6,7 @@ use mathlib.Core.List.{List, [], _∷_, _++_}
 use lib.ListN.{replicate}
 use Rattle.rules.specs.declared.Result.{Result}
 use Rattle.rules.specs.Parse.{checked, checkedNumber}
-use Rattle.rules.specs.Read.{Reading, readAll, resultOf}
+use Rattle.rules.specs.Read.{readAll, resultOf}
 use Rattle.promises.specs.Figures.{stream1, listed}
 
 -- Records

@@ -2,7 +2,7 @@
 use mathlib.Core.Path.{_≡_}
 use Prim.Native.Nat.{ℕ, _^_, _-_}
 use mathlib.Core.List.{List, [], _∷_, _++_}
-use mathlib.Core.Option.{Option, some}
+use mathlib.Core.Option.{some}
 use lib.IntN.{ℤ, pos, negℤ}
 use Rattle.rules.specs.declared.Order.the-variants.{Little, Big}
 use Rattle.rules.specs.declared.Entry.{Entry}
@@ -16,7 +16,7 @@ use Rattle.rules.specs.Entry.{entry}
 use Rattle.rules.specs.Verdict.{refusalNumber}
 use Rattle.rules.specs.Step.{State, refuse}
 use Rattle.rules.specs.Field.{newClock}
-use Rattle.rules.specs.Read.{Reading, readAll, resultOf}
+use Rattle.rules.specs.Read.{readAll, resultOf}
 
 -- "Table `01 02 | 04, 8 zeros, FF | 05, 16 zeros | 06 05 | 1C 01 00 | 12 08 00 00 FF 00` (40 bytes)"
 abbrev pub table40 : List ℕ

@@ -6,6 +6,7 @@ use Prim.Native.Nat.{ℕ, _+_, _-_, _*_, _≤_, _<_}
 use mathlib.Core.List.{List, [], _∷_, _++_}
 use mathlib.Core.Option.{some}
 use lib.ListN.{length}
+use Rattle.facts.specs.Bytes.{Bytes}
 use Rattle.rules.specs.declared.BitPlace.{BitPlace}
 use Rattle.rules.specs.declared.Stated.the-variants.{Missing}
 use Rattle.rules.specs.declared.Said.{Said}
@@ -20,7 +21,7 @@ use Rattle.rules.specs.Table.{Table, StreamClass, asked}
 use Rattle.rules.specs.Parse.{good, parse, parseFragments}
 use Rattle.rules.specs.Packet.{readEvent, readEvents, readPackets}
 use Rattle.rules.specs.Read.{Reading, begin, readAll}
-use Rattle.promises.specs.Words.{Bytes, All, AllWords, WordReading}
+use Rattle.promises.specs.Words.{All, AllWords, WordReading}
 
 -- Entries
 

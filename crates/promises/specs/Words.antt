@@ -1,4 +1,4 @@
--- Numbers that fit their words: a byte is below 256, and a word of the list below 2 ^ 64.
+-- Numbers that fit their words of 64 bits.
 use Prim.Native.Nat.{ℕ, _^_, _<_}
 use mathlib.Core.List.{List, [], _∷_}
 use Rattle.rules.specs.Read.{Reading}
@@ -10,10 +10,6 @@ use Rattle.rules.specs.declared.Verdict.the-variants.{Accepted, TableRefused, R
 
 abbrev pub Word : ℕ → Type 0
 Word n = n < 2 ^ 64
-
-abbrev pub Bytes : List ℕ → Type 0
-Bytes [] = Unit {0}
-Bytes (b ∷ bs) = (b < 256) × Bytes bs
 
 abbrev pub AllWords : List ℕ → Type 0
 AllWords [] = Unit {0}

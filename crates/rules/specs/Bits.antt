@@ -1,7 +1,7 @@
 -- How bits become a number. A place counts bits from the front of some bytes. (000 6.3.3 to 6.3.6)
 use Prim.Native.Nat.{ℕ, zero, suc, _+_, _-_, _*_, _/_, _%_, _^_}
 use mathlib.Core.List.{List}
-use mathlib.Core.Bool.{Bool, true, false}
+use mathlib.Core.Bool.{true, false}
 use lib.ListN.{getD}
 use lib.IntN.{ℤ, pos, negsuc, subℕ}
 use lib.Dec.{ltb}

@@ -1,7 +1,7 @@
 -- Field classes as trees, and the alignment that a field needs.
-use Prim.Native.Nat.{ℕ, zero, suc, _+_, _^_, max, _%_}
+use Prim.Native.Nat.{ℕ, _+_, _^_, max, _%_}
 use mathlib.Core.List.{List, [], _∷_}
-use mathlib.Core.Bool.{Bool, true, false, _&&_, _||_}
+use mathlib.Core.Bool.{Bool, false, _&&_, _||_}
 use lib.Dec.{leb}
 use Rattle.rules.specs.declared.Order.{Order}
 

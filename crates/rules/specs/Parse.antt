@@ -1,6 +1,6 @@
 -- Reading a class table: the table, or the number and the byte of the first record with a fault. A parser works on the rest of the
 -- bytes, so that a record's byte is what the table has more.
-use Prim.Native.Nat.{ℕ, zero, suc, _+_, _-_, _*_}
+use Prim.Native.Nat.{ℕ, zero, suc, _+_, _-_}
 use mathlib.Core.List.{List, [], _∷_, _++_}
 use mathlib.Core.Bool.{Bool, true, false, not, _&&_, _||_}
 use mathlib.Core.Option.{Option, none, some}
@@ -13,14 +13,14 @@ use Rattle.rules.specs.declared.Checked.{Checked}
 use Rattle.rules.specs.declared.Checked.the-variants.{Accepted, Refused}
 use Rattle.rules.specs.Limits.{tableLimit, depthLimit, noClock}
 use Rattle.rules.specs.Place.{byteLength}
-use Rattle.rules.specs.Class.{Sort, Sign, plain, Range, Class, fixed, leb128, signedLeb128, string, staticString, staticBlob, dynamicString, dynamicBlob}
+use Rattle.rules.specs.Class.{Sign, plain, Range, Class, fixed, leb128, signedLeb128, string, staticString, staticBlob, dynamicString, dynamicBlob}
 use Rattle.rules.specs.Class.{structure, staticArray, dynamicArray, flagged, optional, variant, Classes, noMember, member, Options, noOption, option as anOption}
 use Rattle.rules.specs.Record.{Shape, bitField, lebField, signedLebField, zeroString, text, blob, textOf, blobOf, members, elements, elementsOf, option?, options}
 use Rattle.rules.specs.Record.{Says, Fragment, preamble, traceClass, clockClass, streamClass, eventClass}
 use Rattle.rules.specs.Record.{Record, unknown, fragment, root, class, range, option, recordOf, behind, size}
 use Rattle.rules.specs.Faults.{badSize, unknownKind, cutShort, kindNotAllowed, tooDeep, pick, Seen, noneSeen, seen, recordFault, firstFault}
 use Rattle.rules.specs.Faults.{Spot, top, inside, memberSpot, Under, roleOf, classFault, signOf, rangeFault, optionFault, rootFault, openFault}
-use Rattle.rules.specs.Table.{StreamClass, EventClass, Table}
+use Rattle.rules.specs.Table.{Table}
 
 -- a number, and the bytes from the faulty record on; or what was read, and the bytes behind it
 pub data Parsed (A : Type 0) : Type 0 where

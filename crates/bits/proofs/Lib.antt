@@ -1,0 +1,4 @@
+pub mod Laws
+pub mod Signed
+pub mod Cut
+pub mod Standard

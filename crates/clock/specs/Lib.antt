@@ -1,0 +1,2 @@
+pub mod Ticked
+pub mod Least

@@ -1,0 +1,4 @@
+pub mod FirstNine
+pub mod Tenth
+pub mod Settled
+pub mod ValueSays

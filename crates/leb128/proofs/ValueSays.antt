@@ -1,0 +1,83 @@
+-- What a value says of its bytes, for every list of numbers: by one recursion over `sevens`, whose count both signs keep.
+use mathlib.Core.Path.{_≡_, refl, _∙_, sym}
+use mathlib.Core.Logic.{⊎-elim}
+use mathlib.Core.List.{List, [], _∷_}
+use mathlib.Core.Bool.{Bool, true, false}
+use Prim.Native.Nat.{ℕ, zero, suc, _-_, _*_, _^_, _<_, _≤_}
+use native.Mathlib.Omega.{arith}
+use borrow.Author.Tests.{ltb-true}
+use lib.IntN.{ℤ, pos, negsuc}
+use lib.ListN.{length}
+use Rattle.rules.specs.declared.ByteLength.{ByteLength}
+use Rattle.rules.specs.declared.Leb.{Leb}
+use Rattle.rules.specs.declared.Leb.the-variants.{Value, Past, Large}
+use Rattle.rules.specs.Limits.{lebLimit}
+use Rattle.rules.specs.Bits.{signed, word}
+use Rattle.rules.specs.Leb128.{below, sevens, fitUnsigned, fits64, fitSigned, lebUnsigned, lebSigned}
+use Rattle.facts.proofs.Numbers.{lt-or-ge}
+use Rattle.leb128.specs.Answer.{ValueSays}
+use Rattle.leb128.proofs.FirstNine.{sevens-end, sevens-on}
+use Rattle.leb128.proofs.Tenth.{fit-value, fit-large, word-value, no-word}
+
+-- how many bytes an answer took
+abbrev Took : ℕ → List ℕ → Leb → Type 0
+Took m bs (Value v n) = (1 ≤ n .0) × (n .0 ≤ m) × (n .0 ≤ length bs)
+Took m bs Past = Unit
+Took m bs Large = Unit
+
+took-below : (m b d : ℕ) (bs : List ℕ) (x : Leb) → Took m bs x → Took (suc m) (b ∷ bs) (below d x)
+unfolding below
+took-below m b d bs (Value v n) h = omega arith
+took-below m b d bs Past h = tt
+took-below m b d bs Large h = tt
+
+took : (m : ℕ) (bs : List ℕ) → Took m bs (sevens m bs)
+unfolding sevens
+took zero bs = tt
+took (suc m) [] = tt
+took (suc m) (b ∷ bs) = ⊎-elim
+    (λ (l : b < 128). rw (sevens-end m b bs l) (omega arith))
+    (λ (l : 128 ≤ b). rw (sevens-on m b bs l) (took-below m b (b - 128) bs _ (took m bs)))
+    (lt-or-ge b 128)
+
+word-fits : (z : ℤ) → fits64 z ≡ true → word z < 2 ^ 64
+unfolding fits64 word
+word-fits (pos w) h = omega (arith, ltb-true w (2 ^ 63) h)
+word-fits (negsuc w) h = omega arith
+
+module _ (bs : List ℕ) (v : ℕ) (n : ByteLength) where
+  no-value : Large ≡ Value v n → ValueSays bs v n
+  no-value e = let z : _≡_ {A = ℕ} 0 1 = cc in absurd (omega arith)
+
+  a-value : (w : ℕ) (k : ByteLength) → Took lebLimit bs (Value w k) → w < 2 ^ 64 → Value w k ≡ Value v n → ValueSays bs v n
+  a-value w k t h e =
+      let value : w ≡ v = cc in
+      let count : k ≡ n = cc in
+      rw (← value, ← count) (record { fits = h; some = t .0; most = t .1; inside = t .2 })
+
+  of-unsigned : (x : Leb) → Took lebLimit bs x → fitUnsigned x ≡ Value v n → ValueSays bs v n
+  unfolding fitUnsigned
+  of-unsigned (Value w k) t e = ⊎-elim
+      (λ (h : w < 2 ^ 64). a-value w k t h (sym (fit-value w k h) ∙ e))
+      (λ (h : 2 ^ 64 ≤ w). no-value (sym (fit-large w k h) ∙ e))
+      (lt-or-ge w (2 ^ 64))
+  of-unsigned Past t e = let z : _≡_ {A = ℕ} 0 1 = cc in absurd (omega arith)
+  of-unsigned Large t e = no-value e
+
+  pub unsigned-value : lebUnsigned bs ≡ Value v n → ValueSays bs v n
+  unfolding lebUnsigned
+  unsigned-value = of-unsigned _ (took lebLimit bs)
+
+  of-signed : (x : Leb) → Took lebLimit bs x → fitSigned x ≡ Value v n → ValueSays bs v n
+  unfolding fitSigned
+  of-signed (Value w k) t e = by (fits64 (signed w (7 * k .0))) refl
+    where
+      by : (b : Bool) → fits64 (signed w (7 * k .0)) ≡ b → ValueSays bs v n
+      by true h = a-value _ k t (word-fits _ h) (sym (word-value _ k h) ∙ e)
+      by false h = no-value (sym (no-word _ k h) ∙ e)
+  of-signed Past t e = let z : _≡_ {A = ℕ} 0 1 = cc in absurd (omega arith)
+  of-signed Large t e = no-value e
+
+  pub signed-value : lebSigned bs ≡ Value v n → ValueSays bs v n
+  unfolding lebSigned
+  signed-value = of-signed _ (took lebLimit bs)
