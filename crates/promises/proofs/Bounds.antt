@@ -25,9 +25,8 @@ use Rattle.rules.specs.declared.Ended.the-variants.{After, Never}
 use Rattle.rules.specs.declared.Entry.{Entry}
 use Rattle.rules.specs.declared.Refusal.{Refusal}
 use Rattle.rules.specs.declared.Refusal.the-variants.{PastBound, OrderChanged, LebTooLarge, NoZeroByte, SlotUnset, SlotOfWrongSort, LengthTooLarge, SelectorInNoOption, WrongMagic, WrongUuid, ClockTooLarge}
-use Rattle.rules.specs.declared.Verdict.{Verdict}
-use Rattle.rules.specs.declared.Verdict.the-variants.{Refused}
-use Rattle.rules.specs.Verdict.{placeOf}
+use Rattle.rules.specs.declared.Stop.{Stop}
+use Rattle.rules.specs.Verdict.{stopAt}
 use Rattle.rules.specs.Bits.{bits}
 use Rattle.rules.specs.Leb128.{lebUnsigned, lebSigned}
 use Rattle.rules.specs.Clock.{clockAfter}
@@ -70,8 +69,8 @@ module _ (e : Env) where
   abbrev pub In : Entry → Type 0
   In x = Between e (x .place .0)
 
-  abbrev pub At : Verdict → Type 0
-  At v = Between e (placeOf v)
+  abbrev pub At : Stop → Type 0
+  At v = Between e (v .place .0)
 
   abbrev pub NoMore : Refusal → Type 0
   NoMore r = Unit {0}
@@ -85,8 +84,7 @@ module _ (e : Env) where
   abbrev Strict : State → Type 0
   Strict s = Inside e s × (e .start .0 < s .place .0)
 
-  pub place-of : (r : Refusal) → NoMore r → (s : State) → Inside e s → At (Refused r (s .place))
-  unfolding placeOf
+  pub place-of : (r : Refusal) → NoMore r → (s : State) → Inside e s → At (stopAt r (s .place))
   place-of r i s h = (h .from, h .to)
 
   infixr 20 _⨾ᵇ_

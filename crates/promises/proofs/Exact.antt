@@ -14,11 +14,12 @@ use Rattle.rules.specs.declared.BitPlace.{BitPlace}
 use Rattle.rules.specs.declared.Stated.{Stated}
 use Rattle.rules.specs.declared.Stated.the-variants.{Missing, As}
 use Rattle.rules.specs.declared.Refusal.the-variants.{StreamSize, StreamClassChanged, StreamClassUnknown, LengthsContradict, ClocksContradict, EventClassUnknown, EventTookNoBits, ClockWentBack}
-use Rattle.rules.specs.declared.Verdict.{Verdict}
+use Rattle.rules.specs.declared.Stop.{Stop}
 use Rattle.rules.specs.declared.Verdict.the-variants.{Refused}
 use Rattle.rules.specs.Class.{Class}
 use Rattle.rules.specs.Entry.{entry}
 use Rattle.rules.specs.Limits.{streamLimit}
+use Rattle.rules.specs.Verdict.{stopAt}
 use Rattle.rules.specs.Place.{bitPlace, further}
 use Rattle.rules.specs.Step.{State, Out, stop, go, Step, onto, after, _⨾_, refuse, listed, withLast}
 use Rattle.rules.specs.Table.{StreamClass, EventClass, Asked, Table, asked, findStream, findEvent}
@@ -57,7 +58,7 @@ module _ (gs : ℕ → Bool) (ge : ℕ → ℕ → Bool) where
   latest i [] = i
   latest i (e ∷ es) = latest (under gs ge i e) es
 
-  frontOut : Option Verdict → Entry → Out → Out
+  frontOut : Option Stop → Entry → Out → Out
   frontOut none e o = onto (e ∷ []) o
   frontOut (some v) e o = stop [] v
 
@@ -65,7 +66,7 @@ module _ (gs : ℕ → Bool) (ge : ℕ → ℕ → Bool) where
   unfolding cut cutAt firstLost listOf
   cut-go i s = refl
 
-  cut-stop : (i : ℕ) (v : Verdict) → cut i (stop [] v) ≡ stop [] v
+  cut-stop : (i : ℕ) (v : Stop) → cut i (stop [] v) ≡ stop [] v
   unfolding cut cutAt firstLost listOf
   cut-stop i v = refl
 
@@ -73,14 +74,14 @@ module _ (gs : ℕ → Bool) (ge : ℕ → ℕ → Bool) where
   unfolding cut onto listOf firstLost cutAt frontOut front later
   cut-cons i e (stop fs v) = by (lost gs ge i e) (firstLost gs ge (under gs ge i e) fs)
     where
-      by : (x : Option Verdict) (y : Option Lost) → cutAt (front gs ge x y) (stop (e ∷ fs) v) ≡ frontOut x e (cutAt y (stop fs v))
+      by : (x : Option Stop) (y : Option Lost) → cutAt (front gs ge x y) (stop (e ∷ fs) v) ≡ frontOut x e (cutAt y (stop fs v))
       by none none = refl
       by none (some l) = refl
       by (some w) none = refl
       by (some w) (some l) = refl
   cut-cons i e (go fs s) = by (lost gs ge i e) (firstLost gs ge (under gs ge i e) fs)
     where
-      by : (x : Option Verdict) (y : Option Lost) → cutAt (front gs ge x y) (go (e ∷ fs) s) ≡ frontOut x e (cutAt y (go fs s))
+      by : (x : Option Stop) (y : Option Lost) → cutAt (front gs ge x y) (go (e ∷ fs) s) ≡ frontOut x e (cutAt y (go fs s))
       by none none = refl
       by none (some l) = refl
       by (some w) none = refl
@@ -91,13 +92,13 @@ module _ (gs : ℕ → Bool) (ge : ℕ → ℕ → Bool) where
   cut-go-cons i e es s = cut-cons i e (go es s)
 
   -- a step's outcome that is cut, and what comes behind it
-  after-front : (x : Option Verdict) (e : Entry) (o : Out) (n : Step) → after (frontOut x e o) n ≡ frontOut x e (after o n)
+  after-front : (x : Option Stop) (e : Entry) (o : Out) (n : Step) → after (frontOut x e o) n ≡ frontOut x e (after o n)
   unfolding frontOut after onto
   after-front none e (stop fs v) n = refl
   after-front none e (go fs s) n = onto-cons e fs (n s)
   after-front (some v) e o n = refl
 
-  stop-after : (i : ℕ) (es : List Entry) (v : Verdict) (n : Step) → after (cut i (stop es v)) n ≡ cut i (stop es v)
+  stop-after : (i : ℕ) (es : List Entry) (v : Stop) (n : Step) → after (cut i (stop es v)) n ≡ cut i (stop es v)
   unfolding cut after cutAt
   stop-after i es v n = by (firstLost gs ge i (listOf (stop es v)))
     where
@@ -128,9 +129,9 @@ module _ (gs : ℕ → Bool) (ge : ℕ → ℕ → Bool) where
   calm-lost i e h = by (eqb (e .kind) 2) (eqb (e .kind) 5) (h .0) (h .1)
     where
       by : (a b : Bool) → a ≡ false → b ≡ false
-          → _≡_ {A = Option Verdict} (elim (a && gs (e .value)) [
-            | true ↦ some (Refused (StreamClassUnknown (e .value)) (e .place))
-            | false ↦ elim (b && ge i (e .value)) [ true ↦ some (Refused (EventClassUnknown i (e .value)) (e .place)) | false ↦ none ]
+          → _≡_ {A = Option Stop} (elim (a && gs (e .value)) [
+            | true ↦ some (stopAt (StreamClassUnknown (e .value)) (e .place))
+            | false ↦ elim (b && ge i (e .value)) [ true ↦ some (stopAt (EventClassUnknown i (e .value)) (e .place)) | false ↦ none ]
           ]) none
       by true b p q = absurd (clash (sym p))
       by false true p q = absurd (clash (sym q))
@@ -208,7 +209,7 @@ module _ (gs : ℕ → Bool) (ge : ℕ → ℕ → Bool) where
 
   -- the lookup of an event class
 
-  event-entry : (i j : ℕ) (p : BitPlace) (b : Bool) → ge i j ≡ b → lost gs ge i (entry 5 p 0 j) ≡ elim b [ true ↦ some (Refused (EventClassUnknown i j) p) | false ↦ none ]
+  event-entry : (i j : ℕ) (p : BitPlace) (b : Bool) → ge i j ≡ b → lost gs ge i (entry 5 p 0 j) ≡ elim b [ true ↦ some (stopAt (EventClassUnknown i j) p) | false ↦ none ]
   unfolding lost
   event-entry i j p true h = rw (h, lost) refl
   event-entry i j p false h = rw (h, lost) refl
@@ -220,7 +221,7 @@ module _ (gs : ℕ → Bool) (ge : ℕ → ℕ → Bool) where
   event-both : (i j : ℕ) (n : EventClass → Step) → ((d : EventClass) → Each Calm (n d)) → ge i j ≡ false → (x : Option EventClass)
       → Sim i (withEvent i j x (λ d. mark 5 0 j ⨾ n d)) (withEvent i j x (λ d. mark 5 0 j ⨾ n d))
   unfolding withEvent refuse mark listed _⨾_ after frontOut
-  event-both i j n c h none = record { at = λ s. sym (cut-stop i (Refused (EventClassUnknown i j) (s .place))) }
+  event-both i j n c h none = record { at = λ s. sym (cut-stop i (stopAt (EventClassUnknown i j) (s .place))) }
   event-both i j n c h (some d) = record {
     at = λ s. sym (cut-cons i (entry 5 (s .place) 0 j) (n d _)
         ∙ rw (event-entry i j (s .place) false h, event-under i j (s .place), calm-cut i (n d _) (c d .at _)) refl);
@@ -229,12 +230,12 @@ module _ (gs : ℕ → Bool) (ge : ℕ → ℕ → Bool) where
   event-less : (i j : ℕ) (n : EventClass → Step) (x : Option EventClass) → ((d : EventClass) → x ≡ some d → ge i j ≡ true)
       → Sim i (withEvent i j x (λ d. mark 5 0 j ⨾ n d)) (withEvent i j none (λ d. mark 5 0 j ⨾ n d))
   unfolding withEvent refuse mark listed _⨾_ after frontOut
-  event-less i j n none h = record { at = λ s. sym (cut-stop i (Refused (EventClassUnknown i j) (s .place))) }
+  event-less i j n none h = record { at = λ s. sym (cut-stop i (stopAt (EventClassUnknown i j) (s .place))) }
   event-less i j n (some d) h = record { at = λ s. sym (cut-cons i (entry 5 (s .place) 0 j) (n d _) ∙ rw (event-entry i j (s .place) true (h d refl)) refl) }
 
   -- the lookup of a stream class
 
-  stream-entry : (j i : ℕ) (p : BitPlace) (b : Bool) → gs i ≡ b → lost gs ge j (entry 2 p 0 i) ≡ elim b [ true ↦ some (Refused (StreamClassUnknown i) p) | false ↦ none ]
+  stream-entry : (j i : ℕ) (p : BitPlace) (b : Bool) → gs i ≡ b → lost gs ge j (entry 2 p 0 i) ≡ elim b [ true ↦ some (stopAt (StreamClassUnknown i) p) | false ↦ none ]
   unfolding lost
   stream-entry j i p true h = rw (h, lost) refl
   stream-entry j i p false h = rw (h, lost) refl
@@ -246,7 +247,7 @@ module _ (gs : ℕ → Bool) (ge : ℕ → ℕ → Bool) where
   stream-both : (j i : ℕ) (n n′ : StreamClass → Step) → gs i ≡ false → (x : Option StreamClass) → ((c : StreamClass) → x ≡ some c → Sim i (n c) (n′ c))
       → Sim j (withStream i x (λ c. mark 2 0 i ⨾ n c)) (withStream i x (λ c. mark 2 0 i ⨾ n′ c))
   unfolding withStream refuse mark listed _⨾_ after frontOut
-  stream-both j i n n′ h none g = record { at = λ s. sym (cut-stop j (Refused (StreamClassUnknown i) (s .place))) }
+  stream-both j i n n′ h none g = record { at = λ s. sym (cut-stop j (stopAt (StreamClassUnknown i) (s .place))) }
   stream-both j i n n′ h (some c) g = record {
     at = λ s. sym (cut-cons j (entry 2 (s .place) 0 i) (n c _)
         ∙ rw (stream-entry j i (s .place) false h, stream-under j i (s .place)) (ap (onto (entry 2 (s .place) 0 i ∷ [])) (sym (g c refl .at _))));
@@ -255,7 +256,7 @@ module _ (gs : ℕ → Bool) (ge : ℕ → ℕ → Bool) where
   stream-less : (j i : ℕ) (n n′ : StreamClass → Step) (x : Option StreamClass) → ((c : StreamClass) → x ≡ some c → gs i ≡ true)
       → Sim j (withStream i x (λ c. mark 2 0 i ⨾ n c)) (withStream i none (λ c. mark 2 0 i ⨾ n′ c))
   unfolding withStream refuse mark listed _⨾_ after frontOut
-  stream-less j i n n′ none h = record { at = λ s. sym (cut-stop j (Refused (StreamClassUnknown i) (s .place))) }
+  stream-less j i n n′ none h = record { at = λ s. sym (cut-stop j (stopAt (StreamClassUnknown i) (s .place))) }
   stream-less j i n n′ (some c) h = record { at = λ s. sym (cut-cons j (entry 2 (s .place) 0 i) (n c _) ∙ rw (stream-entry j i (s .place) true (h c refl)) refl) }
 
   infixr 20 _⨾ᶜ_
@@ -390,7 +391,7 @@ module _ (gs : ℕ → Bool) (ge : ℕ → ℕ → Bool) where
     sim-from j b room = by (eqb (length b) 0 || ltb streamLimit (length b))
       where
         of : Bool → Asked → Reading
-        of x t = elim x [ true ↦ record { entries = []; verdict = Refused StreamSize (bitPlace 0) } | false ↦ ended (readPackets t b 0 Missing (length b) (begin room)) ]
+        of x t = elim x [ true ↦ record { entries = []; verdict = Refused (stopAt StreamSize (bitPlace 0)) } | false ↦ ended (readPackets t b 0 Missing (length b) (begin room)) ]
 
         by : (x : Bool) → of x less ≡ shortened (firstLost gs ge j ((of x full) .entries)) (of x full)
         by true = unfold firstLost shortened in refl
@@ -469,7 +470,7 @@ any-start ks ke t j b room =
     sym (sim-from (goneStream ks t) (goneEvent ks ke t) (asked t) (findStream (keepStreams ks (t .streams))) (findEvent (keepEvents (both ks ke) (t .events))) (left-less ks ke t) j b room)
     ∙ sim-from (goneStream ks t) (goneEvent ks ke t) (asked t) (findStream (keepStreams ks (t .streams))) (findEvent (keepEvents (both ks ke) (t .events))) (left-less ks ke t) 0 b room
 
-shortened-cut : (o : Option Lost) (l : Lost) (r r′ : Reading) → o ≡ some l → r′ ≡ shortened o r → (r′ .entries ≡ take (l .index) (r .entries)) × (r′ .verdict ≡ l .refusal)
+shortened-cut : (o : Option Lost) (l : Lost) (r r′ : Reading) → o ≡ some l → r′ ≡ shortened o r → (r′ .entries ≡ take (l .index) (r .entries)) × (r′ .verdict ≡ Refused (l .refusal))
 unfolding shortened
 shortened-cut o l r r′ h k =
     let p : r′ ≡ shortened (some l) r = k ∙ ap (λ z. shortened z r) h in

@@ -9,8 +9,8 @@ use mathlib.Core.Option.{Option, none, some}
 use lib.ListN.{length, take, length-take}
 use Rattle.rules.specs.declared.Entry.{Entry}
 use Rattle.rules.specs.declared.Refusal.the-variants.{StreamClassUnknown, EventClassUnknown}
-use Rattle.rules.specs.declared.Verdict.{Verdict}
-use Rattle.rules.specs.declared.Verdict.the-variants.{Refused}
+use Rattle.rules.specs.declared.Stop.{Stop}
+use Rattle.rules.specs.Verdict.{stopAt}
 use Rattle.rules.specs.Place.{bitPlace}
 use Rattle.rules.specs.Table.{StreamClass, EventClass, Asked, Table}
 use Rattle.rules.specs.Parse.{Parsed, bad, good, parse}
@@ -28,7 +28,7 @@ unfolding firstLost
 first-index gs ge i [] l h = let z : _≡_ {A = ℕ} 0 1 = cc in absurd (omega arith)
 first-index gs ge i (e ∷ es) l h = by (lost gs ge i e) (firstLost gs ge (under gs ge i e) es) h (first-index gs ge (under gs ge i e) es)
   where
-    by : (x : Option Verdict) (y : Option Lost) → front gs ge x y ≡ some l → ((m : Lost) → y ≡ some m → m .index < length es) → l .index < suc (length es)
+    by : (x : Option Stop) (y : Option Lost) → front gs ge x y ≡ some l → ((m : Lost) → y ≡ some m → m .index < length es) → l .index < suc (length es)
     by none none h r = unfold front later in let z : _≡_ {A = ℕ} 0 1 = cc in absurd (omega arith)
     by none (some m) h r =
         unfold front later in
@@ -55,7 +55,7 @@ unfolding firstLost
 first-found gs ge i [] l h = let z : _≡_ {A = ℕ} 0 1 = cc in absurd (omega arith)
 first-found gs ge i (e ∷ es) l h = by (lost gs ge i e) refl (firstLost gs ge (under gs ge i e) es) h (first-found gs ge (under gs ge i e) es)
   where
-    by : (x : Option Verdict) → lost gs ge i e ≡ x → (y : Option Lost) → front gs ge x y ≡ some l → ((m : Lost) → y ≡ some m → Found gs ge (under gs ge i e) es m) → Found gs ge i (e ∷ es) l
+    by : (x : Option Stop) → lost gs ge i e ≡ x → (y : Option Lost) → front gs ge x y ≡ some l → ((m : Lost) → y ≡ some m → Found gs ge (under gs ge i e) es m) → Found gs ge i (e ∷ es) l
     by none q none h r = unfold front later in let z : _≡_ {A = ℕ} 0 1 = cc in absurd (omega arith)
     by none q (some m) h r =
         unfold front later latest in
@@ -122,11 +122,11 @@ tableOf (bad n x) = record { uuid = []; header = none; streams = []; events = []
 tableOf (good t x) = t
 
 -- the figures' table with its event class left out: 37 in place of the entry that stands behind four others, at place 0, ids 0 and 0
-figure : missed (λ i. true) (λ i j. false) (tableOf (parse table40)) (readAll table40 (0x2A ∷ []) 32) ≡ some (record { index = 4; refusal = Refused (EventClassUnknown 0 0) (bitPlace 0) })
+figure : missed (λ i. true) (λ i j. false) (tableOf (parse table40)) (readAll table40 (0x2A ∷ []) 32) ≡ some (record { index = 4; refusal = stopAt (EventClassUnknown 0 0) (bitPlace 0) })
 unfolding opened missed goneStream goneEvent has firstLost lost front later under tableOf
 figure = refl
 
 -- with its stream class left out: 33, behind the first entry
-figure-stream : missed (λ i. false) (λ i j. true) (tableOf (parse table40)) (readAll table40 (0x2A ∷ []) 32) ≡ some (record { index = 1; refusal = Refused (StreamClassUnknown 0) (bitPlace 0) })
+figure-stream : missed (λ i. false) (λ i j. true) (tableOf (parse table40)) (readAll table40 (0x2A ∷ []) 32) ≡ some (record { index = 1; refusal = stopAt (StreamClassUnknown 0) (bitPlace 0) })
 unfolding opened missed goneStream goneEvent has firstLost lost front later under tableOf
 figure-stream = refl

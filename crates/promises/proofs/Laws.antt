@@ -1,6 +1,6 @@
 -- The laws of the rules, gathered: each is shown in a file of its own and put together here for an accepted table.
 use mathlib.Core.Path.{_≡_, refl}
-use Prim.Native.Nat.{ℕ, _*_, _≤_}
+use Prim.Native.Nat.{ℕ, _*_}
 use native.Mathlib.Omega.{arith}
 use native.Mathlib.Nat.{le-refl}
 use mathlib.Core.List.{List, []}
@@ -9,24 +9,23 @@ use lib.ListN.{length}
 use lib.Dec.{ltb, eqb}
 use Rattle.rules.specs.declared.Stated.the-variants.{Missing}
 use Rattle.rules.specs.declared.Refusal.the-variants.{StreamSize}
-use Rattle.rules.specs.declared.Entry.{Entry}
-use Rattle.rules.specs.declared.Verdict.{Verdict}
 use Rattle.rules.specs.declared.Verdict.the-variants.{Refused}
 use Rattle.rules.specs.Limits.{streamLimit}
 use Rattle.rules.specs.Place.{bitPlace}
-use Rattle.rules.specs.Verdict.{numberOf, refusalNumber, placeOf}
+use Rattle.rules.specs.Verdict.{stopAt, numberOf, refusalNumber, placeOf}
 use Rattle.rules.specs.Step.{Out, stop, go}
 use Rattle.rules.specs.Field.{Env}
 use Rattle.rules.specs.Table.{Table, asked}
 use Rattle.rules.specs.Parse.{good, parse}
 use Rattle.rules.specs.Packet.{readEvent, readPackets}
 use Rattle.rules.specs.Read.{Reading, ended, begin, readStream, readAll, readParsed}
+use Rattle.facts.proofs.Refusals.{refusalNumber-bounds}
 use Rattle.promises.specs.Laws.{Rising, Within, Inside, TheLaws}
 use Rattle.promises.proofs.Law.{Any}
 use Rattle.promises.proofs.Triple.{Ok}
 use Rattle.promises.proofs.Rising.{RiseOut, Onward}
 use Rattle.promises.proofs.Rounds.{event-rounds}
-use Rattle.promises.proofs.Spent.{packets-refused, reading-spent}
+use Rattle.promises.proofs.Spent.{reading-spent}
 use Rattle.promises.proofs.Room.{room-more}
 use Rattle.promises.proofs.Bounds.{In, At, NoMore}
 use Rattle.promises.proofs.Packets.{Fitting, Positive, bound-event, packet-rounds, go-packets}
@@ -45,20 +44,20 @@ ok-within e (go es s) h = h
 EndsAt : ℕ → Reading → Type 0
 EndsAt last r = Rising (r .entries) 0 (placeOf (r .verdict)) × (numberOf (r .verdict) ≡ 0 → placeOf (r .verdict) ≡ last)
 
-ended-at : (last : ℕ) (o : Out) → RiseOut 0 o → Onward (λ s. s .place .0 ≡ last) o → ((es : List Entry) (v : Verdict) → o ≡ stop es v → 1 ≤ numberOf v) → EndsAt last (ended o)
-unfolding EndsAt ended placeOf
-ended-at last (stop es v) h k n = (h, λ z. absurd (omega (arith, n es v refl)))
-ended-at last (go es s) h k n = (h, λ z. k)
+ended-at : (last : ℕ) (o : Out) → RiseOut 0 o → Onward (λ s. s .place .0 ≡ last) o → EndsAt last (ended o)
+unfolding EndsAt ended placeOf numberOf
+ended-at last (stop es v) h k = (h, λ z. absurd (omega (arith, refusalNumber-bounds (v .why) .0)))
+ended-at last (go es s) h k = (h, λ z. k)
 
 stream-at : (t : Table) → Fitting Positive Any (asked t) → (b : List ℕ) (room : ℕ) → EndsAt (8 * length b) (readStream (asked t) b room)
 unfolding readStream
 stream-at t w b room = by (eqb (length b) 0 || ltb streamLimit (length b))
   where
-    by : (c : Bool) → EndsAt (8 * length b) (elim c [ true ↦ record { entries = []; verdict = Refused StreamSize (bitPlace 0) } | false ↦ ended (readPackets (asked t) b 0 Missing (length b) (begin room)) ])
+    by : (c : Bool) → EndsAt (8 * length b) (elim c [ true ↦ record { entries = []; verdict = Refused (stopAt StreamSize (bitPlace 0)) } | false ↦ ended (readPackets (asked t) b 0 Missing (length b) (begin room)) ])
     by true = unfold EndsAt numberOf refusalNumber placeOf in (omega arith, λ z. absurd (omega arith))
     by false = unfold begin in
         let g = go-packets (asked t) w b 0 Missing (length b) (begin room) refl (omega arith) (omega arith) in
-        ended-at (8 * length b) (readPackets (asked t) b 0 Missing (length b) (begin room)) (g .0) (g .1) (packets-refused (asked t) b room)
+        ended-at (8 * length b) (readPackets (asked t) b 0 Missing (length b) (begin room)) (g .0) (g .1)
 
 reading-at : (x : List ℕ) (t : Table) (y : List ℕ) → parse x ≡ good t y → (b : List ℕ) (room : ℕ) → EndsAt (8 * length b) (readAll x b room)
 unfolding readAll readParsed

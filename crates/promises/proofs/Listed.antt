@@ -17,6 +17,7 @@ use Rattle.rules.specs.declared.Refusal.the-variants.{StreamSize, StreamClassCh
 use Rattle.rules.specs.declared.Verdict.the-variants.{Refused}
 use Rattle.rules.specs.Limits.{streamLimit}
 use Rattle.rules.specs.Place.{bitPlace, further}
+use Rattle.rules.specs.Verdict.{stopAt}
 use Rattle.rules.specs.Entry.{entry, words}
 use Rattle.rules.specs.Step.{State, Out, stop, go, Step, _⨾_, change, withLast}
 use Rattle.rules.specs.Record.{Record, unknown, fragment, root, class, range, option, Layout, layouts, no, bitsLayout, layoutOf, recordOf, behind, size, u8, u16, number}
@@ -28,7 +29,7 @@ use Rattle.rules.specs.Read.{ended, begin, readStream, readAll, readParsed}
 use Rattle.facts.specs.Bytes.{Bytes}
 use Rattle.facts.proofs.Bytes.{bytes-take, bytes-drop}
 use Rattle.facts.proofs.Truth.{or-false}
-use Rattle.promises.specs.Words.{Word, All, AllWords, WordEntry, WordIds, WordVerdict, WordReading}
+use Rattle.promises.specs.Words.{Word, All, AllWords, WordEntry, WordIds, WordStop, WordReading}
 use Rattle.promises.proofs.Triple.{Ok, changing, naming, tested, untested}
 use Rattle.promises.proofs.Packets.{Fitting}
 use Rattle.promises.proofs.Accepted.{accepted-fits}
@@ -44,17 +45,17 @@ word-mark k n v a b c = record { at = λ s w. word-listed (entry k (s .place) n 
 
 word-event : (i j : ℕ) (x : Option EventClass) (f : EventClass → Step) → Word i → Word j → ((d : EventClass) → x ≡ some d → Worded (f d)) → Worded (withEvent i j x f)
 unfolding withEvent
-word-event i j none f a b h = naming WordEntry WordVerdict WordIds (EventClassUnknown i j) (λ s w. (w .place, (a, b)))
+word-event i j none f a b h = naming WordEntry WordStop WordIds (EventClassUnknown i j) (λ s w. (w .place, (a, b)))
 word-event i j (some d) f a b h = h d refl
 
 word-stream : (i : ℕ) (x : Option StreamClass) (f : StreamClass → Step) → Word i → ((d : StreamClass) → x ≡ some d → Worded (f d)) → Worded (withStream i x f)
 unfolding withStream
-word-stream i none f a h = naming WordEntry WordVerdict WordIds (StreamClassUnknown i) (λ s w. (w .place, a))
+word-stream i none f a h = naming WordEntry WordStop WordIds (StreamClassUnknown i) (λ s w. (w .place, a))
 word-stream i (some d) f a h = h d refl
 
 word-startEvent : Worded (change startEvent)
 unfolding startEvent
-word-startEvent = changing WordEntry WordVerdict WordIds _ (λ s w. record {
+word-startEvent = changing WordEntry WordStop WordIds _ (λ s w. record {
   place = w .place;
   clock = w .clock;
   slots = packet-word (s .slots) (w .slots);
@@ -63,7 +64,7 @@ word-startEvent = changing WordEntry WordVerdict WordIds _ (λ s w. record {
 
 word-startPacket : Worded (change startPacket)
 unfolding startPacket nothingSaid
-word-startPacket = changing WordEntry WordVerdict WordIds _ (λ s w. record {
+word-startPacket = changing WordEntry WordStop WordIds _ (λ s w. record {
   place = w .place;
   clock = omega arith;
   slots = no-word;
@@ -72,13 +73,13 @@ word-startPacket = changing WordEntry WordVerdict WordIds _ (λ s w. record {
 
 word-last : Worded (change (λ s. withLast (s .clock) s))
 unfolding withLast
-word-last = changing WordEntry WordVerdict WordIds _ (λ s w. record { place = w .place; clock = w .clock; slots = w .slots; said = w .said })
+word-last = changing WordEntry WordStop WordIds _ (λ s w. record { place = w .place; clock = w .clock; slots = w .slots; said = w .said })
 
 word-end : (to : BitPlace) (n : ℕ) → Word (to .0) → Word n → Worded (endPacket to n)
 unfolding endPacket
 word-end to n a b = word-due (record { at = λ s w. word-listed (entry 7 to (to .0 - s .place .0) n) to s (omega arith) a w })
 
-ok-if : (b : Bool) (x y : Out) → (b ≡ true → Ok WordEntry WordVerdict WordIds Wordy x) → Ok WordEntry WordVerdict WordIds Wordy y → Ok WordEntry WordVerdict WordIds Wordy (elim b [ true ↦ x | false ↦ y ])
+ok-if : (b : Bool) (x y : Out) → (b ≡ true → Ok WordEntry WordStop WordIds Wordy x) → Ok WordEntry WordStop WordIds Wordy y → Ok WordEntry WordStop WordIds Wordy (elim b [ true ↦ x | false ↦ y ])
 ok-if true x y h k = h refl
 ok-if false x y h k = k
 
@@ -109,20 +110,20 @@ module _ (t : Asked) (w : Fitting To64 Word t) (ids : (i : ℕ) (c : StreamClass
   module _ (b : List ℕ) (small : length b ≤ streamLimit) where
     word-content : (i : ℕ) (c : StreamClass) → t .stream i ≡ some c → Word i → (p : BitPlace) (total content : ℕ) → Worded (readContent t c b p total content)
     unfolding readContent
-    word-content i c q j p total content = word-due (tested WordEntry WordVerdict WordIds place-of _ LengthsContradict tt (record {
+    word-content i c q j p total content = word-due (tested WordEntry WordStop WordIds place-of _ LengthsContradict tt (record {
       at = λ s x.
           let y = or-false (not (eqb (total % 8) 0) || ltb total content || ltb (8 * length b) (p .0 + total)) (ltb (p .0 + content) (s .place .0)) (x .1) in
           let z = or-false (not (eqb (total % 8) 0) || ltb total content) (ltb (8 * length b) (p .0 + total)) (y .0) in
           let u = or-false (not (eqb (total % 8) 0)) (ltb total content) (z .0) in
           let l₁ : content ≤ total = ltb-false total content (u .1) in
           let l₂ : p .0 + total ≤ 8 * length b = ltb-false (8 * length b) (p .0 + total) (z .1) in
-          (untested WordEntry WordVerdict WordIds place-of _ ClocksContradict tt (word-mark 3 total content (omega arith) (omega arith) (omega arith) ⨾ʷ record {
+          (untested WordEntry WordStop WordIds place-of _ ClocksContradict tt (word-mark 3 total content (omega arith) (omega arith) (omega arith) ⨾ʷ record {
             at = λ s x.
                 word-events i c q j (record { bytes = b; start = p; bound = further p content; uuid = t .uuid }) (record { start = omega arith; bound = omega arith }) (further p total) 0 (p .0 + content - s .place .0) (omega arith) (omega arith) .at s x;
           })) .at s (x .0);
     }))
 
-    word-packet : (k : ℕ) (i : Stated) → Word k → (s₀ : State) → Wordy s₀ → Ok WordEntry WordVerdict WordIds Wordy (readPacket t b k i s₀)
+    word-packet : (k : ℕ) (i : Stated) → Word k → (s₀ : State) → Wordy s₀ → Ok WordEntry WordStop WordIds Wordy (readPacket t b k i s₀)
     unfolding readPacket
     word-packet k i h s₀ h₀ =
         (word-due (word-mark 1 0 k (omega arith) (omega arith) h ⨾ʷ word-startPacket ⨾ʷ word-root e g (t .header) (w .header) ⨾ʷ word-check _ StreamClassChanged tt
@@ -307,7 +308,7 @@ accepted-words x g t y p =
 
 -- Readings
 
-ended-words : (o : Out) → Ok WordEntry WordVerdict WordIds Wordy o → WordReading (ended o)
+ended-words : (o : Out) → Ok WordEntry WordStop WordIds Wordy o → WordReading (ended o)
 unfolding ended
 ended-words (stop es v) h = h
 ended-words (go es s) h = (h .0, h .1 .place)
@@ -325,7 +326,7 @@ stream-words t w ids b room = by (eqb (length b) 0 || ltb streamLimit (length b)
     small false q h = h
 
     by : (c : Bool) → (eqb (length b) 0 || ltb streamLimit (length b)) ≡ c
-        → WordReading (elim c [ true ↦ record { entries = []; verdict = Refused StreamSize (bitPlace 0) } | false ↦ ended (readPackets t b 0 Missing (length b) (begin room)) ])
+        → WordReading (elim c [ true ↦ record { entries = []; verdict = Refused (stopAt StreamSize (bitPlace 0)) } | false ↦ ended (readPackets t b 0 Missing (length b) (begin room)) ])
     by true h = (tt, (omega arith, tt))
     by false h =
         let l : length b ≤ streamLimit = ltb-false streamLimit (length b) (small (eqb (length b) 0) (ltb streamLimit (length b)) h) in

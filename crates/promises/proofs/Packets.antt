@@ -19,7 +19,6 @@ use Rattle.rules.specs.declared.Refusal.{Refusal}
 use Rattle.rules.specs.declared.Refusal.the-variants.{StreamClassChanged, StreamClassUnknown, LengthsContradict, ClocksContradict, EventClassUnknown, EventTookNoBits, ClockWentBack, ListFull}
 use Rattle.rules.specs.Limits.{wordsPerEntry}
 use Rattle.rules.specs.Place.{bitPlace, further}
-use Rattle.rules.specs.Verdict.{placeOf}
 use Rattle.rules.specs.Step.{State, Out, stop, go, Step, onto, after, _⨾_, refuse, check, due, listed, change, pass, withLast}
 use Rattle.rules.specs.Table.{StreamClass, EventClass, Asked}
 use Rattle.rules.specs.Field.{Env}
@@ -120,7 +119,7 @@ unfolding due
 go-due = go-same _ ListFull
 
 go-refuse : {A B : State → Type 0} (r : Refusal) → Go A (refuse r) B
-unfolding refuse placeOf
+unfolding refuse
 go-refuse r = record { at = λ s a. (le-refl (s .place .0), tt) }
 
 go-change : {A B : State → Type 0} (f : State → State) → ((s : State) → (f s) .place ≡ s .place) → ((s : State) → A s → B (f s)) → Go A (change f) B

@@ -10,7 +10,6 @@ use Rattle.rules.specs.declared.BitPlace.{BitPlace}
 use Rattle.rules.specs.declared.Entry.{Entry}
 use Rattle.rules.specs.declared.Refusal.{Refusal}
 use Rattle.rules.specs.declared.Refusal.the-variants.{ListFull}
-use Rattle.rules.specs.Verdict.{placeOf}
 use Rattle.rules.specs.Place.{roundUp, alignFrom}
 use Rattle.rules.specs.Slots.{slotAt}
 use Rattle.rules.specs.Step.{State, Out, stop, go, Step, onto, after, _⨾_, refuse, check, due, listed, change, pass, withSlots, withOrder, withClock, withSaid}
@@ -31,7 +30,7 @@ unfolding alignFrom
 alignFrom-le start a p h = omega (arith, roundUp-le a (p - start) h)
 
 abbrev pub RiseOut : ℕ → Out → Type 0
-RiseOut p (stop es v) = Rising es p (placeOf v)
+RiseOut p (stop es v) = Rising es p (v .place .0)
 RiseOut p (go es s) = Rising es p (s .place .0)
 
 pub record Rise (m : Step) : Type 0 where
@@ -51,7 +50,7 @@ rise-append (e ∷ es) fs p q r h k = (h .0, rise-append es fs (e .place .0) q r
 
 rise-onto : (p q : ℕ) (es : List Entry) (o : Out) → Rising es p q → RiseOut q o → RiseOut p (onto es o)
 unfolding onto
-rise-onto p q es (stop fs v) h k = rise-append es fs p q (placeOf v) h k
+rise-onto p q es (stop fs v) h k = rise-append es fs p q (v .place .0) h k
 rise-onto p q es (go fs s) h k = rise-append es fs p q (s .place .0) h k
 
 -- what holds of the state where an outcome goes on
@@ -78,7 +77,7 @@ unfolding pass
 rise-pass = record { at = λ s. le-refl (s .place .0) }
 
 pub rise-refuse : (r : Refusal) → Rise (refuse r)
-unfolding refuse placeOf
+unfolding refuse
 rise-refuse r = record { at = λ s. le-refl (s .place .0) }
 
 pub rise-if : (p : ℕ) (b : Bool) (x y : Out) → (b ≡ true → RiseOut p x) → RiseOut p y → RiseOut p (elim b [ true ↦ x | false ↦ y ])

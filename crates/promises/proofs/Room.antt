@@ -15,7 +15,7 @@ use Rattle.rules.specs.declared.Refusal.{Refusal}
 use Rattle.rules.specs.declared.Refusal.the-variants.{StreamSize, ListFull}
 use Rattle.rules.specs.declared.Verdict.the-variants.{Refused}
 use Rattle.rules.specs.Limits.{wordsPerEntry, streamLimit}
-use Rattle.rules.specs.Verdict.{refusalNumber, numberOf}
+use Rattle.rules.specs.Verdict.{stopAt, refusalNumber, numberOf}
 use Rattle.rules.specs.Place.{bitPlace}
 use Rattle.rules.specs.Slots.{slotAt}
 use Rattle.rules.specs.Step.{State, Out, stop, go, Step, onto, after, _⨾_, refuse, check, due, listed, change, pass, withSlots, withOrder, withClock, withLast, withSaid}
@@ -41,7 +41,7 @@ record Ran (o o′ : Out) : Type 0 where
   es : List Entry
   place : BitPlace
   rest : Out
-  stops : o ≡ stop es (Refused ListFull place)
+  stops : o ≡ stop es (stopAt ListFull place)
   goes : o′ ≡ onto es rest
 
 abbrev Wider : ℕ → Out → Out → Type 0
@@ -194,7 +194,7 @@ unfolding readStream
 room-stream t b room d = by (eqb (length b) 0 || ltb streamLimit (length b))
   where
     of : Bool → ℕ → Reading
-    of x n = elim x [ true ↦ record { entries = []; verdict = Refused StreamSize (bitPlace 0) } | false ↦ ended (readPackets t b 0 Missing (length b) (begin n)) ]
+    of x n = elim x [ true ↦ record { entries = []; verdict = Refused (stopAt StreamSize (bitPlace 0)) } | false ↦ ended (readPackets t b 0 Missing (length b) (begin n)) ]
 
     by : (x : Bool) → (of x (room + d) ≡ of x room) ⊎ RanOut (of x room) (of x (room + d))
     by true = inl refl

@@ -1,5 +1,5 @@
--- Each entry takes its words of the room; a reading that is refused by 40 has too few left for one more; and what stops is refused.
-use mathlib.Core.Path.{_≡_, refl, subst}
+-- Each entry takes its words of the room; and a reading that is refused by 40 has too few left for one more.
+use mathlib.Core.Path.{_≡_, refl}
 use Prim.Native.Nat.{ℕ, _+_, _-_, _*_, _≤_, _<_}
 use native.Mathlib.Omega.{arith}
 use mathlib.Core.List.{List, []}
@@ -12,10 +12,10 @@ use Rattle.rules.specs.declared.Entry.{Entry}
 use Rattle.rules.specs.declared.Stated.the-variants.{Missing}
 use Rattle.rules.specs.declared.Refusal.{Refusal}
 use Rattle.rules.specs.declared.Refusal.the-variants.{StreamSize, ListFull}
-use Rattle.rules.specs.declared.Verdict.{Verdict}
+use Rattle.rules.specs.declared.Stop.{Stop}
 use Rattle.rules.specs.declared.Verdict.the-variants.{Refused}
 use Rattle.rules.specs.Limits.{wordsPerEntry, streamLimit}
-use Rattle.rules.specs.Verdict.{refusalNumber, numberOf}
+use Rattle.rules.specs.Verdict.{stopAt, refusalNumber, numberOf}
 use Rattle.rules.specs.Place.{bitPlace}
 use Rattle.rules.specs.Slots.{slotAt}
 use Rattle.rules.specs.Step.{State, Out, stop, go, Step, onto, after, _⨾_, refuse, check, due, listed, change, pass, withSlots, withOrder, withClock, withLast, withSaid}
@@ -24,15 +24,13 @@ use Rattle.rules.specs.Field.{Env, field, store, say, fromSlot}
 use Rattle.rules.specs.Packet.{readPackets, mark, startEvent, startPacket, endPacket}
 use Rattle.rules.specs.Parse.{Parsed, bad, good, parse}
 use Rattle.rules.specs.Read.{ended, begin, readStream, readAll, readParsed}
-use Rattle.facts.proofs.Refusals.{refusalNumber-bounds}
 use Rattle.facts.proofs.Steps.{onto-nil}
 use Rattle.promises.specs.Laws.{SpentReading}
 use Rattle.promises.proofs.Simple.{Simple, SimplePackets, view, simple-packets}
 
-record Stopped (room : ℕ) (es : List Entry) (v : Verdict) : Type 0 where
+record Stopped (room : ℕ) (es : List Entry) (v : Stop) : Type 0 where
   within : wordsPerEntry * length es ≤ room
-  full : numberOf v ≡ 40 → room < wordsPerEntry * length es + wordsPerEntry
-  refused : 1 ≤ numberOf v
+  full : refusalNumber (v .why) ≡ 40 → room < wordsPerEntry * length es + wordsPerEntry
 
 abbrev SpentOut : State → Out → Type 0
 SpentOut s (stop es v) = Stopped (s .room) es v
@@ -51,7 +49,6 @@ spent-onto s es s′ w (stop fs v) h =
     record {
       within = simp length-append (omega (arith, h .within));
       full = λ e. simp length-append (omega (arith, h .full e));
-      refused = h .refused;
     }
 spent-onto s es s′ w (go fs s″) h = simp length-append (omega arith)
 
@@ -69,8 +66,8 @@ unfolding pass
 spent-pass = record { at = λ s. omega arith }
 
 spent-refuse : (r : Refusal) → refusalNumber r < 40 → Spent (refuse r)
-unfolding refuse numberOf
-spent-refuse r h = record { at = λ s. record { within = omega arith; full = λ e. absurd (omega arith); refused = omega (arith, refusalNumber-bounds r .0) } }
+unfolding refuse
+spent-refuse r h = record { at = λ s. record { within = omega arith; full = λ e. absurd (omega arith) } }
 
 spent-if : (s : State) (b : Bool) (x y : Out) → SpentOut s x → SpentOut s y → SpentOut s (elim b [ true ↦ x | false ↦ y ])
 spent-if s true x y h k = h
@@ -93,8 +90,8 @@ unfolding due check _⨾_ pass refuse after
 due-spent {m} h = record { at = λ s. by s (ltb (s .room) wordsPerEntry) refl }
   where
     by : (s : State) (b : Bool) → ltb (s .room) wordsPerEntry ≡ b → SpentOut s (after (elim b [ true ↦ refuse ListFull s | false ↦ pass s ]) m)
-    by s true e = unfold numberOf in let r : s .room < wordsPerEntry = ltb-true (s .room) wordsPerEntry e in
-        record { within = omega arith; full = λ q. omega arith; refused = omega (arith, refusalNumber-bounds ListFull .0) }
+    by s true e = unfold refusalNumber in let r : s .room < wordsPerEntry = ltb-true (s .room) wordsPerEntry e in
+        record { within = omega arith; full = λ q. omega arith }
     by s false e = rw (onto-nil (m s)) (h .at s (ltb-false (s .room) wordsPerEntry e))
 
 spent-listed : (e : Entry) (p : BitPlace) (s : State) → wordsPerEntry ≤ s .room → SpentOut s (listed e p s)
@@ -135,10 +132,6 @@ spent-packets = record {
   ends = λ to n. due-spent (record { at = λ s r. spent-listed _ _ s r });
 }
 
--- what stops is refused
-pub packets-refused : (t : Asked) (b : List ℕ) (room : ℕ) (es : List Entry) (v : Verdict) → readPackets t b 0 Missing (length b) (begin room) ≡ stop es v → 1 ≤ numberOf v
-packets-refused t b room es v h = let g : SpentOut (begin room) (stop es v) = subst (SpentOut (begin room)) h (simple-packets spent-packets t b 0 Missing (length b) .at (begin room)) in g .refused
-
 -- readings
 
 ended-spent : (s : State) (o : Out) → SpentOut s o → SpentReading (s .room) (ended o)
@@ -150,7 +143,7 @@ stream-spent : (t : Asked) (b : List ℕ) (room : ℕ) → SpentReading room (re
 unfolding readStream numberOf refusalNumber
 stream-spent t b room = by (eqb (length b) 0 || ltb streamLimit (length b))
   where
-    by : (x : Bool) → SpentReading room (elim x [ true ↦ record { entries = []; verdict = Refused StreamSize (bitPlace 0) } | false ↦ ended (readPackets t b 0 Missing (length b) (begin room)) ])
+    by : (x : Bool) → SpentReading room (elim x [ true ↦ record { entries = []; verdict = Refused (stopAt StreamSize (bitPlace 0)) } | false ↦ ended (readPackets t b 0 Missing (length b) (begin room)) ])
     by true = record { within = omega arith; full = λ e. absurd (omega arith) }
     by false = unfold begin in ended-spent (begin room) _ (simple-packets spent-packets t b 0 Missing (length b) .at (begin room))
 

@@ -5,14 +5,14 @@ use mathlib.Core.Bool.{Bool, true, false}
 use Rattle.rules.specs.declared.Entry.{Entry}
 use Rattle.rules.specs.declared.Refusal.{Refusal}
 use Rattle.rules.specs.declared.Refusal.the-variants.{ListFull}
-use Rattle.rules.specs.declared.Verdict.{Verdict}
-use Rattle.rules.specs.declared.Verdict.the-variants.{Refused}
+use Rattle.rules.specs.declared.Stop.{Stop}
+use Rattle.rules.specs.Verdict.{stopAt}
 use Rattle.rules.specs.Step.{State, Out, stop, go, Step, onto, after, _⨾_, refuse, check, due, change, pass}
 use Rattle.promises.specs.Words.{All}
 use Rattle.promises.proofs.Each.{all-append}
 
--- Q of every entry, U of the verdict; I is what is asked of a refusal's ids
-module _ (Q : Entry → Type 0) (U : Verdict → Type 0) (I : Refusal → Type 0) where
+-- Q of every entry, U of where it stops; I is what is asked of a refusal's ids
+module _ (Q : Entry → Type 0) (U : Stop → Type 0) (I : Refusal → Type 0) where
   abbrev pub Ok : (State → Type 0) → Out → Type 0
   Ok B (stop es v) = All Q es × U v
   Ok B (go es s) = All Q es × B s
@@ -47,12 +47,12 @@ module _ (Q : Entry → Type 0) (U : Verdict → Type 0) (I : Refusal → Type 0
     pub weaker : {A′ B : State → Type 0} {m : Step} → ((s : State) → A′ s → A s) → Triple A m B → Triple A′ m B
     weaker f h = record { at = λ s a. h .at s (f s a) }
 
-    pub naming : {B : State → Type 0} (r : Refusal) → ((s : State) → A s → U (Refused r (s .place))) → Triple A (refuse r) B
+    pub naming : {B : State → Type 0} (r : Refusal) → ((s : State) → A s → U (stopAt r (s .place))) → Triple A (refuse r) B
     unfolding refuse
     naming r u = record { at = λ s h. (tt, u s h) }
 
     -- where a refusal at the state's place will do
-    module _ (u : (r : Refusal) → I r → (s : State) → A s → U (Refused r (s .place))) where
+    module _ (u : (r : Refusal) → I r → (s : State) → A s → U (stopAt r (s .place))) where
       pub refusing : {B : State → Type 0} (r : Refusal) → I r → Triple A (refuse r) B
       refusing r i = naming r (u r i)
 

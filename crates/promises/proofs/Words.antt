@@ -24,7 +24,7 @@ use Rattle.rules.specs.declared.Ended.the-variants.{After, Never}
 use Rattle.rules.specs.declared.Entry.{Entry}
 use Rattle.rules.specs.declared.Refusal.{Refusal}
 use Rattle.rules.specs.declared.Refusal.the-variants.{PastBound, OrderChanged, LebTooLarge, NoZeroByte, SlotUnset, SlotOfWrongSort, LengthTooLarge, SelectorInNoOption, WrongMagic, WrongUuid, ClockTooLarge}
-use Rattle.rules.specs.declared.Verdict.the-variants.{Refused}
+use Rattle.rules.specs.Verdict.{stopAt}
 use Rattle.rules.specs.Bits.{bits}
 use Rattle.rules.specs.Leb128.{lebUnsigned, lebSigned}
 use Rattle.rules.specs.Clock.{clockAfter}
@@ -39,7 +39,7 @@ use Rattle.rules.specs.Field.{Env, aligned, fit, field, store, newClock, say, r
 use Rattle.rules.specs.Packet.{readRoot}
 use Rattle.leb128.proofs.ValueSays.{unsigned-value, signed-value}
 use Rattle.text.proofs.Laws.{text-le, zero-found}
-use Rattle.promises.specs.Words.{Word, WordEntry, WordIds, WordVerdict}
+use Rattle.promises.specs.Words.{Word, WordEntry, WordIds, WordStop}
 use Rattle.promises.proofs.Law.{SlotOf, Law, FitRoot, law-root}
 use Rattle.promises.proofs.Triple.{Ok, Triple, then, passing, changing, refusing, checks, tested, untested, dued}
 use Rattle.promises.proofs.Values.{value-word, clock-word, WordSlots, slot-word, set-word, slotOf-word}
@@ -62,50 +62,50 @@ pub record Wordy (s : State) : Type 0 where
   pub said : WordSaid (s .said)
 
 abbrev Fine : (State → Type 0) → Step → Type 0
-Fine A m = Triple WordEntry WordVerdict WordIds A m Wordy
+Fine A m = Triple WordEntry WordStop WordIds A m Wordy
 
 abbrev pub Worded : Step → Type 0
-Worded m = Triple WordEntry WordVerdict WordIds Wordy m Wordy
+Worded m = Triple WordEntry WordStop WordIds Wordy m Wordy
 
-pub place-of : (r : Refusal) → WordIds r → (s : State) → Wordy s → WordVerdict (Refused r (s .place))
+pub place-of : (r : Refusal) → WordIds r → (s : State) → Wordy s → WordStop (stopAt r (s .place))
 place-of r i s h = (h .place, i)
 
 infixr 20 _⨾ʷ_
 pub _⨾ʷ_ : {A : State → Type 0} {m n : Step} → Fine A m → Worded n → Fine A (m ⨾ n)
-h ⨾ʷ k = then WordEntry WordVerdict WordIds h k
+h ⨾ʷ k = then WordEntry WordStop WordIds h k
 
-pub word-listed : (x : Entry) (p : BitPlace) (s : State) → WordEntry x → Word (p .0) → Wordy s → Ok WordEntry WordVerdict WordIds Wordy (listed x p s)
+pub word-listed : (x : Entry) (p : BitPlace) (s : State) → WordEntry x → Word (p .0) → Wordy s → Ok WordEntry WordStop WordIds Wordy (listed x p s)
 unfolding listed
 word-listed x p s h k w = ((h, tt), record { place = k; clock = w .clock; slots = w .slots; said = w .said })
 
 pub word-check : (t : State → Bool) (r : Refusal) → WordIds r → Worded (check t r)
-word-check t r i = checks WordEntry WordVerdict WordIds place-of t r i
+word-check t r i = checks WordEntry WordStop WordIds place-of t r i
 
 pub word-pass : Worded pass
-word-pass = passing WordEntry WordVerdict WordIds
+word-pass = passing WordEntry WordStop WordIds
 
 word-refuse : (r : Refusal) → WordIds r → Worded (refuse r)
-word-refuse r i = refusing WordEntry WordVerdict WordIds place-of r i
+word-refuse r i = refusing WordEntry WordStop WordIds place-of r i
 
 pub word-due : {m : Step} → Worded m → Worded (due ⨾ m)
-word-due h = dued WordEntry WordVerdict WordIds place-of tt h
+word-due h = dued WordEntry WordStop WordIds place-of tt h
 
 word-order : (o : LastOrder) → Worded (change (withOrder o))
 unfolding withOrder
-word-order o = changing WordEntry WordVerdict WordIds _ (λ s h. record { place = h .place; clock = h .clock; slots = h .slots; said = h .said })
+word-order o = changing WordEntry WordStop WordIds _ (λ s h. record { place = h .place; clock = h .clock; slots = h .slots; said = h .said })
 
 word-store : (i : ℕ) (x : Content) → SlotOf Word x → Worded (store i x)
 unfolding store withSlots
-word-store i x g = changing WordEntry WordVerdict WordIds _ (λ s h. record { place = h .place; clock = h .clock; slots = set-word (s .slots) i x (h .slots) g; said = h .said })
+word-store i x g = changing WordEntry WordStop WordIds _ (λ s h. record { place = h .place; clock = h .clock; slots = set-word (s .slots) i x (h .slots) g; said = h .said })
 
 word-say : (f : Said → Said) → ((d : Said) → WordSaid d → WordSaid (f d)) → Worded (say f)
 unfolding say withSaid
-word-say f g = changing WordEntry WordVerdict WordIds _ (λ s h. record { place = h .place; clock = h .clock; slots = h .slots; said = g (s .said) (h .said) })
+word-say f g = changing WordEntry WordStop WordIds _ (λ s h. record { place = h .place; clock = h .clock; slots = h .slots; said = g (s .said) (h .said) })
 
 word-newClock : (l : ℕ) (o : Option ℕ) → Word l → ((c : ℕ) → o ≡ some c → Word c) → Worded (newClock l o)
 unfolding newClock
 word-newClock l none g h = word-refuse ClockTooLarge tt
-word-newClock l (some c) g h = by ⨾ʷ changing WordEntry WordVerdict WordIds (withClock c) (λ s w. unfold withClock in record { place = w .place; clock = h c refl; slots = w .slots; said = w .said })
+word-newClock l (some c) g h = by ⨾ʷ changing WordEntry WordStop WordIds (withClock c) (λ s w. unfold withClock in record { place = w .place; clock = h c refl; slots = w .slots; said = w .said })
   where
     by : Worded (λ s. listed (entry clockAdvanced (s .place) l c) (s .place) s)
     by = record { at = λ s w. word-listed (entry clockAdvanced (s .place) l c) (s .place) s (omega arith, w .place, g, h c refl) (w .place) w }
@@ -162,11 +162,11 @@ module _ (e : Env) (g : Env64 e) where
 
   fitting : (a n : ℕ) {m : Step} → Fine (Room a n) m → Worded (fit e a n ⨾ m)
   unfolding fit
-  fitting a n h = tested WordEntry WordVerdict WordIds place-of _ PastBound tt (record { at = λ s x. h .at s (x .0, ltb-false _ _ (x .1)) })
+  fitting a n h = tested WordEntry WordStop WordIds place-of _ PastBound tt (record { at = λ s x. h .at s (x .0, ltb-false _ _ (x .1)) })
 
   plain-fit : (a n : ℕ) {m : Step} → Worded m → Worded (fit e a n ⨾ m)
   unfolding fit
-  plain-fit a n h = untested WordEntry WordVerdict WordIds place-of _ PastBound tt h
+  plain-fit a n h = untested WordEntry WordStop WordIds place-of _ PastBound tt h
 
   a-field : (k a n v : ℕ) → k ≤ 32 → Word v → Fine (Room a n) (field e k a n v)
   unfolding field
@@ -189,7 +189,7 @@ module _ (e : Env) (g : Env64 e) where
   word-fixed : (k : Sort) (n : ℕ) (o : Order) (a i : ℕ) (r : Role) → n ≤ 64 → Worded (readFixed e k n o a i r)
   unfolding readFixed
   word-fixed k n o a i r h =
-      word-due (plain-fit a 0 (untested WordEntry WordVerdict WordIds place-of _ OrderChanged tt (fitting a n (record {
+      word-due (plain-fit a 0 (untested WordEntry WordStop WordIds place-of _ OrderChanged tt (fitting a n (record {
         at = λ s x.
             (let p : ℕ = (aligned e a s) .0 in
             let v : ℕ = bits o (e .bytes) p n in
@@ -199,7 +199,7 @@ module _ (e : Env) (g : Env64 e) where
       }))))
 
   word-leb : (k : ℕ) (sl : ℕ → Content) (i : ℕ) (r : Role) (x : Leb) (s : State) → k ≤ 32 → ((v : ℕ) → Word v → SlotOf Word (sl v)) → Wordy s → (aligned e 8 s) .0 ≤ e .bound .0
-      → LebFits (ahead e (aligned e 8 s)) x → Ok WordEntry WordVerdict WordIds Wordy (readLeb e k sl i r x s)
+      → LebFits (ahead e (aligned e 8 s)) x → Ok WordEntry WordStop WordIds Wordy (readLeb e k sl i r x s)
   unfolding readLeb
   word-leb k sl i r Past s q f h b p = word-refuse PastBound tt .at s h
   word-leb k sl i r Large s q f h b p = word-refuse LebTooLarge tt .at s h
@@ -209,7 +209,7 @@ module _ (e : Env) (g : Env64 e) where
       (a-field k 8 (8 * n .0) v q u ⨾ʷ word-store i (sl v) (f v u) ⨾ʷ word-role r (7 * n .0) v (omega (arith, y .most)) u) .at s
       (h, ahead-fits e (aligned e 8 s) (n .0) b (y .inside))
 
-  word-zero : (x : Ended) (s : State) → Wordy s → (aligned e 8 s) .0 ≤ e .bound .0 → ((n : ByteLength) → x ≡ After n → n .0 < length (ahead e (aligned e 8 s))) → Ok WordEntry WordVerdict WordIds Wordy (readZero e x s)
+  word-zero : (x : Ended) (s : State) → Wordy s → (aligned e 8 s) .0 ≤ e .bound .0 → ((n : ByteLength) → x ≡ After n → n .0 < length (ahead e (aligned e 8 s))) → Ok WordEntry WordStop WordIds Wordy (readZero e x s)
   unfolding readZero
   word-zero Never s h b p = word-refuse NoZeroByte tt .at s h
   word-zero (After n) s h b p =
@@ -236,7 +236,7 @@ module _ (e : Env) (g : Env64 e) where
     unset = word-refuse SlotUnset tt;
     wrongSort = word-refuse SlotOfWrongSort tt;
     inNone = word-refuse SelectorInNoOption tt;
-    within = λ n h. untested WordEntry WordVerdict WordIds place-of _ LengthTooLarge tt h;
+    within = λ n h. untested WordEntry WordStop WordIds place-of _ LengthTooLarge tt h;
     slot = λ i f h. record { at = λ s x. h (slotAt (s .slots) i) (slot-word (s .slots) i (x .slots)) .at s x };
     fixes = λ k n o a i r w. word-fixed k n o (2 ^ a) i r w;
     lebs = λ i r. at-zero (record { at = λ s x. word-leb 21 Unsigned i r (lebUnsigned (ahead e (aligned e 8 s))) s (omega arith) (λ v w. w) (x .0) (x .1) (unsigned-value _) });

@@ -46,7 +46,7 @@ pub record Inside (e : Env) (s : State) : Type 0 where
 
 -- every entry, and where the outcome stops or goes on
 abbrev pub Within : Env → Out → Type 0
-Within e (stop es v) = All (λ x. Between e (x .place .0)) es × Between e (placeOf v)
+Within e (stop es v) = All (λ x. Between e (x .place .0)) es × Between e (v .place .0)
 Within e (go es s) = All (λ x. Between e (x .place .0)) es × Inside e s
 
 -- Readings

@@ -8,8 +8,9 @@ use lib.ListN.{take}
 use lib.Dec.{eqb}
 use Rattle.rules.specs.declared.Entry.{Entry}
 use Rattle.rules.specs.declared.Refusal.the-variants.{StreamClassUnknown, EventClassUnknown}
-use Rattle.rules.specs.declared.Verdict.{Verdict}
+use Rattle.rules.specs.declared.Stop.{Stop}
 use Rattle.rules.specs.declared.Verdict.the-variants.{Refused}
+use Rattle.rules.specs.Verdict.{stopAt}
 use Rattle.rules.specs.Entry.{streamClassFound, eventClassFound}
 use Rattle.rules.specs.Table.{Table, findStream, findEvent}
 use Rattle.rules.specs.Parse.{good, parse}
@@ -19,7 +20,7 @@ use Rattle.promises.specs.Edition.{keep, both, leave}
 -- an entry of a list, by its number from 0, and the refusal that names the class of which it is the finding
 pub record Lost : Type 0 where
   pub index : ℕ
-  pub refusal : Verdict
+  pub refusal : Stop
 
 -- gs and ge say which stream classes and which event classes were left out, by their ids
 module _ (gs : ℕ → Bool) (ge : ℕ → ℕ → Bool) where
@@ -28,18 +29,18 @@ module _ (gs : ℕ → Bool) (ge : ℕ → ℕ → Bool) where
   under i e = elim (eqb (e .kind) streamClassFound) [ true ↦ e .value | false ↦ i ]
 
   -- where an entry is the finding of a class left out, under a stream class id: the refusal that names it, at the entry's place
-  unfoldable pub lost : ℕ → Entry → Option Verdict
+  unfoldable pub lost : ℕ → Entry → Option Stop
   lost i e =
       elim (eqb (e .kind) streamClassFound && gs (e .value)) [
-        | true ↦ some (Refused (StreamClassUnknown (e .value)) (e .place))
-        | false ↦ elim (eqb (e .kind) eventClassFound && ge i (e .value)) [ true ↦ some (Refused (EventClassUnknown i (e .value)) (e .place)) | false ↦ none ]
+        | true ↦ some (stopAt (StreamClassUnknown (e .value)) (e .place))
+        | false ↦ elim (eqb (e .kind) eventClassFound && ge i (e .value)) [ true ↦ some (stopAt (EventClassUnknown i (e .value)) (e .place)) | false ↦ none ]
       ]
 
   unfoldable pub later : Option Lost → Option Lost
   later none = none
   later (some l) = some (record { index = suc (l .index); refusal = l .refusal })
 
-  unfoldable pub front : Option Verdict → Option Lost → Option Lost
+  unfoldable pub front : Option Stop → Option Lost → Option Lost
   front none o = later o
   front (some v) o = some (record { index = 0; refusal = v })
 
@@ -69,7 +70,7 @@ pub record MissingClass (ks : ℕ → Bool) (ke : ℕ → ℕ → Bool) (x : Lis
   pub accepted : parse (leave ks ke x) ≡ good (keep ks (both ks ke) t) []
   -- the full reading lists the finding of a class that was left out
   pub cut : (l : Lost) → missed ks ke t (readAll x b room) ≡ some l
-      → ((readAll (leave ks ke x) b room) .entries ≡ take (l .index) ((readAll x b room) .entries)) × ((readAll (leave ks ke x) b room) .verdict ≡ l .refusal)
+      → ((readAll (leave ks ke x) b room) .entries ≡ take (l .index) ((readAll x b room) .entries)) × ((readAll (leave ks ke x) b room) .verdict ≡ Refused (l .refusal))
   -- it lists none
   pub same : missed ks ke t (readAll x b room) ≡ none → readAll (leave ks ke x) b room ≡ readAll x b room
 
@@ -80,7 +81,7 @@ Demand3 = (ks : ℕ → Bool) (ke : ℕ → ℕ → Bool) (x : List ℕ) (t : Ta
 -- the same as one equation: the short reading is a function of the whole one
 unfoldable pub shortened : Option Lost → Reading → Reading
 shortened none r = r
-shortened (some l) r = record { entries = take (l .index) (r .entries); verdict = l .refusal }
+shortened (some l) r = record { entries = take (l .index) (r .entries); verdict = Refused (l .refusal) }
 
 abbrev pub Demand3≡ : Type 0
 Demand3≡ = (ks : ℕ → Bool) (ke : ℕ → ℕ → Bool) (x : List ℕ) (t : Table) (y : List ℕ) → parse x ≡ good t y → (b : List ℕ) (room : ℕ)

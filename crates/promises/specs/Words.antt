@@ -5,6 +5,7 @@ use Rattle.rules.specs.Read.{Reading}
 use Rattle.rules.specs.declared.Entry.{Entry}
 use Rattle.rules.specs.declared.Refusal.{Refusal}
 use Rattle.rules.specs.declared.Refusal.the-variants.{StreamSize, PastBound, OrderChanged, LebTooLarge, NoZeroByte, SlotUnset, SlotOfWrongSort, LengthTooLarge, SelectorInNoOption, WrongMagic, WrongUuid, StreamClassChanged, StreamClassUnknown, LengthsContradict, ClocksContradict, ClockTooLarge, EventClassUnknown, EventTookNoBits, ClockWentBack, ListFull}
+use Rattle.rules.specs.declared.Stop.{Stop}
 use Rattle.rules.specs.declared.Verdict.{Verdict}
 use Rattle.rules.specs.declared.Verdict.the-variants.{Accepted, TableRefused, Refused}
 
@@ -46,10 +47,13 @@ WordIds EventTookNoBits = Unit {0}
 WordIds ClockWentBack = Unit {0}
 WordIds ListFull = Unit {0}
 
+abbrev pub WordStop : Stop → Type 0
+WordStop v = Word (v .place .0) × WordIds (v .why)
+
 abbrev pub WordVerdict : Verdict → Type 0
 WordVerdict (Accepted p) = Word (p .0)
 WordVerdict (TableRefused n b) = Word n × Word (b .0)
-WordVerdict (Refused r p) = Word (p .0) × WordIds r
+WordVerdict (Refused v) = WordStop v
 
 abbrev pub WordReading : Reading → Type 0
 WordReading r = All WordEntry (r .entries) × WordVerdict (r .verdict)

@@ -15,7 +15,7 @@ use Rattle.rules.specs.Limits.{streamLimit, wordsPerEntry}
 use Rattle.rules.specs.Place.{bitPlace}
 use Rattle.rules.specs.Slots.{noSlots}
 use Rattle.rules.specs.Entry.{words}
-use Rattle.rules.specs.Verdict.{numberOf, placeOf, firstOf, secondOf}
+use Rattle.rules.specs.Verdict.{stopAt, numberOf, placeOf, firstOf, secondOf}
 use Rattle.rules.specs.Step.{State, Out, stop, go}
 use Rattle.rules.specs.Table.{Table, Asked, asked}
 use Rattle.rules.specs.Parse.{Parsed, bad, good, parse, byteOf}
@@ -41,7 +41,7 @@ listAfter r old = words (r .entries) ++ drop (wordsPerEntry * length (r .entries
 
 -- "Accepted: 8 times the bytes", where a reading that goes through ends
 unfoldable pub ended : Out → Reading
-ended (stop es v) = record { entries = es; verdict = v }
+ended (stop es v) = record { entries = es; verdict = Refused v }
 ended (go es s) = record { entries = es; verdict = Accepted (s .place) }
 
 unfoldable pub begin : ℕ → State
@@ -51,7 +51,7 @@ begin room = record { place = bitPlace 0; room = room; slots = noSlots; order = 
 unfoldable pub readStream : Asked → List ℕ → ℕ → Reading
 readStream t b room =
     elim (eqb (length b) 0 || ltb streamLimit (length b)) [
-      | true ↦ record { entries = []; verdict = Refused StreamSize (bitPlace 0) }
+      | true ↦ record { entries = []; verdict = Refused (stopAt StreamSize (bitPlace 0)) }
       | false ↦ ended (readPackets t b 0 Missing (length b) (begin room))
     ]
 

@@ -9,10 +9,10 @@ use Rattle.rules.specs.declared.Said.{Said}
 use Rattle.rules.specs.declared.Entry.{Entry}
 use Rattle.rules.specs.declared.Refusal.{Refusal}
 use Rattle.rules.specs.declared.Refusal.the-variants.{ListFull}
-use Rattle.rules.specs.declared.Verdict.{Verdict}
-use Rattle.rules.specs.declared.Verdict.the-variants.{Refused}
+use Rattle.rules.specs.declared.Stop.{Stop}
 use Rattle.rules.specs.Limits.{wordsPerEntry}
 use Rattle.rules.specs.Slots.{Slots}
+use Rattle.rules.specs.Verdict.{stopAt}
 
 -- the place; the words that the list has left; the slots; the order of the packet's last field of kind 16 to 20; the clock; the last
 -- event's clock; what the roles said
@@ -25,9 +25,9 @@ pub record State : Type 0 where
   pub last : ℕ
   pub said : Said
 
--- the entries that a step listed, and the verdict or the state behind it. "Entries stay" (Refusing a stream)
+-- the entries that a step listed, and why it stopped or the state behind it. "Entries stay" (Refusing a stream)
 pub data Out : Type 0 where
-  stop : List Entry → Verdict → Out
+  stop : List Entry → Stop → Out
   go : List Entry → State → Out
 
 abbrev pub Step : Type 0
@@ -52,7 +52,7 @@ pass s = go [] s
 
 -- "The place is where the failing step began" (Refusing a stream)
 unfoldable pub refuse : Refusal → Step
-refuse r s = stop [] (Refused r (s .place))
+refuse r s = stop [] (stopAt r (s .place))
 
 -- refused where a test holds
 unfoldable pub check : (State → Bool) → Refusal → Step

@@ -2,8 +2,13 @@
 use Prim.Native.Nat.{ℕ}
 use Rattle.rules.specs.declared.Refusal.{Refusal}
 use Rattle.rules.specs.declared.Refusal.the-variants.{StreamSize, PastBound, OrderChanged, LebTooLarge, NoZeroByte, SlotUnset, SlotOfWrongSort, LengthTooLarge, SelectorInNoOption, WrongMagic, WrongUuid, StreamClassChanged, StreamClassUnknown, LengthsContradict, ClocksContradict, ClockTooLarge, EventClassUnknown, EventTookNoBits, ClockWentBack, ListFull}
+use Rattle.rules.specs.declared.BitPlace.{BitPlace}
+use Rattle.rules.specs.declared.Stop.{Stop}
 use Rattle.rules.specs.declared.Verdict.{Verdict}
 use Rattle.rules.specs.declared.Verdict.the-variants.{Accepted, TableRefused, Refused}
+
+abbrev pub stopAt : Refusal → BitPlace → Stop
+stopAt r p = record { why = r; place = p }
 
 unfoldable pub refusalNumber : Refusal → ℕ
 refusalNumber StreamSize = 21
@@ -76,19 +81,19 @@ refusalSecond ListFull = 0
 unfoldable pub numberOf : Verdict → ℕ
 numberOf (Accepted p) = 0
 numberOf (TableRefused n b) = 20
-numberOf (Refused r p) = refusalNumber r
+numberOf (Refused v) = refusalNumber (v .why)
 
 unfoldable pub placeOf : Verdict → ℕ
 placeOf (Accepted p) = p .0
 placeOf (TableRefused n b) = b .0
-placeOf (Refused r p) = p .0
+placeOf (Refused v) = v .place .0
 
 unfoldable pub firstOf : Verdict → ℕ
 firstOf (Accepted p) = 0
 firstOf (TableRefused n b) = n
-firstOf (Refused r p) = refusalFirst r
+firstOf (Refused v) = refusalFirst (v .why)
 
 unfoldable pub secondOf : Verdict → ℕ
 secondOf (Accepted p) = 0
 secondOf (TableRefused n b) = 0
-secondOf (Refused r p) = refusalSecond r
+secondOf (Refused v) = refusalSecond (v .why)

@@ -94,11 +94,17 @@ pub enum Refusal {
     ListFull,
 }
 
+// Why a stream is refused, and where.
+pub struct Stop {
+    pub why: Refusal,
+    pub place: BitPlace,
+}
+
 // How a reading ends. A refused table has a number and a byte; all else has a place in bits.
 pub enum Verdict {
     Accepted(BitPlace),
     TableRefused(u8, ByteLength),
-    Refused(Refusal, BitPlace),
+    Refused(Stop),
 }
 
 // What a reading answers beside the list. The place counts bits from the stream's start; of a refused table (20) it is a byte.
