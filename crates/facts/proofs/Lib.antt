@@ -5,3 +5,4 @@ pub mod Truth
 pub mod Refusals
 pub mod Steps
 pub mod Lists
+pub mod Cases

@@ -23,6 +23,16 @@ bodyIn row = elim (known (row .1 [])) [ true ↦ Bytes (row .0) | false ↦ Unkn
 unfoldable pub bodyOf : ℕ → Body
 bodyOf kind = bodyIn (getD layouts kind no)
 
+-- the same as a number: the body's bytes, or a mark where there is no such kind
+abbrev pub noKind : ℕ
+noKind = 255
+
+unfoldable pub mark : Layout → ℕ
+mark row = elim (known (row .1 [])) [ true ↦ row .0 | false ↦ noKind ]
+
+unfoldable pub bodyMark : ℕ → ℕ
+bodyMark kind = mark (getD layouts kind no)
+
 -- "unknown kind" (2)
 unfoldable pub bodyNumber : Body → ℕ
 bodyNumber (Bytes n) = 0

@@ -1,7 +1,7 @@
 // "Each record is one byte of kind, then a body whose length the kind fixes" (The class table): a constant table of body lengths by
 // kind, and what it says.
 ghost use mathlib.Core.Path.{_≡_};
-ghost use Rattle.table.specs.Bodies.{bodyOf};
+ghost use Rattle.table.specs.Bodies.{bodyMark, bodyOf};
 
 // A kind's body: so many bytes; or there is no such kind.
 pub enum Body {
@@ -12,7 +12,7 @@ pub enum Body {
 const LAST_KIND: u8 = 34;
 
 // Stands in the table where there is no such kind.
-const NO_KIND: u8 = 255;
+pub(crate) const NO_KIND: u8 = 255;
 
 // By kind, 0 to 34.
 const BODY_LENGTHS: [u8; 35] = [
@@ -53,14 +53,21 @@ const BODY_LENGTHS: [u8; 35] = [
     1, // 34 option
 ];
 
+// The body's bytes, or the mark.
+pub(crate) fn mark_of(kind: u8) -> u8
+    ensures { λ r. ⌜ r ≡ bodyMark kind ⌝ }
+{
+    if LAST_KIND < kind {
+        return NO_KIND;
+    }
+    let place = kind as usize;
+    BODY_LENGTHS[place]
+}
+
 pub fn body_of(kind: u8) -> Body
     ensures { λ r. ⌜ r ≡ bodyOf kind ⌝ }
 {
-    if LAST_KIND < kind {
-        return Body::Unknown;
-    }
-    let place = kind as usize;
-    let length = BODY_LENGTHS[place];
+    let length = mark_of(kind);
     if length == NO_KIND {
         return Body::Unknown;
     }

@@ -1,29 +1,22 @@
--- The code's constant is the list of the rules' rows: antt computes both to the same numbers.
-use native.Mathlib.Omega.{arith}
+-- The mark says whether there is such a kind, and else is the body's length.
+use mathlib.Core.Path.{_∙_, ap, sym}
 use borrow.Author.Needs.{needs}
-use Rattle.rules.specs.Record.{no, bitsLayout, layouts}
-use Rattle.table.specs.Bodies.{known}
-use Rattle.table.proofs.Rows.{mark, marks, mark-fits, mark-unknown, mark-known, above-unknown}
+use Rattle.table.specs.declared.bodies.Body.the-variants.{Bytes}
+use Rattle.table.proofs.Rows.{mark-unknown, mark-known}
 use Rattle.table.proofs.bodies.body_of.Statement.{statement}
 use Rattle.table.proofs.bodies.body_of.Tie as tie
 
-returns : tie.Need-returns
-returns c = above-unknown (c .before .args .kind) (omega arith)
+mark-of-requires : tie.Need-mark-of-requires
+mark-of-requires c κs = search needs
 
-array-read-length : tie.Need-array-read-length
-array-read-length c = search needs
+returns : tie.Need-returns
+returns c = mark-unknown _ (sym (c .before .mark-of .ensures) ∙ c .if1 .taken)
+
+cast-t4 : tie.Need-cast-t4
+cast-t4 c = search needs
 
 returns-2 : tie.Need-returns-2
-unfolding marks mark known layouts no bitsLayout
-returns-2 c = mark-unknown _ (omega arith) (c .if2 .taken)
-
-cast-t9 : tie.Need-cast-t9
-unfolding marks mark known layouts no bitsLayout
-cast-t9 c = omega (arith, mark-fits (c .before .before .args .kind) (omega arith))
-
-returns-3 : tie.Need-returns-3
-unfolding marks mark known layouts no bitsLayout
-returns-3 c = mark-known _ (omega arith) (c .if2 .left)
+returns-2 c = ap Bytes (c .before .mark-of .ensures) ∙ mark-known _ (λ e. c .if1 .left (c .before .mark-of .ensures ∙ e))
 
 pub body-of-spec : {M : Type 1} → statement M
-body-of-spec = tie.close (tie.spec returns array-read-length returns-2 cast-t9 returns-3)
+body-of-spec = tie.close (tie.spec mark-of-requires returns cast-t4 returns-2)
