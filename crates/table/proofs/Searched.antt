@@ -1,7 +1,7 @@
 -- Loops that look for an id or for a range that meets: one turn, and none left.
-use mathlib.Core.Path.{_≡_, refl}
+use mathlib.Core.Path.{_≡_, refl, sym, _∙_}
 use mathlib.Core.Bool.{Bool, true, false, _&&_}
-use mathlib.Core.List.{List, _∷_}
+use mathlib.Core.List.{List}
 use Prim.Native.Nat.{ℕ, zero, suc, _+_, _-_, _<_, _≤_}
 use native.Mathlib.Omega.{arith}
 use lib.Dec.{ltb, eqb}
@@ -22,24 +22,25 @@ unfolding same
 same-none t a b zero h = refl
 same-none t a b (suc i) h = absurd (omega arith)
 
--- the fragments so far
+-- the fragments so far, whose places are the first i of xs; w is whether any is named, and what is left to ask
 
-named-cons : (t : List ℕ) (k at n o : ℕ) (os : List ℕ) → named t k at n (o ∷ os) ≡ pickB (isNamed t k at n o) true (named t k at n os)
-unfolding named
-named-cons t k at n o os = refl
+module _ (w : Bool) (t : List ℕ) (k at n : ℕ) (xs : List ℕ) (i : ℕ) (so-far : w ≡ named t k at n (latest xs i)) where
+  pub named-none : i ≤ 0 → false ≡ w
+  unfolding named
+  named-none h = sym (so-far ∙ rw (latest-none xs i h))
 
-pub named-hit : (t : List ℕ) (k at n : ℕ) (xs : List ℕ) (i : ℕ) → 0 < i → isNamed t k at n (getD xs (i - 1) 0) ≡ true → named t k at n (latest xs i) ≡ true
-unfolding pickB
-named-hit t k at n xs i h e = rw (latest-step xs i h, named-cons, e)
+  module _ (more : 0 < i) (o : ℕ) (there : o ≡ getD xs (i - 1) 0) (b : Bool) (asked : b ≡ isNamed t k at n o) where
+    named-on : w ≡ pickB b true (named t k at n (latest xs (i - 1)))
+    unfolding named
+    named-on = so-far ∙ rw (latest-step xs i more, ← there, ← asked)
 
-pub named-miss : (t : List ℕ) (k at n : ℕ) (xs : List ℕ) (i : ℕ) → 0 < i → isNamed t k at n (getD xs (i - 1) 0) ≡ false
-    → named t k at n (latest xs i) ≡ named t k at n (latest xs (i - 1))
-unfolding pickB
-named-miss t k at n xs i h e = rw (latest-step xs i h, named-cons, e)
+    pub named-hit : b ≡ true → true ≡ w
+    unfolding pickB
+    named-hit e = sym (named-on ∙ rw e)
 
-pub named-none : (t : List ℕ) (k at n : ℕ) (xs : List ℕ) (i : ℕ) → i ≤ 0 → named t k at n (latest xs i) ≡ false
-unfolding named
-named-none t k at n xs i h = rw (latest-none xs i h)
+    pub named-miss : b ≡ false → w ≡ named t k at n (latest xs (i - 1))
+    unfolding pickB
+    named-miss e = named-on ∙ rw e
 
 -- the ranges of an option
 
@@ -54,25 +55,25 @@ unfolding meetsOne
 one-none t sign low high at zero h = refl
 one-none t sign low high at (suc n) h = absurd (omega arith)
 
--- the earlier options
+-- the earlier options, whose places are the first i of xs; w is whether any meets, and what is left to ask
 
-any-cons : (t : List ℕ) (sign low high o : ℕ) (os : List ℕ)
-    → meetsAny t sign low high (o ∷ os) ≡ pickB (meetsOption t sign low high o) true (meetsAny t sign low high os)
-unfolding meetsAny
-any-cons t sign low high o os = refl
+module _ (w : Bool) (t : List ℕ) (sign low high : ℕ) (xs : List ℕ) (i : ℕ) (so-far : w ≡ meetsAny t sign low high (latest xs i)) where
+  pub any-none : i ≤ 0 → false ≡ w
+  unfolding meetsAny
+  any-none h = sym (so-far ∙ rw (latest-none xs i h))
 
-pub any-hit : (t : List ℕ) (s l h : ℕ) (xs : List ℕ) (i : ℕ) → 0 < i → meetsOption t s l h (getD xs (i - 1) 0) ≡ true → meetsAny t s l h (latest xs i) ≡ true
-unfolding pickB
-any-hit t s l h xs i p e = rw (latest-step xs i p, any-cons, e)
+  module _ (more : 0 < i) (o : ℕ) (there : o ≡ getD xs (i - 1) 0) (b : Bool) (asked : b ≡ meetsOption t sign low high o) where
+    any-on : w ≡ pickB b true (meetsAny t sign low high (latest xs (i - 1)))
+    unfolding meetsAny
+    any-on = so-far ∙ rw (latest-step xs i more, ← there, ← asked)
 
-pub any-miss : (t : List ℕ) (s l h : ℕ) (xs : List ℕ) (i : ℕ) → 0 < i → meetsOption t s l h (getD xs (i - 1) 0) ≡ false
-    → meetsAny t s l h (latest xs i) ≡ meetsAny t s l h (latest xs (i - 1))
-unfolding pickB
-any-miss t s l h xs i p e = rw (latest-step xs i p, any-cons, e)
+    pub any-hit : b ≡ true → true ≡ w
+    unfolding pickB
+    any-hit e = sym (any-on ∙ rw e)
 
-pub any-none : (t : List ℕ) (s l h : ℕ) (xs : List ℕ) (i : ℕ) → i ≤ 0 → meetsAny t s l h (latest xs i) ≡ false
-unfolding meetsAny
-any-none t s l h xs i p = rw (latest-none xs i p)
+    pub any-miss : b ≡ false → w ≡ meetsAny t sign low high (latest xs (i - 1))
+    unfolding pickB
+    any-miss e = any-on ∙ rw e
 
 -- a record behind the end is no fragment
 

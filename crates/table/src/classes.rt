@@ -18,8 +18,9 @@ use super::roles::LAST_ROLE;
 use super::roles::role_ok;
 ghost use mathlib.Core.Path.{_≡_};
 ghost use mathlib.Core.List.{[]};
-ghost use Prim.Native.Nat.{_≤_, _<_, _+_};
+ghost use Prim.Native.Nat.{_≤_, _<_, _+_, _^_};
 ghost use lib.ListN.{length};
+ghost use Rattle.rules.specs.Limits.{tableLimit};
 ghost use Rattle.table.specs.Check.{lengthOk, countOk, numberFault, slotFault, kindFault, classFault, membersAt, optionsAt, classAt};
 
 // "Length is 1 to 64 bits", of a float "32 or 64".
@@ -152,7 +153,7 @@ fn class_fault(table: &[u8], under: Under, left: usize, at: usize) -> u8
 
 // The class at `at` with so many depths left, its own among them.
 pub(crate) fn check_class(table: &[u8], under: Under, left: usize, at: usize) -> Walk
-    requires { ⌜ length (now table) ≤ 65536 ⌝ }
+    requires { ⌜ length (now table) ≤ tableLimit ⌝ }
     ensures { λ r. ⌜ r ≡ classAt under left (now (table .entry)) at ⌝ }
 {
     let f = class_fault(table, under, left, at);
@@ -182,7 +183,7 @@ pub(crate) fn check_class(table: &[u8], under: Under, left: usize, at: usize) ->
 }
 
 fn check_members(table: &[u8], under: Under, left: usize, at: usize, count: usize) -> Walk
-    requires { ⌜ length (now table) ≤ 65536 ⌝ }
+    requires { ⌜ length (now table) ≤ tableLimit ⌝ }
     ensures { λ r. ⌜ r ≡ membersAt (classAt under left (now (table .entry))) at count ⌝ }
 {
     let mut next = at;
@@ -204,7 +205,7 @@ fn check_members(table: &[u8], under: Under, left: usize, at: usize, count: usiz
 
 // The options of a variant, each with its ranges and its class. The first range, two bytes on, gives the sign of all.
 fn check_options(table: &[u8], under: Under, left: usize, at: usize, count: usize) -> Walk
-    requires { ⌜ (length (now table) ≤ 65536) × ((at < 4611686018427387904) × (count ≤ 32)) ⌝ }
+    requires { ⌜ (length (now table) ≤ tableLimit) × ((at < 2 ^ 62) × (count ≤ 32)) ⌝ }
     ensures { λ r. ⌜ r ≡ optionsAt (classAt under left (now (table .entry))) (now (table .entry)) (at + 2) [] at count ⌝ }
 {
     let mut done = [0u32; limits::OPTION_LIMIT];

@@ -14,9 +14,10 @@ use rules::Checked;
 ghost use mathlib.Core.Path.{_≡_};
 ghost use mathlib.Core.Bool.{false};
 ghost use mathlib.Core.List.{[]};
-ghost use Prim.Native.Nat.{_≤_, _<_, _+_, _-_};
+ghost use Prim.Native.Nat.{_≤_, _<_, _+_, _-_, _^_};
 ghost use lib.Dec.{ltb};
 ghost use lib.ListN.{length, getD};
+ghost use Rattle.rules.specs.Limits.{tableLimit};
 ghost use Rattle.table.specs.Check.{pickN, same as sameBytes, isNamed, named as namedIn, latest, orderFault, openFault, fragmentFault, lowest as lowestOf, traced as tracedBy, counted as countedOf, fragmentsAt, firstFault};
 
 // One place more than the limit: a trace class, which does not count, may stand behind the last fragment that does.
@@ -43,7 +44,7 @@ pub(crate) fn first_fault(table: &[u8]) -> u8
 
 // Whether n bytes from a on are those from b on.
 fn same(table: &[u8], a: usize, b: usize, n: usize) -> bool
-    requires { ⌜ (a + n < 9223372036854775808) × (b + n < 9223372036854775808) ⌝ }
+    requires { ⌜ (a + n < 2 ^ 63) × (b + n < 2 ^ 63) ⌝ }
     ensures { λ r. ⌜ r ≡ sameBytes (now (table .entry)) a b n ⌝ }
 {
     let mut i = n;
@@ -58,7 +59,7 @@ fn same(table: &[u8], a: usize, b: usize, n: usize) -> bool
 
 // Whether the fragment at o is of the kind and has the id of `size` bytes that stands at `at`.
 fn is_named(table: &[u8], kind: u8, at: usize, size: usize, o: usize) -> bool
-    requires { ⌜ (at + size < 9223372036854775808) × (o + size + 1 < 9223372036854775808) ⌝ }
+    requires { ⌜ (at + size < 2 ^ 63) × (o + size + 1 < 2 ^ 63) ⌝ }
     ensures { λ r. ⌜ r ≡ isNamed (now (table .entry)) kind at size o ⌝ }
 {
     if byte(table, o) != kind {
@@ -69,7 +70,7 @@ fn is_named(table: &[u8], kind: u8, at: usize, size: usize, o: usize) -> bool
 
 // Whether that holds of one of the fragments at the first n places of `seen`.
 fn named(table: &[u8], kind: u8, at: usize, size: usize, seen: &[u32; PLACES], n: usize) -> bool
-    requires { ⌜ (at + size < 9223372036854775808) × ((size ≤ 16) × (n ≤ 513)) ⌝ }
+    requires { ⌜ (at + size < 2 ^ 63) × ((size ≤ 16) × (n ≤ 513)) ⌝ }
     ensures { λ r. ⌜ r ≡ namedIn (now (table .entry)) kind at size (latest (now (seen .entry)) n) ⌝ }
 {
     let mut i = n;
@@ -84,7 +85,7 @@ fn named(table: &[u8], kind: u8, at: usize, size: usize, seen: &[u32; PLACES], n
 
 // Numbers 4 to 8 of a fragment behind the preamble, or 0. An id of no bytes stands for any.
 fn order_fault(table: &[u8], trace: bool, seen: &[u32; PLACES], n: usize, at: usize) -> u8
-    requires { ⌜ (n ≤ 513) × (at < 4611686018427387904) ⌝ }
+    requires { ⌜ (n ≤ 513) × (at < 2 ^ 62) ⌝ }
     ensures { λ r. ⌜ r ≡ orderFault (now (table .entry)) trace (latest (now (seen .entry)) n) at (getD (now (table .entry)) at 0) ⌝ }
 {
     let k = byte(table, at);
@@ -142,7 +143,7 @@ fn many_fault(n: usize) -> u8
 
 // Numbers 9, 10 and 15 of a record where a fragment is due, or 0.
 fn open_fault(table: &[u8], n: usize, at: usize) -> u8
-    requires { ⌜ at < 4611686018427387904 ⌝ }
+    requires { ⌜ at < 2 ^ 62 ⌝ }
     ensures { λ r. ⌜ r ≡ openFault (now (table .entry)) n at (getD (now (table .entry)) at 0) ⌝ }
 {
     let k = byte(table, at);
@@ -170,7 +171,7 @@ fn open_fault(table: &[u8], n: usize, at: usize) -> u8
 
 // The lowest number of the record at `at` as a fragment behind n others, or 0.
 fn fragment_fault(table: &[u8], trace: bool, seen: &[u32; PLACES], n: usize, at: usize) -> u8
-    requires { ⌜ (n ≤ 513) × (length (now table) ≤ 65536) ⌝ }
+    requires { ⌜ (n ≤ 513) × (length (now table) ≤ tableLimit) ⌝ }
     ensures { λ r. ⌜ r ≡ fragmentFault (now (table .entry)) trace (latest (now (seen .entry)) n) n at ⌝ }
 {
     let h = head_fault(table, at);
@@ -186,7 +187,7 @@ fn fragment_fault(table: &[u8], trace: bool, seen: &[u32; PLACES], n: usize, at:
 
 // The lowest number of a record that has the number m as a class, a root, a range or an option: a fragment there may have one from 4 to 8.
 fn lowest(table: &[u8], trace: bool, seen: &[u32; PLACES], n: usize, m: u8, at: usize) -> u8
-    requires { ⌜ (n ≤ 513) × (length (now table) ≤ 65536) ⌝ }
+    requires { ⌜ (n ≤ 513) × (length (now table) ≤ tableLimit) ⌝ }
     ensures { λ r. ⌜ r ≡ lowestOf (now (table .entry)) trace (latest (now (seen .entry)) n) m at ⌝ }
 {
     if m < faults::PREAMBLE_MISPLACED {
@@ -216,7 +217,7 @@ fn traced(trace: bool, k: u8) -> bool
 
 // The fragments behind the preamble, which ends at `at`.
 pub(crate) fn check_fragments(table: &[u8], at: usize) -> Checked
-    requires { ⌜ (length (now table) ≤ 65536) × (at < 65537) ⌝ }
+    requires { ⌜ (length (now table) ≤ tableLimit) × (at ≤ tableLimit) ⌝ }
     ensures { λ r. ⌜ r ≡ fragmentsAt (length (now (table .entry)) - at) (now (table .entry)) false [] at ⌝ }
 {
     let mut seen = [0u32; PLACES];

@@ -13,7 +13,7 @@ pub(crate) fn byte(table: &[u8], i: usize) -> u8
 
 // The number of n bytes, "little-endian".
 pub(crate) fn number(table: &[u8], at: usize, n: usize) -> u64
-    requires { ⌜ (n ≤ 8) × (at < 9223372036854775808) ⌝ }
+    requires { ⌜ (n ≤ 8) × (at < 2 ^ 63) ⌝ }
     ensures { λ r. ⌜ (r ≡ numberAt (now (table .entry)) at n) × (r < 256 ^ n) ⌝ }
 {
     let mut i = n;
@@ -27,8 +27,8 @@ pub(crate) fn number(table: &[u8], at: usize, n: usize) -> u64
 
 // The number of two bytes.
 pub(crate) fn two(table: &[u8], at: usize) -> usize
-    requires { ⌜ at < 9223372036854775808 ⌝ }
-    ensures { λ r. ⌜ (r ≡ u16 (now (table .entry)) at) × (r < 65536) ⌝ }
+    requires { ⌜ at < 2 ^ 63 ⌝ }
+    ensures { λ r. ⌜ (r ≡ u16 (now (table .entry)) at) × (r < 2 ^ 16) ⌝ }
 {
     wide(byte(table, at)) + 256 * wide(byte(table, at + 1))
 }
@@ -43,20 +43,20 @@ pub(crate) fn within(x: u8, low: u8, high: u8) -> bool
 }
 
 pub(crate) fn wide(x: u8) -> usize
-    ensures { λ r. ⌜ (r ≡ x) × (r < 256) ⌝ }
+    ensures { λ r. ⌜ (r ≡ x) × (r < 2 ^ 8) ⌝ }
 {
     x as usize
 }
 
 // A place in a table, as the arrays of places hold it.
 pub(crate) fn wide32(x: u32) -> usize
-    ensures { λ r. ⌜ (r ≡ x) × (r < 4294967296) ⌝ }
+    ensures { λ r. ⌜ (r ≡ x) × (r < 2 ^ 32) ⌝ }
 {
     x as usize
 }
 
 fn wide64(x: u8) -> u64
-    ensures { λ r. ⌜ (r ≡ x) × (r < 256) ⌝ }
+    ensures { λ r. ⌜ (r ≡ x) × (r < 2 ^ 8) ⌝ }
 {
     x as u64
 }

@@ -11,7 +11,7 @@ use super::numbers::wide32;
 use super::numbers::within;
 use super::records::head_fault;
 ghost use mathlib.Core.Path.{_≡_};
-ghost use Prim.Native.Nat.{_≤_, _<_, _+_, _*_};
+ghost use Prim.Native.Nat.{_≤_, _<_, _+_, _*_, _^_};
 ghost use Rattle.table.specs.Check.{key as keyOf, meetsHere, meetsOne, meetsOption, meetsAny, boundsFault, rangeFault, optionFault, rangesAt, latest};
 
 // Half of the 64-bit words.
@@ -33,7 +33,7 @@ fn key(sign: u8, x: u64) -> u64
 
 // Whether low to high meets the range at `at`.
 fn meets_here(table: &[u8], sign: u8, low: u64, high: u64, at: usize) -> bool
-    requires { ⌜ at + 10 < 9223372036854775808 ⌝ }
+    requires { ⌜ at + 10 < 2 ^ 63 ⌝ }
     ensures { λ r. ⌜ r ≡ meetsHere (now (table .entry)) sign low high at ⌝ }
 {
     if key(sign, number(table, at + 10, 8)) < low {
@@ -44,7 +44,7 @@ fn meets_here(table: &[u8], sign: u8, low: u64, high: u64, at: usize) -> bool
 
 // Whether low to high meets one of the n ranges from `at` on.
 fn meets_one(table: &[u8], sign: u8, low: u64, high: u64, at: usize, n: usize) -> bool
-    requires { ⌜ at + 18 * n < 9223372036854775808 ⌝ }
+    requires { ⌜ at + 18 * n < 2 ^ 63 ⌝ }
     ensures { λ r. ⌜ r ≡ meetsOne (now (table .entry)) sign low high at n ⌝ }
 {
     let mut next = at;
@@ -61,7 +61,7 @@ fn meets_one(table: &[u8], sign: u8, low: u64, high: u64, at: usize, n: usize) -
 
 // Whether low to high meets one of the ranges of the option at o.
 fn meets_option(table: &[u8], sign: u8, low: u64, high: u64, o: usize) -> bool
-    requires { ⌜ o < 4294967296 ⌝ }
+    requires { ⌜ o < 2 ^ 32 ⌝ }
     ensures { λ r. ⌜ r ≡ meetsOption (now (table .entry)) sign low high o ⌝ }
 {
     meets_one(
@@ -107,7 +107,7 @@ fn bounds_fault(
     low: u64,
     high: u64,
 ) -> u8
-    requires { ⌜ (n ≤ 32) × (first < 9223372036854775808) ⌝ }
+    requires { ⌜ (n ≤ 32) × (first < 2 ^ 63) ⌝ }
     ensures { λ r. ⌜ r ≡ boundsFault (now (table .entry)) first (latest (now (done .entry)) n) sign low high ⌝ }
 {
     if high < low {
@@ -130,7 +130,7 @@ fn range_fault(
     n: usize,
     at: usize,
 ) -> u8
-    requires { ⌜ (n ≤ 32) × (first < 9223372036854775808) ⌝ }
+    requires { ⌜ (n ≤ 32) × (first < 2 ^ 63) ⌝ }
     ensures { λ r. ⌜ r ≡ rangeFault (now (table .entry)) first (latest (now (done .entry)) n) at ⌝ }
 {
     let h = head_fault(table, at);
@@ -157,7 +157,7 @@ pub(crate) fn check_ranges(
     at: usize,
     count: usize,
 ) -> Walk
-    requires { ⌜ (n ≤ 32) × (first < 9223372036854775808) ⌝ }
+    requires { ⌜ (n ≤ 32) × (first < 2 ^ 63) ⌝ }
     ensures { λ r. ⌜ r ≡ rangesAt (now (table .entry)) first (latest (now (done .entry)) n) at count ⌝ }
 {
     let mut next = at;

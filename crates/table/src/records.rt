@@ -10,7 +10,7 @@ use super::numbers::two;
 use super::numbers::wide;
 use super::roles::NO_ROLE;
 ghost use mathlib.Core.Path.{_≡_};
-ghost use Prim.Native.Nat.{_≤_, _<_, _+_};
+ghost use Prim.Native.Nat.{_≤_, _<_, _+_, _^_};
 ghost use lib.ListN.{getD};
 ghost use Rattle.table.specs.Check.{headFault, bitsSay, say, saysAt};
 
@@ -33,7 +33,7 @@ pub(crate) fn head_fault(table: &[u8], at: usize) -> u8
 
 // What the class record at `at` says. The body's bytes are read before its kind is looked at; a kind uses those that it has.
 pub(crate) fn record_says(table: &[u8], at: usize) -> Says
-    requires { ⌜ (at + 1 < 9223372036854775808) × ((16 ≤ getD (now table) at 0) × (getD (now table) at 0 ≤ 32)) ⌝ }
+    requires { ⌜ (at + 1 < 2 ^ 63) × ((16 ≤ getD (now table) at 0) × (getD (now table) at 0 ≤ 32)) ⌝ }
     ensures { λ r. ⌜ r ≡ saysAt (now (table .entry)) at ⌝ }
 {
     let k = byte(table, at);
@@ -73,7 +73,7 @@ pub(crate) fn record_says(table: &[u8], at: usize) -> Says
 
 // Kinds 16 to 20: "length, order, align" come first.
 fn fixed(table: &[u8], at: usize, kind: u8, sets: u8, role: u8) -> Says
-    requires { ⌜ at < 9223372036854775808 ⌝ }
+    requires { ⌜ at < 2 ^ 63 ⌝ }
     ensures { λ r. ⌜ r ≡ bitsSay (now (table .entry)) at kind sets role ⌝ }
 {
     Says {

@@ -8,8 +8,9 @@ use super::limits;
 use super::numbers::byte;
 use super::records::head_fault;
 ghost use mathlib.Core.Path.{_≡_};
-ghost use Prim.Native.Nat.{_≤_, _<_, _+_};
+ghost use Prim.Native.Nat.{_≤_, _<_, _+_, _^_};
 ghost use lib.ListN.{length, getD};
+ghost use Rattle.rules.specs.Limits.{tableLimit};
 ghost use Rattle.table.specs.Check.{rootHere, rootAt, stray as strayAt, rootsAt, rootsOf};
 
 // Whether a whole record of the root n stands at `at`.
@@ -47,7 +48,7 @@ pub(crate) fn stray(table: &[u8], at: usize) -> u8
 
 // The class of the root n where that stands at `at`.
 fn check_root(table: &[u8], timed: bool, uuid: bool, n: u8, at: usize) -> Walk
-    requires { ⌜ length (now table) ≤ 65536 ⌝ }
+    requires { ⌜ length (now table) ≤ tableLimit ⌝ }
     ensures { λ r. ⌜ r ≡ rootAt (now (table .entry)) timed uuid n at ⌝ }
 {
     if root_here(table, n, at) {
@@ -64,7 +65,7 @@ fn check_root(table: &[u8], timed: bool, uuid: bool, n: u8, at: usize) -> Walk
 
 // So many roots from the number `first` on, each there or not, and no root behind them.
 fn check_roots(table: &[u8], timed: bool, uuid: bool, first: u8, count: usize, at: usize) -> Walk
-    requires { ⌜ (length (now table) ≤ 65536) × (first + count ≤ 6) ⌝ }
+    requires { ⌜ (length (now table) ≤ tableLimit) × (first + count ≤ 6) ⌝ }
     ensures { λ r. ⌜ r ≡ rootsAt (now (table .entry)) timed uuid first at count ⌝ }
 {
     let mut next = at;
@@ -92,7 +93,7 @@ fn check_roots(table: &[u8], timed: bool, uuid: bool, first: u8, count: usize, a
 
 // The roots behind the fragment at `at`: "root 0 under a trace class, 1 to 3 under a stream class, 4 and 5 under an event class".
 pub(crate) fn roots_of(table: &[u8], at: usize) -> Walk
-    requires { ⌜ (length (now table) ≤ 65536) × ((at < 4611686018427387904) × ((2 ≤ getD (now table) at 0) × (getD (now table) at 0 ≤ 5))) ⌝ }
+    requires { ⌜ (length (now table) ≤ tableLimit) × ((at < 2 ^ 62) × ((2 ≤ getD (now table) at 0) × (getD (now table) at 0 ≤ 5))) ⌝ }
     ensures { λ r. ⌜ r ≡ rootsOf (now (table .entry)) at (getD (now (table .entry)) at 0) ⌝ }
 {
     let k = byte(table, at);

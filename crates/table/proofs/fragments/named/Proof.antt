@@ -1,9 +1,9 @@
 -- A turn asks one fragment, the latest first; what is left to ask is the definition of the earlier ones.
-use mathlib.Core.Path.{_≡_, refl, sym, ap, _∙_}
+use mathlib.Core.Path.{_≡_, refl}
 use Prim.Native.Nat.{_≤_}
 use native.Mathlib.Omega.{arith}
 use borrow.Author.Needs.{needs}
-use Rattle.table.specs.Check.{named, isNamed, latest}
+use Rattle.table.specs.Check.{named, latest}
 use Rattle.table.proofs.Searched.{named-hit, named-miss, named-none}
 use Rattle.table.proofs.fragments.named.Statement.{statement}
 use Rattle.table.proofs.fragments.named.Tie as tie
@@ -37,8 +37,7 @@ returns c =
     let wide32 = c .before .before .wide32 in
     let loop-test = c .before .before .before .before .loop-test in
     let loop = c .before .before .before .before .before .loop in
-    let args = c .before .before .before .before .before .before .before .args in
-    sym (loop .inv .1 ∙ named-hit (args .table .now) (args .kind) (args .at) (args .size) (args .seen .now) (loop .i) (loop-test .taken) (ap (λ o. isNamed (args .table .now) (args .kind) (args .at) (args .size) o) (sym (wide32 .ensures .0)) ∙ sym (c .before .is-named .ensures) ∙ c .if1 .taken))
+    named-hit _ _ _ _ _ _ _ (loop .inv .1) (loop-test .taken) _ (wide32 .ensures .0) _ (c .before .is-named .ensures) (c .if1 .taken)
 
 loop-less : tie.Need-loop-less Inv-loop μ-loop
 loop-less c = omega (arith, c .before .before .before .before .before .before .before .pre)
@@ -48,14 +47,10 @@ loop-again c =
     let wide32 = c .before .before .wide32 in
     let loop-test = c .before .before .before .before .loop-test in
     let loop = c .before .before .before .before .before .loop in
-    let args = c .before .before .before .before .before .before .before .args in
-    (omega arith, loop .inv .1 ∙ named-miss (args .table .now) (args .kind) (args .at) (args .size) (args .seen .now) (loop .i) (loop-test .taken) (ap (λ o. isNamed (args .table .now) (args .kind) (args .at) (args .size) o) (sym (wide32 .ensures .0)) ∙ sym (c .before .is-named .ensures) ∙ c .if1 .left))
+    (omega arith, named-miss _ _ _ _ _ _ _ (loop .inv .1) (loop-test .taken) _ (wide32 .ensures .0) _ (c .before .is-named .ensures) (c .if1 .left))
 
 returns-2 : tie.Need-returns-2 Inv-loop μ-loop
-returns-2 c =
-    let loop = c .before .loop in
-    let args = c .before .before .before .args in
-    sym (loop .inv .1 ∙ named-none (args .table .now) (args .kind) (args .at) (args .size) (args .seen .now) (loop .i) (c .loop-test .left))
+returns-2 c = named-none _ _ _ _ _ _ _ (c .before .loop .inv .1) (c .loop-test .left)
 
 pub named-spec : {M : Type 1} → statement M
 named-spec =

@@ -1,9 +1,9 @@
 -- A turn asks one option, the latest first; what is left to ask is the definition of the earlier ones.
-use mathlib.Core.Path.{_≡_, refl, sym, ap, _∙_}
+use mathlib.Core.Path.{_≡_, refl}
 use Prim.Native.Nat.{_≤_}
 use native.Mathlib.Omega.{arith}
 use borrow.Author.Needs.{needs}
-use Rattle.table.specs.Check.{meetsAny, meetsOption, latest}
+use Rattle.table.specs.Check.{meetsAny, latest}
 use Rattle.table.proofs.Searched.{any-hit, any-miss, any-none}
 use Rattle.table.proofs.ranges.meets.Statement.{statement}
 use Rattle.table.proofs.ranges.meets.Tie as tie
@@ -37,8 +37,7 @@ returns c =
     let wide32 = c .before .before .wide32 in
     let loop-test = c .before .before .before .before .loop-test in
     let loop = c .before .before .before .before .before .loop in
-    let args = c .before .before .before .before .before .before .before .args in
-    sym (loop .inv .1 ∙ any-hit (args .table .now) (args .sign) (args .low) (args .high) (args .done .now) (loop .i) (loop-test .taken) (ap (λ o. meetsOption (args .table .now) (args .sign) (args .low) (args .high) o) (sym (wide32 .ensures .0)) ∙ sym (c .before .meets-option .ensures) ∙ c .if1 .taken))
+    any-hit _ _ _ _ _ _ _ (loop .inv .1) (loop-test .taken) _ (wide32 .ensures .0) _ (c .before .meets-option .ensures) (c .if1 .taken)
 
 loop-less : tie.Need-loop-less Inv-loop μ-loop
 loop-less c = omega (arith, c .before .before .before .before .before .before .before .pre)
@@ -48,14 +47,10 @@ loop-again c =
     let wide32 = c .before .before .wide32 in
     let loop-test = c .before .before .before .before .loop-test in
     let loop = c .before .before .before .before .before .loop in
-    let args = c .before .before .before .before .before .before .before .args in
-    (omega arith, loop .inv .1 ∙ any-miss (args .table .now) (args .sign) (args .low) (args .high) (args .done .now) (loop .i) (loop-test .taken) (ap (λ o. meetsOption (args .table .now) (args .sign) (args .low) (args .high) o) (sym (wide32 .ensures .0)) ∙ sym (c .before .meets-option .ensures) ∙ c .if1 .left))
+    (omega arith, any-miss _ _ _ _ _ _ _ (loop .inv .1) (loop-test .taken) _ (wide32 .ensures .0) _ (c .before .meets-option .ensures) (c .if1 .left))
 
 returns-2 : tie.Need-returns-2 Inv-loop μ-loop
-returns-2 c =
-    let loop = c .before .loop in
-    let args = c .before .before .before .args in
-    sym (loop .inv .1 ∙ any-none (args .table .now) (args .sign) (args .low) (args .high) (args .done .now) (loop .i) (c .loop-test .left))
+returns-2 c = any-none _ _ _ _ _ _ _ (c .before .loop .inv .1) (c .loop-test .left)
 
 pub meets-spec : {M : Type 1} → statement M
 meets-spec =
