@@ -1,0 +1,16 @@
+pub mod Records
+pub mod ClassRecords
+pub mod Sound
+pub mod Stands
+pub mod One
+pub mod Aligned
+pub mod Ends
+pub mod Rooted
+pub mod Asked
+pub mod Lookups
+pub mod Eight
+pub mod Ahead
+pub mod Turns
+pub mod Noted
+pub mod Reached
+pub mod Written

@@ -1,0 +1,4 @@
+pub mod Trees
+pub mod Fragments
+pub mod Sizes
+pub mod Notes
