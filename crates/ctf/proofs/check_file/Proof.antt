@@ -1,13 +1,7 @@
+-- What `fill` put into the room is a part of it.
 use borrow.Author.Needs.{needs}
 use Rattle.ctf.proofs.check_file.Statement.{statement}
 use Rattle.ctf.proofs.check_file.Tie as tie
-use Rattle.ctf.proofs.check_file.Reads as reads
-use Rattle.ctf.proofs.check_file.Lts as lts
-use Rattle.ctf.proofs.fill.Reads as fill-reads
-use Rattle.ctf.proofs.say_checked.Reads as say-checked-reads
-use Rattle.ctf.proofs.table_room.Reads as table-room-reads
-use Rattle.os.proofs.fail.Reads as fail-reads
-use Rattle.table.proofs.check.Reads as check-reads
 use lib.Seq.{length-take-le}
 
 table-room-requires : tie.Need-table-room-requires

@@ -1,9 +1,6 @@
+-- Each turn reads at least a byte, and never past the room.
 use Rattle.ctf.proofs.fill.Statement.{statement}
 use Rattle.ctf.proofs.fill.Tie as tie
-use Rattle.ctf.proofs.fill.Reads as reads
-use Rattle.ctf.proofs.fill.Lts as lts
-use Rattle.io.proofs.count.Reads as count-reads
-use Rattle.libc.proofs.read.Reads as read-reads
 use borrow.Author.Needs.{needs}
 use lib.ListN.{length}
 use Prim.Native.Nat.{_≤_, _-_}

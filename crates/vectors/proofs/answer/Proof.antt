@@ -1,13 +1,7 @@
+-- The table's part is within its room.
 use borrow.Author.Needs.{needs}
 use Rattle.vectors.proofs.answer.Statement.{statement}
 use Rattle.vectors.proofs.answer.Tie as tie
-use Rattle.vectors.proofs.answer.Reads as reads
-use Rattle.vectors.proofs.answer.Lts as lts
-use Rattle.table.proofs.check.Reads as check-reads
-use Rattle.vectors.proofs.fill.Reads as fill-reads
-use Rattle.vectors.proofs.say.Reads as say-reads
-use Rattle.vectors.proofs.say_checked.Reads as say-checked-reads
-use Rattle.vectors.proofs.too_long.Reads as too-long-reads
 use lib.Seq.{length-take-le}
 
 fill-requires : tie.Need-fill-requires

@@ -1,11 +1,7 @@
+-- The part that is filled is within the room.
 use borrow.Author.Needs.{needs}
 use Rattle.vectors.proofs.fill.Statement.{statement}
 use Rattle.vectors.proofs.fill.Tie as tie
-use Rattle.vectors.proofs.fill.Reads as reads
-use Rattle.vectors.proofs.fill.Lts as lts
-use Rattle.io.proofs.read_full.Reads as read-full-reads
-use Rattle.vectors.proofs.cut_short.Reads as cut-short-reads
-use Rattle.vectors.proofs.too_long.Reads as too-long-reads
 use lib.Seq.{length-take-le}
 
 too-long-requires : tie.Need-too-long-requires

@@ -1,8 +1,6 @@
+-- The turns fall.
 use Rattle.vectors.proofs.main.Statement.{statement}
 use Rattle.vectors.proofs.main.Tie as tie
-use Rattle.vectors.proofs.main.Reads as reads
-use Rattle.vectors.proofs.main.Lts as lts
-use Rattle.vectors.proofs.answer_case.Reads as answer-case-reads
 use native.Mathlib.Omega.{arith}
 
 abbrev Inv-loop : tie.InvT-loop

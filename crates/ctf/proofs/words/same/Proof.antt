@@ -1,7 +1,6 @@
+-- Both words have one length.
 use Rattle.ctf.proofs.words.same.Statement.{statement}
 use Rattle.ctf.proofs.words.same.Tie as tie
-use Rattle.ctf.proofs.words.same.Reads as reads
-use Rattle.ctf.proofs.words.same.Lts as lts
 use borrow.Author.Needs.{needs}
 use lib.ListN.{length}
 use Prim.Native.Nat.{_≤_, _-_}
