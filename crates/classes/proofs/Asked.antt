@@ -20,7 +20,8 @@ use Rattle.rules.specs.Faults.{Seen, noneSeen, seen, openFault, firstFault}
 use Rattle.facts.proofs.Truth.{or-false}
 use Rattle.classes.specs.Fragments.{isTrace, isStream, isEvent, firstOf, openingSize, rootsOf, rootPlaces, behindRoots, rootPlace, behindFragment, fragmentsFrom, fragmentsOf, findTraceAt, findStreamAt, findEventAt, mapOption, rootClass, streamClassAt, eventClassAt, uuidAt, headerAt, askedAt, Fragment, AllFragments}
 use Rattle.classes.proofs.Records.{preamble-at, trace-at, clock-at, stream-at, event-at}
-use Rattle.classes.proofs.Sound.{bad-good, good-value, then-good, pick-false, pick-zero, one-good}
+use Rattle.facts.proofs.Faults.{pick-false, pick-zero}
+use Rattle.classes.proofs.Sound.{bad-good, good-value, then-good, one-good}
 use Rattle.classes.proofs.Rooted.{RootsStand, roots-stand, root-class}
 
 module _ (t : List ℕ) where

@@ -15,7 +15,7 @@ use Rattle.rules.specs.Record.{Record, unknown, fragment, root, class, range, o
 use Rattle.rules.specs.Parse.{bad, good, then, one, missing, isRoot, anyRoot, parseClass, parseRoots, rootOf}
 use Rattle.rules.specs.Faults.{Seen, top, Under, rootFault}
 use Rattle.facts.proofs.Numbers.{lt-or-ge}
-use Rattle.facts.proofs.Truth.{and-left, and-right}
+use Rattle.facts.proofs.Truth.{and-left, and-right, and-none}
 use Rattle.classes.specs.Trees.{classAt, nextAt, whole}
 use Rattle.classes.specs.Fragments.{rootHere, rootPlaces, behindRoots, mapOption}
 use Rattle.classes.proofs.Records.{root-kind, root-record, root-size, behind-at}
@@ -40,10 +40,6 @@ module _ (t : List ℕ) where
   no-root n at (range g a b) e h = refl
   no-root n at (option m) e h = refl
 
-  and-no : (b : Bool) → (b && false) ≡ false
-  and-no true = refl
-  and-no false = refl
-
   root-here : (at n : ℕ) → (leb (size (drop at t)) (length (drop at t)) && isRoot n (recordOf (drop at t))) ≡ rootHere t at n
   unfolding rootHere
   root-here at n = by (eqb (u8 t at) 6) refl
@@ -52,7 +48,7 @@ module _ (t : List ℕ) where
       by true e =
           let k = eqb-true (u8 t at) 6 e in
           rw (e, root-size t at k, root-record t at k) (unfold isRoot in ap (λ b. b && eqb n (u8 t (at + 1))) (two-left at))
-      by false e = rw (e, no-root n at (recordOf (drop at t)) refl (eqb-false (u8 t at) 6 e)) (and-no (leb (size (drop at t)) (length (drop at t))) ∙ sym (and-no (ltb (at + 1) (length t))))
+      by false e = rw (e, no-root n at (recordOf (drop at t)) refl (eqb-false (u8 t at) 6 e)) (and-none (leb (size (drop at t)) (length (drop at t))) ∙ sym (and-none (ltb (at + 1) (length t))))
 
   root-byte : (at n : ℕ) → rootHere t at n ≡ true → u8 t at ≡ 6
   unfolding rootHere

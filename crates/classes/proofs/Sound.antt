@@ -7,9 +7,10 @@ use mathlib.Core.Bool.{Bool, true, false, not, _&&_}
 use lib.ListN.{length, drop, length-drop}
 use lib.Dec.{ltb, eqb}
 use borrow.Author.Tests.{ltb-false, eq-eqb}
-use Rattle.rules.specs.Record.{Fragment, preamble, traceClass, clockClass, streamClass, eventClass, Record, unknown, fragment, root, class, range, option, Says, recordOf, size}
+use Rattle.rules.specs.Record.{Record, unknown, fragment, root, class, range, option, Says, recordOf, size}
 use Rattle.rules.specs.Parse.{Parsed, bad, good, Parser, then, sound, missing, one}
-use Rattle.rules.specs.Faults.{pick, Seen, recordFault, fragmentFault, Spot, isTop, Under, badNumber, classFault, out}
+use Rattle.rules.specs.Faults.{pick, Seen, recordFault, Spot, isTop, Under, badNumber, classFault, out}
+use Rattle.facts.proofs.Faults.{pick-false, pick-zero, fragment-zero}
 use Rattle.facts.proofs.Truth.{or-false, clash}
 use Rattle.classes.proofs.Records.{behind-at}
 
@@ -35,24 +36,6 @@ then-good (bad n x) f b y h = absurd (bad-good h)
 then-good (good a x) f b y h = record { value = a; rest = x; first = refl; second = h }
 
 -- tests that find nothing
-pub pick-false : (b : Bool) (n m : ℕ) → pick b (suc n) m ≡ 0 → b ≡ false
-unfolding pick
-pick-false true n m h = absurd (omega arith)
-pick-false false n m h = refl
-
-pub pick-zero : (b : Bool) (n m : ℕ) → pick b (suc n) m ≡ 0 → m ≡ 0
-unfolding pick
-pick-zero true n m h = absurd (omega arith)
-pick-zero false n m h = h
-
-fragment-zero : (q : Seen) (g : Fragment) (m : ℕ) → fragmentFault q g m ≡ 0 → m ≡ 0
-unfolding fragmentFault
-fragment-zero q (preamble v) m h = absurd (omega arith)
-fragment-zero q (traceClass u l) m h = pick-zero _ 5 m h
-fragment-zero q (clockClass i f) m h = pick-zero _ 6 m h
-fragment-zero q (streamClass i c) m h = pick-zero _ 7 m (pick-zero _ 6 _ h)
-fragment-zero q (eventClass i j) m h = pick-zero _ 7 m (pick-zero _ 6 _ h)
-
 fault-zero : (s : Bool) (q : Seen) (r : Record) (m : ℕ) → recordFault s q r m ≡ 0 → (s ≡ false) × (m ≡ 0)
 unfolding recordFault
 fault-zero s q unknown m h = absurd (omega arith)

@@ -17,7 +17,8 @@ use Rattle.facts.proofs.Truth.{or-false, clash}
 use Rattle.classes.specs.Trees.{shapeOf, recordSize, rangesAt, signAt, optionClass, optionalOf, Stood, membersAt, behindMembers, optionsAt, behindOptions, classIn, nextIn, stoodAt, classAt, nextAt, wholeMembers, wholeOptions, wholeIn, whole}
 use Rattle.classes.proofs.Records.{range-at, option-at}
 use Rattle.classes.proofs.ClassRecords.{saidAt, class-at}
-use Rattle.classes.proofs.Sound.{bad-good, good-value, good-rest, then-good, pick-false, pick-zero, one-good, Sane, class-sane}
+use Rattle.facts.proofs.Faults.{pick-false, pick-zero}
+use Rattle.classes.proofs.Sound.{bad-good, good-value, good-rest, then-good, one-good, Sane, class-sane}
 
 -- of what stands from a byte on, a by the table's bytes: W holds of it, the parse found it, b, and the rest x begins at `next`
 pub record Took {A : Type 0} (t : List ℕ) (W : Type 0) (a : A) (from next : ℕ) (b : A) (x : List ℕ) : Type 0 where

@@ -1,5 +1,5 @@
 // The papers' numbers in words, and words compared.
-use libc::STDOUT_FILENO;
+use crate::say;
 
 // What is wrong with a table, by the number that refuses it ("Refusing a table").
 pub(crate) fn say_fault(number: u8) {
@@ -39,8 +39,4 @@ pub(crate) fn same(a: &[u8], b: &[u8]) -> bool {
         i += 1;
     }
     true
-}
-
-fn say(words: &[u8]) {
-    io::write_all(STDOUT_FILENO, words);
 }

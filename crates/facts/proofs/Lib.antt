@@ -2,6 +2,7 @@ pub mod Numbers
 pub mod Every
 pub mod Bytes
 pub mod Truth
+pub mod Faults
 pub mod Refusals
 pub mod Steps
 pub mod Lists

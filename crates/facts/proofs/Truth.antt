@@ -23,6 +23,10 @@ pub and-right : (a b : Bool) → (a && b) ≡ true → b ≡ true
 and-right true b h = h
 and-right false b h = absurd (clash h)
 
+pub and-none : (a : Bool) → (a && false) ≡ false
+and-none true = refl
+and-none false = refl
+
 -- the branch that a test takes first agrees, and the other is the same
 pub if-agree : {A : Type 0} (b : Bool) (x y z : A) → (b ≡ true → x ≡ y) → _≡_ {A = A} (elim b [ true ↦ x | false ↦ z ]) (elim b [ true ↦ y | false ↦ z ])
 if-agree true x y z h = h refl

@@ -15,7 +15,8 @@ use Rattle.rules.specs.Table.{StreamClass, EventClass, Table, asked, findStream
 use Rattle.rules.specs.Parse.{Parsed, bad, good, Parser, then, sound, missing, one, Ranges, rangeOf, countOf, parseRanges, parseMembers, parseOptions, selected, parseShape, parseBody, parseClass, isRoot, anyRoot, parseRoots, noTable, rootOf, rootNumbers, isTimed, hasUuid, add, parseFragment, parseOpened, parseFragments, parse}
 use Rattle.rules.specs.Faults.{pick, Seen, recordFault, Spot, top, inside, memberSpot, Under, out, badNumber, classFault, isTop, optionFault, rootFault, openFault, seen, firstFault, noneSeen}
 use Rattle.facts.proofs.Truth.{or-false}
-use Rattle.promises.proofs.Local.{no-fault, pick-zero, pick-false}
+use Rattle.facts.proofs.Faults.{pick-zero, pick-false}
+use Rattle.promises.proofs.Local.{no-fault}
 use Rattle.promises.proofs.Law.{Fits, FitMembers, FitOptions, FitRoot}
 use Rattle.promises.proofs.Packets.{Fitting}
 

@@ -10,18 +10,16 @@ use lib.Seq.{take-at}
 use lib.Dec.{ltb, eqb}
 use borrow.Author.Tests.{ltb-false, le-ltb, eqb-true, eq-eqb}
 use Rattle.rules.specs.Class.{Class}
-use Rattle.rules.specs.Record.{Record, unknown, fragment, root, class, range, option, Fragment, preamble, traceClass, clockClass, streamClass, eventClass, recordOf, size, behind, layoutOf}
+use Rattle.rules.specs.Record.{Record, unknown, fragment, root, class, range, option, Fragment, preamble, traceClass, clockClass, streamClass, eventClass, recordOf, size, behind}
 use Rattle.rules.specs.Table.{Table}
 use Rattle.rules.specs.Parse.{Parsed, bad, good, Parser, then, sound, missing, one, anyRoot, parseRoots, parseFragment, parseOpened, parseFragments, add, isTimed, hasUuid, rootNumbers, noTable, parse}
 use Rattle.rules.specs.Faults.{pick, Seen, recordFault, fragmentFault, among, pairAmong, many, openFault, seen, firstFault, noneSeen}
-use Rattle.promises.proofs.Local.{Whole, Plain, nothing, after, isFragment, whole-size, whole-record, whole-behind, whole-missing, first-whole, first-split, first-record, bad-good, pick-zero, pick-false, Sound, no-fault, one-whole}
+use Rattle.facts.proofs.Truth.{or-false, and-left}
+use Rattle.facts.proofs.Faults.{pick-zero, pick-false}
+use Rattle.promises.proofs.Accepted.{behind-less}
+use Rattle.promises.proofs.Local.{Whole, Plain, nothing, after, isFragment, whole-size, whole-record, whole-behind, whole-missing, first-whole, first-split, first-record, bad-good, Sound, no-fault, one-whole}
 use Rattle.promises.proofs.Roots.{Stops, Rooted, roots-local}
 use Rattle.promises.specs.Edition.{keep, keepStreams, keepEvents, both, stays, part, leaveRecords, leave, Editions}
-
-behind-less : (x : List ℕ) (n : ℕ) → missing x ≡ false → length x ≤ suc n → length (behind x) ≤ n
-unfolding missing behind size
-behind-less [] n h k = let z : _≡_ {A = ℕ} 0 1 = cc in absurd (omega arith)
-behind-less (b ∷ x) n h k = rw (length-drop ((layoutOf (b ∷ x)) .0) x) (omega arith)
 
 nil-of : (x : List ℕ) → length x ≤ 0 → x ≡ []
 nil-of [] h = refl
@@ -144,21 +142,9 @@ module _ (ks : ℕ → Bool) (ke : ℕ → ℕ → Bool) where
       let b : length (q′ .clocks) + length (q′ .streams) + length (q′ .events) ≤ 511 = omega arith in
       le-ltb 511 (length (q′ .clocks) + length (q′ .streams) + length (q′ .events)) b
 
-  or-left : (a b : Bool) → (a || b) ≡ false → a ≡ false
-  or-left true b h = h
-  or-left false b h = refl
-
-  or-right : (a b : Bool) → (a || b) ≡ false → b ≡ false
-  or-right true b h = let z : _≡_ {A = ℕ} 0 1 = cc in absurd (omega arith)
-  or-right false b h = h
-
   not-not : (a : Bool) → not a ≡ false → a ≡ true
   not-not true h = refl
   not-not false h = sym h
-
-  and-true : (a b : Bool) → (a && b) ≡ true → a ≡ true
-  and-true true b h = refl
-  and-true false b h = h
 
   pick-clean : (b : Bool) (n m : ℕ) → b ≡ false → m ≡ 0 → pick b n m ≡ 0
   unfolding pick
@@ -172,11 +158,11 @@ module _ (ks : ℕ → Bool) (ke : ℕ → ℕ → Bool) where
   clean-kept q q′ f now (traceClass u l) s h =
       let h₀ = pick-zero false 2 _ h in
       let t₁ = pick-false (q .trace || not (eqb (length (q .streams)) 0)) 5 _ h₀ in
-      let t₂ : length (q .streams) ≡ 0 = eqb-true (length (q .streams)) 0 (not-not (eqb (length (q .streams)) 0) (or-right (q .trace) (not (eqb (length (q .streams)) 0)) t₁)) in
+      let t₂ : length (q .streams) ≡ 0 = eqb-true (length (q .streams)) 0 (not-not (eqb (length (q .streams)) 0) (or-false (q .trace) (not (eqb (length (q .streams)) 0)) t₁ .1)) in
       let t₃ : length (q′ .streams) ≡ 0 = omega (arith, f .streams≤) in
       pick-clean false 3 _ refl
       (pick-clean (q′ .trace || not (eqb (length (q′ .streams)) 0)) 6 _
-      (rw (f .trace, or-left (q .trace) _ t₁, eq-eqb _ 0 t₃) refl) (pick-zero (q .trace || not (eqb (length (q .streams)) 0)) 5 _ h₀))
+      (rw (f .trace, or-false (q .trace) _ t₁ .0, eq-eqb _ 0 t₃) refl) (pick-zero (q .trace || not (eqb (length (q .streams)) 0)) 5 _ h₀))
   clean-kept q q′ f now (clockClass i k) s h =
       let h₀ = pick-zero false 2 _ h in
       let h₁ = pick-zero (among i (q .clocks)) 6 _ h₀ in
@@ -200,7 +186,7 @@ module _ (ks : ℕ → Bool) (ke : ℕ → ℕ → Bool) where
       pick-clean false 3 _ refl
       (pick-clean (pairAmong i j (q′ .events)) 7 _ (f .events i j s ∙ pick-false (pairAmong i j (q .events)) 6 _ h₀)
       (pick-clean (not (among i (q′ .streams))) 8 _
-      (ap not (f .streams i (and-true (ks i) (ke i j) s)) ∙ pick-false (not (among i (q .streams))) 7 _ h₁)
+      (ap not (f .streams i (and-left (ks i) (ke i j) s)) ∙ pick-false (not (among i (q .streams))) 7 _ h₁)
       (pick-clean (many q′) 15 0 (many-fewer q q′ f (pick-false (many q) 14 0 h₂)) refl)))
 
   -- what was seen stays related
@@ -449,7 +435,7 @@ module _ (ks : ℕ → Bool) (ke : ℕ → ℕ → Bool) where
           → elim b as (λ _. Parsed Table) [ true ↦ bad 1 x | false ↦ sound (firstFault (ltb (length x) (size x)) (recordOf x)) x behind-first ] ≡ good t y
           → parse (leave ks ke x) ≡ good (kept t) []
       by true e h = absurd (bad-good 1 x t y h)
-      by false e h = by2 (or-left (missing x) _ e) (ltb-false 65536 (length x) (or-right (missing x) _ e)) _ refl h
+      by false e h = by2 (or-false (missing x) _ e .0) (ltb-false 65536 (length x) (or-false (missing x) _ e .1)) _ refl h
 
 pub editions : Editions
 editions ks ke x t y h = edited ks ke x t y h

@@ -321,15 +321,11 @@ stream-words : (t : Asked) → Fitting To64 Word t → ((i : ℕ) (c : StreamCla
 unfolding readStream
 stream-words t w ids b room = by (eqb (length b) 0 || ltb streamLimit (length b)) refl
   where
-    small : (p q : Bool) → (p || q) ≡ false → q ≡ false
-    small true q h = let z : _≡_ {A = ℕ} 0 1 = cc in absurd (omega arith)
-    small false q h = h
-
     by : (c : Bool) → (eqb (length b) 0 || ltb streamLimit (length b)) ≡ c
         → WordReading (elim c [ true ↦ record { entries = []; verdict = Refused (stopAt StreamSize (bitPlace 0)) } | false ↦ ended (readPackets t b 0 Missing (length b) (begin room)) ])
     by true h = (tt, (omega arith, tt))
     by false h =
-        let l : length b ≤ streamLimit = ltb-false streamLimit (length b) (small (eqb (length b) 0) (ltb streamLimit (length b)) h) in
+        let l : length b ≤ streamLimit = ltb-false streamLimit (length b) (or-false (eqb (length b) 0) (ltb streamLimit (length b)) h .1) in
         ended-words _ (word-packets t w ids b l 0 Missing (length b) (omega arith) .at (begin room) (begin-words room))
 
 -- every word of every entry; the verdict's place and ids

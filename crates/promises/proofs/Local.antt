@@ -10,8 +10,9 @@ use lib.Seq.{take-at, drop-at, length-take-le, take-all}
 use lib.Dec.{ltb}
 use borrow.Author.Tests.{ltb-false, le-ltb}
 use Rattle.rules.specs.Class.{Sign, Range, Class, noMember, member, noOption, option as anOption, structure, staticArray, dynamicArray, variant}
-use Rattle.rules.specs.Record.{Record, unknown, fragment, preamble, traceClass, clockClass, streamClass, eventClass, root, class, range, option, Fragment, Says, Shape, bitField, lebField, signedLebField, zeroString, text, blob, textOf, blobOf, members, elements, elementsOf, option?, options, recordOf, size, behind, layoutOf, u8}
+use Rattle.rules.specs.Record.{Record, unknown, fragment, root, class, range, option, Fragment, Says, Shape, bitField, lebField, signedLebField, zeroString, text, blob, textOf, blobOf, members, elements, elementsOf, option?, options, recordOf, size, behind, layoutOf, u8}
 use Rattle.rules.specs.Parse.{Parsed, bad, good, Parser, then, sound, missing, one, Ranges, rangeOf, countOf, theSign, selected, parseRanges, parseMembers, parseOptions, parseShape, parseBody, parseClass}
+use Rattle.facts.proofs.Faults.{pick-false, pick-zero, fragment-zero}
 use Rattle.rules.specs.Faults.{pick, Seen, recordFault, fragmentFault, Spot, inside, Under, memberSpot, classFault, rangeFault, optionFault}
 
 -- a whole record that is no fragment's first
@@ -114,24 +115,6 @@ local-then {A} {B} P F l k = record { at = λ q x b y h. by q x b y (P q x) refl
         }
 
 -- one record
-pub pick-zero : (b : Bool) (n m : ℕ) → pick b (suc n) m ≡ 0 → m ≡ 0
-unfolding pick
-pick-zero true n m h = absurd (omega arith)
-pick-zero false n m h = h
-
-fragment-zero : (q : Seen) (g : Fragment) (m : ℕ) → fragmentFault q g m ≡ 0 → m ≡ 0
-unfolding fragmentFault
-fragment-zero q (preamble v) m h = absurd (omega arith)
-fragment-zero q (traceClass u l) m h = pick-zero _ 5 m h
-fragment-zero q (clockClass i f) m h = pick-zero _ 6 m h
-fragment-zero q (streamClass i c) m h = pick-zero _ 7 m (pick-zero _ 6 _ h)
-fragment-zero q (eventClass i j) m h = pick-zero _ 7 m (pick-zero _ 6 _ h)
-
-pub pick-false : (b : Bool) (n m : ℕ) → pick b (suc n) m ≡ 0 → b ≡ false
-unfolding pick
-pick-false true n m h = absurd (omega arith)
-pick-false false n m h = refl
-
 pub record Sound (b s : Bool) (m : ℕ) : Type 0 where
   pub there : b ≡ false
   pub fits : s ≡ false

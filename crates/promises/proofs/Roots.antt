@@ -8,6 +8,7 @@ use mathlib.Core.Option.{Option, none, some}
 use lib.ListN.{length, length-append, take}
 use lib.Dec.{ltb, leb}
 use borrow.Author.Tests.{le-leb, leb-true}
+use Rattle.facts.proofs.Truth.{and-left, and-right, and-none}
 use Rattle.rules.specs.Class.{Class}
 use Rattle.rules.specs.Record.{Record, unknown, fragment, root, class, range, option, recordOf, size, behind, layoutOf, layouts, no, u8}
 use Rattle.rules.specs.Parse.{Parsed, bad, good, Parser, then, sound, missing, one, isRoot, anyRoot, parseClass, parseRoots}
@@ -21,10 +22,6 @@ Stops z = (not (missing z) && anyRoot (recordOf z)) ≡ false
 -- the root n stands here
 abbrev here : ℕ → List ℕ → Bool
 here n x = leb (size x) (length x) && isRoot n (recordOf x)
-
-and-no : (a : Bool) → (a && false) ≡ false
-and-no true = refl
-and-no false = refl
 
 no-root : (n : ℕ) (r : Record) → anyRoot r ≡ false → isRoot n r ≡ false
 unfolding anyRoot isRoot
@@ -47,7 +44,7 @@ root-plain n (option m) h = refl
 stops-here : (n : ℕ) (z : List ℕ) → Stops z → here n z ≡ false
 unfolding missing size layoutOf u8 layouts no recordOf isRoot
 stops-here n [] h = refl
-stops-here n (b ∷ z) h = rw (no-root n (recordOf (b ∷ z)) h) (and-no (leb (size (b ∷ z)) (length (b ∷ z))))
+stops-here n (b ∷ z) h = rw (no-root n (recordOf (b ∷ z)) h) (and-none (leb (size (b ∷ z)) (length (b ∷ z))))
 
 whole-here : (n : ℕ) (w z : List ℕ) → Whole w → here n (w ++ z) ≡ isRoot n (recordOf w)
 whole-here n w z h =
@@ -74,14 +71,6 @@ pub record Rooted (timed u? : Bool) (ns : List ℕ) (x : List ℕ) (cs : List (O
   pub plain : Plain u
   pub stops : Stops y
   pub again : (q : Seen) (z : List ℕ) → Stops z → parseRoots q timed u? ns (u ++ z) ≡ good cs z
-
-true-left : (a b : Bool) → (a && b) ≡ true → a ≡ true
-true-left true b h = refl
-true-left false b h = h
-
-true-right : (a b : Bool) → (a && b) ≡ true → b ≡ true
-true-right true b h = h
-true-right false b h = let z : _≡_ {A = ℕ} 0 1 = cc in absurd (omega arith)
 
 root-there : (n : ℕ) (x : List ℕ) → isRoot n (recordOf x) ≡ true → missing x ≡ false
 unfolding missing recordOf layoutOf layouts no u8 isRoot
@@ -121,8 +110,8 @@ module _ (timed u? : Bool) where
       found : (e : here n x ≡ true) (c : Class) (x₁ : List ℕ) → parseClass q U 8 top (behind x) ≡ good c x₁ → (cs₁ : List (Option Class)) (x₂ : List ℕ) → Rooted timed u? ns x₁ cs₁ x₂
           → _≡_ {A = Parsed (List (Option Class))} (good (some c ∷ cs₁) x₂) (good cs y) → Rooted timed u? (n ∷ ns) x cs y
       found e c x₁ pc cs₁ x₂ r h =
-          let ir = true-right (leb (size x) (length x)) (isRoot n (recordOf x)) e in
-          let fits = leb-true _ _ (true-left (leb (size x) (length x)) (isRoot n (recordOf x)) e) in
+          let ir = and-right (leb (size x) (length x)) (isRoot n (recordOf x)) e in
+          let fits = leb-true _ _ (and-left (leb (size x) (length x)) (isRoot n (recordOf x)) e) in
           let th = root-there n x ir in
           let w = take (size x) x in
           let hw = first-whole x th fits in

@@ -12,7 +12,7 @@ use Rattle.table.specs.declared.Walk.the-variants.{Fine, Bad}
 use Rattle.table.proofs.Picked.{else-zero, else-some}
 use Rattle.table.proofs.Sound.{sound}
 
-less : (d : ℕ) → suc d - 1 ≡ d
+pub less : (d : ℕ) → suc d - 1 ≡ d
 less d = omega arith
 
 pub class-bad : (u : Under) (left : ℕ) (t : List ℕ) (at n : ℕ) → n ≡ classFault u left t at → (n ≡ 0 → ⊥) → Bad n at ≡ classAt u left t at

@@ -13,6 +13,7 @@ use Rattle.rules.specs.declared.Checked.the-variants.{Accepted, Refused}
 use Rattle.table.specs.Check.{orRefused, fragmentsAt, lowest, latest, rootsOf, fragmentFault, seenWith, traced, counted, thenChecked}
 use Rattle.table.specs.declared.Walk.{Walk}
 use Rattle.table.specs.declared.Walk.the-variants.{Fine, Bad}
+use Rattle.table.proofs.Descent.{less}
 use Rattle.table.proofs.Opens.{Opens, opens, fragment-end, seen-more, seen-length}
 use Rattle.table.proofs.Places.{latest-length}
 
@@ -54,9 +55,6 @@ unfolding orRefused thenChecked
 agree zero at (Fine e) g f f′ h = h refl e refl
 agree zero at (Bad m p) g f f′ h = refl
 agree (suc n) at w g f f′ h = refl
-
-less : (d : ℕ) → suc d - 1 ≡ d
-less d = omega arith
 
 round : (m k : ℕ) (t : List ℕ)
     → ((trace : Bool) (seen : List ℕ) (at : ℕ) → length seen ≤ 512 → length t ≤ at + k → k ≤ m → fragmentsAt m t trace seen at ≡ fragmentsAt k t trace seen at)

@@ -27,7 +27,8 @@ use Rattle.table.proofs.TieKinds.{Stands, nothing, aPreamble, aTrace, a
 use Rattle.table.proofs.TieKinds.{stands, stands-as}
 use Rattle.table.proofs.TieHead.{head-whole, Tested, record-fault, rest-behind}
 use Rattle.table.proofs.TieIds.{sees-none}
-use Rattle.table.proofs.TieTests.{pick-same, first-none}
+use Rattle.table.proofs.Picked.{first-fine}
+use Rattle.table.proofs.TieTests.{pick-same}
 use Rattle.table.proofs.TieRoots.{stray-tie}
 use Rattle.table.proofs.TieFragments.{sound-checked, then-checked, fragments-tie}
 
@@ -139,7 +140,7 @@ first-checked : (t : List ℕ) → Bytes t → missing t ≡ false
     ≡ checkedOf t (sound (rulesFault (ltb (length t) (size t)) (recordOf t)) t rest)
 unfolding firstFault
 first-checked t b m = sound-checked t 0 t (all t) _ (firstFault t) (first-number t m) rest _ (λ e.
-    let h = first-none (headFault t 0) _ e in
+    let h = first-fine (headFault t 0) _ e in
     let w = head-whole t 0 (h .0) in
     let k = eqb-true (byteAt t 0) 1 (first-kind (eqb (byteAt t 0) 1) (eqb (byteAt t 1) 2) (h .1)) in
     rest-checked t b (behind t) (rest-behind t 0 t (all t) w 1 (a-preamble t _ _ (stands-as t 0 t (all t) 1 k) (w .known))))

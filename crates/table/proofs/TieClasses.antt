@@ -1,13 +1,13 @@
 -- The walk over a class and all that it holds is the rules' parse of it, at every depth.
 use mathlib.Core.Path.{_≡_, refl, ap}
-use mathlib.Core.Bool.{Bool, true, false, _&&_}
+use mathlib.Core.Bool.{Bool, true, false}
 use mathlib.Core.List.{List, []}
 use mathlib.Core.Option.{none}
 use Prim.Native.Nat.{ℕ, zero, suc, _+_, _<_, _≤_}
 use native.Mathlib.Omega.{arith}
 use native.Mathlib.Nat.{le-trans}
-use lib.Dec.{leb, eqb, eqb·suc-zero}
-use borrow.Author.Tests.{leb-true, eqb-true, eq-eqb, ne-eqb}
+use lib.Dec.{eqb, eqb·suc-zero}
+use borrow.Author.Tests.{eq-eqb, ne-eqb}
 use Rattle.facts.specs.Bytes.{Bytes}
 use Rattle.rules.specs.Class.{Class, structure, staticArray, dynamicArray, variant as aVariant}
 use Rattle.rules.specs.Record.{Shape, Says as Said, Record, behind}
@@ -18,7 +18,7 @@ use Rattle.table.specs.declared.Walk.the-variants.{Fine}
 use Rattle.table.specs.declared.Under.{Under}
 use Rattle.table.specs.declared.Says.{Says}
 use Rattle.table.specs.Bodies.{noKind, bodyMark}
-use Rattle.table.specs.Check.{pickN, pickW, first, inside, byteAt, say, sayings, sayOf, saysAt, roleOk, kindFault, sayFault}
+use Rattle.table.specs.Check.{pickN, pickW, first, byteAt, say, sayings, sayOf, saysAt, roleOk, kindFault, sayFault}
 use Rattle.table.specs.Check.{classFault, meetsAny, kindAt, classAt}
 use Rattle.table.proofs.TieBytes.{Rest}
 use Rattle.table.proofs.TieKinds.{plain, Single, bits, lebs, signedLebs, toZero, texts, blobs, textsOf, blobsOf, Shaped, single}
@@ -29,21 +29,10 @@ use Rattle.table.proofs.TieIds.{Sees}
 use Rattle.table.proofs.TieWalk.{Tied, both-good, then-tie, made-tie, one-tie}
 use Rattle.table.proofs.TieSays.{Spotted, ruled}
 use Rattle.table.proofs.TieClass.{class-agrees, class-late}
-use Rattle.table.proofs.TieTests.{first-none}
+use Rattle.table.proofs.Picked.{first-fine}
+use Rattle.table.proofs.Sound.{kind-fine}
 use Rattle.table.proofs.TieRanges.{Told, Read, ranges-tie}
 use Rattle.table.proofs.TieOptions.{Walks, members-tie, options-tie}
-
--- no kind of class but a structure stands right behind a root
-only-classes : (k start at : ℕ) → kindFault k start at ≡ 0 → (16 ≤ k) × (k ≤ 32)
-unfolding kindFault inside
-only-classes k start at = by (eqb at start) (eqb k 28) (leb 16 k) (leb k 32) refl refl refl
-  where
-    by : (a b c d : Bool) → eqb k 28 ≡ b → leb 16 k ≡ c → leb k 32 ≡ d → pickN a (pickN b 0 9) (pickN (c && d) 0 9) ≡ 0 → (16 ≤ k) × (k ≤ 32)
-    by true true c d p q r h = let e : k ≡ 28 = eqb-true k 28 p in omega arith
-    by true false c d p q r h = unfold pickN in absurd (omega arith)
-    by false b true true p q r h = (leb-true 16 k q, leb-true k 32 r)
-    by false b true false p q r h = unfold pickN in absurd (omega arith)
-    by false b false d p q r h = unfold pickN in absurd (omega arith)
 
 past-root : (z : Spot) (k start at : ℕ) → Spotted z start at → kindFault k start at ≡ 0 → (k ≡ 28 → ⊥) → start + 3 ≤ at
 unfolding kindFault
@@ -61,7 +50,7 @@ member-spot within start at s = (omega arith, omega arith)
 -- where there are no depths left there is a number
 too-deep : (u : Under) (at k : ℕ) (y : Says) → first k (sayFault u 0 at y) ≡ 0 → ⊥
 unfolding sayFault
-too-deep u at k y h = by (roleOk y u at) (first-none _ _ (first-none _ _ (first-none _ _ h .1) .1) .1)
+too-deep u at k y h = by (roleOk y u at) (first-fine _ _ (first-fine _ _ (first-fine _ _ h .1) .1) .1)
   where
     by : (b : Bool) → pickN b (pickN true 14 0) 12 ≡ 0 → ⊥
     by true e = unfold pickN in omega arith
@@ -129,15 +118,15 @@ module _ (t : List ℕ) (b : Bytes t) (q : Seen) (trace : Bool) (seen : List ℕ
         → (x : List ℕ) → Rest t (at + (1 + n)) x → Tied t trace seen (λ c e. at < e) (parseBody q f z v x) (kindAt F t at k)
     unfolding parseBody
     body-tie k n v nothing w m d x r = absurd (w refl)
-    body-tie k n v aPreamble w m d x r = absurd (omega (arith, only-classes 1 (u .start) at d))
-    body-tie k n v aTrace w m d x r = absurd (omega (arith, only-classes 2 (u .start) at d))
-    body-tie k n v aClock w m d x r = absurd (omega (arith, only-classes 3 (u .start) at d))
-    body-tie k n v aStream w m d x r = absurd (omega (arith, only-classes 4 (u .start) at d))
-    body-tie k n v anEvent w m d x r = absurd (omega (arith, only-classes 5 (u .start) at d))
-    body-tie k n v aRoot w m d x r = absurd (omega (arith, only-classes 6 (u .start) at d))
+    body-tie k n v aPreamble w m d x r = absurd (omega (arith, kind-fine 1 (u .start) at d))
+    body-tie k n v aTrace w m d x r = absurd (omega (arith, kind-fine 2 (u .start) at d))
+    body-tie k n v aClock w m d x r = absurd (omega (arith, kind-fine 3 (u .start) at d))
+    body-tie k n v aStream w m d x r = absurd (omega (arith, kind-fine 4 (u .start) at d))
+    body-tie k n v anEvent w m d x r = absurd (omega (arith, kind-fine 5 (u .start) at d))
+    body-tie k n v aRoot w m d x r = absurd (omega (arith, kind-fine 6 (u .start) at d))
     body-tie k n v (aClass {y = y} l g c i e p) w m d x r = shape-tie k n (y .shape) p y e m d x r
-    body-tie k n v aRange w m d x r = absurd (omega (arith, only-classes 33 (u .start) at d))
-    body-tie k n v anOption w m d x r = absurd (omega (arith, only-classes 34 (u .start) at d))
+    body-tie k n v aRange w m d x r = absurd (omega (arith, kind-fine 33 (u .start) at d))
+    body-tie k n v anOption w m d x r = absurd (omega (arith, kind-fine 34 (u .start) at d))
 
   pub class-tie : (left : ℕ) → Walks t q trace seen known (u .start) (parseClass q (ruled u) left) (classAt u left t)
   unfolding parseClass classAt classFault saysAt
@@ -147,5 +136,5 @@ module _ (t : List ℕ) (b : Bytes t) (q : Seen) (trace : Bool) (seen : List ℕ
   class-tie (suc left) z at x r s =
       one-tie t trace seen q known at x r (rulesFault (ruled u) z false) (class-late (ruled u) z false) _
       (λ w. rw (eqb·suc-zero left) at (class-agrees t b u z (suc left) at _ _ _ (stands t at x r) (w .known) s)) _ _ (λ w e.
-      body-tie (parseClass q (ruled u) left) (classAt u left t) (class-tie left) z at s _ _ _ (stands t at x r) (w .known) refl (first-none _ _ e .0)
+      body-tie (parseClass q (ruled u) left) (classAt u left t) (class-tie left) z at s _ _ _ (stands t at x r) (w .known) refl (first-fine _ _ e .0)
       (behind x) (rest-behind t at x r w _ refl))

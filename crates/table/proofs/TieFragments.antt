@@ -22,7 +22,8 @@ use Rattle.table.specs.declared.Walk.{Walk}
 use Rattle.table.specs.Bodies.{noKind}
 use Rattle.table.specs.Check.{pickN, pickB, pickW, first, byteAt, u64, headFault, orderFault, openFault, fragmentFault, lowest}
 use Rattle.table.specs.Check.{rootsAt, rootsOf, seenWith, traced, orRefused, thenChecked, fragmentsAt}
-use Rattle.table.proofs.TieTests.{pick-same, first-none}
+use Rattle.table.proofs.Picked.{first-fine}
+use Rattle.table.proofs.TieTests.{pick-same}
 use Rattle.table.proofs.TieBytes.{Rest, rest-length, rest-missing}
 use Rattle.table.proofs.TieKinds.{Stands, nothing, aPreamble, aTrace, aClock, aStream, anEvent, aRoot, aClass, aRange, anOption, stands}
 use Rattle.table.proofs.TieHead.{head-whole, record-tested, record-fault, rest-behind}
@@ -153,8 +154,8 @@ module _ (t : List ℕ) (b : Bytes t) (left : ℕ)
     fragment-checked : here ≡ checkedOf t (one q (rulesFault q) (λ r x. parseOpened q (parseFragments left) r x) x)
     unfolding one fragmentFault
     fragment-checked = sound-checked t at x r _ _ (fragment-number t q trace os s at x r) (parseOpened q (parseFragments left) (recordOf x)) _ (λ e.
-        let h = first-none (headFault t at) _ e in
-        let o = first-none (orderFault t trace os at (byteAt t at)) _ (h .1) in
+        let h = first-fine (headFault t at) _ e in
+        let o = first-fine (orderFault t trace os at (byteAt t at)) _ (h .1) in
         let w = head-whole t at (h .0) in
         opened-checked q trace os s at _ _ _ (stands t at x r) (w .known) refl (o .1) (behind x) (rest-behind t at x r w _ refl))
 

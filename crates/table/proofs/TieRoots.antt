@@ -10,7 +10,7 @@ use lib.ListN.{length}
 use lib.Dec.{ltb, leb, eqb}
 use borrow.Author.Tests.{eqb-true, ne-eqb}
 use Rattle.facts.specs.Bytes.{Bytes}
-use Rattle.facts.proofs.Truth.{and-left, and-right}
+use Rattle.facts.proofs.Truth.{and-left, and-right, and-none}
 use Rattle.rules.specs.Class.{Class}
 use Rattle.rules.specs.Record.{Record, unknown, fragment, root, class, range, option, recordOf, behind, size, layouts}
 use Rattle.rules.specs.Faults.{Seen, top, rootFault}
@@ -64,13 +64,9 @@ any-root t at k n r anOption h = refl
 root-here : (t : List ℕ) (at : ℕ) (x : List ℕ) → Rest t at x → (n : ℕ) → (leb (size x) (length x) && isRoot n (recordOf x)) ≡ rootHere t n at
 unfolding rootHere isRoot
 root-here t at x r n = ⊎-elim
-    (λ e. rw (e .1, ne-eqb (headFault t at) 0 (λ f. head-whole t at f .known (e .0))) (none-left (leb (size x) (length x))))
+    (λ e. rw (e .1, ne-eqb (headFault t at) 0 (λ f. head-whole t at f .known (e .0))) (and-none (leb (size x) (length x))))
     (λ k. rw (whole-at t at x r (k .0), is-root t at n _ _ _ (stands t at x r) (k .0)))
     (known-or-not t at _ _ _ (stands t at x r))
-  where
-    none-left : (b : Bool) → (b && false) ≡ false
-    none-left true = refl
-    none-left false = refl
 
 a-root : (t : List ℕ) (at n : ℕ) (r : Record) → Stands t at 6 n r → (n ≡ noKind → ⊥) → (r ≡ root (byteAt t (at + 1))) × (n ≡ 1)
 a-root t at n r nothing h = absurd (h refl)

@@ -1,7 +1,7 @@
 -- Laws of tests, and of the rules' way and the check's way to put one test before another.
 use mathlib.Core.Path.{_≡_, refl, sym}
 use mathlib.Core.Bool.{Bool, true, false, not, _&&_, _||_}
-use Prim.Native.Nat.{ℕ, zero, suc, _+_, _<_, _≤_}
+use Prim.Native.Nat.{ℕ, suc, _+_, _<_, _≤_}
 use native.Mathlib.Omega.{arith}
 use lib.Dec.{ltb, leb, eqb}
 use borrow.Author.Tests.{leb-true, leb-false, le-ltb, lt-ltb, eq-eqb, ne-eqb, eqb-true, eqb-false}
@@ -59,11 +59,6 @@ pub pick-high : (b : Bool) (n m : ℕ) → 9 ≤ n → (m < 9 → m ≡ 0) → p
 unfolding pick
 pick-high true n m h k l = absurd (omega arith)
 pick-high false n m h k l = k l
-
-pub first-none : (a b : ℕ) → first a b ≡ 0 → (a ≡ 0) × (b ≡ 0)
-unfolding first
-first-none zero b e = (refl, e)
-first-none (suc a) b e = absurd (omega arith)
 
 -- a test, and what holds behind it where it finds nothing
 pub first-pick : (b : Bool) (n m m′ : ℕ) → (b ≡ false → m ≡ m′) → pick b (suc n) m ≡ first (pick b (suc n) 0) m′

@@ -12,7 +12,7 @@ use Rattle.rules.specs.Parse.{Parsed, bad, good, Parser, then as rulesThen, sou
 use Rattle.table.specs.declared.Walk.{Walk}
 use Rattle.table.specs.declared.Walk.the-variants.{Fine, Bad}
 use Rattle.table.specs.Check.{pickN, first, orElse, then, byteAt, headFault, orderFault, lowest}
-use Rattle.table.proofs.TieTests.{first-none}
+use Rattle.table.proofs.Picked.{first-fine}
 use Rattle.table.proofs.TieBytes.{Rest}
 use Rattle.table.proofs.TieHead.{Whole, head-whole}
 use Rattle.table.proofs.TieIds.{Sees}
@@ -65,7 +65,7 @@ module _ (t : List ℕ) (trace : Bool) (os : List ℕ) where
   one-tie q s {A} {P} at x h more l m e f w k =
       sound-tie at x h (f (recordOf x)) w (first (headFault t at) m) _
       (number-tie t q trace os s at x h more l ∙ ap (λ c. lowest t trace os c at) (agree (headFault t at) refl))
-      (λ z. let n = first-none (headFault t at) m z in k (head-whole t at (n .0)) (n .1))
+      (λ z. let n = first-fine (headFault t at) m z in k (head-whole t at (n .0)) (n .1))
     where
       agree : (c : ℕ) → headFault t at ≡ c → first c (more (recordOf x)) ≡ first c m
       agree zero p = unfold first in e (head-whole t at p)
