@@ -17,7 +17,7 @@ use Rattle.rules.specs.Faults.{pick, Seen, recordFault, Spot, top, inside, memb
 use Rattle.facts.proofs.Truth.{or-false}
 use Rattle.facts.proofs.Faults.{pick-zero, pick-false}
 use Rattle.promises.proofs.Local.{no-fault}
-use Rattle.promises.proofs.Law.{Fits, FitMembers, FitOptions, FitRoot}
+use Rattle.laws.proofs.Law.{Fits, FitMembers, FitOptions, FitRoot}
 use Rattle.promises.proofs.Packets.{Fitting}
 
 -- behind a record there are fewer bytes

@@ -1,7 +1,7 @@
 -- Entries that are all of a kind, and steps that list only such. The entries of fields have kinds 16 to 32, and those of clocks kind 6.
 use mathlib.Core.Path.{_≡_, refl}
 use mathlib.Core.Logic.{_⊎_, inl, inr}
-use mathlib.Core.List.{List, [], _∷_, _++_}
+use mathlib.Core.List.{List}
 use mathlib.Core.Bool.{Bool, true, false}
 use mathlib.Core.Option.{Option}
 use Rattle.rules.specs.declared.BitPlace.{BitPlace}
@@ -15,22 +15,19 @@ use Rattle.rules.specs.Class.{Class}
 use Rattle.rules.specs.Field.{Env, aligned, field, store, say, fromSlot}
 use Rattle.rules.specs.Packet.{readRoot}
 use Rattle.facts.proofs.Steps.{listOf}
-use Rattle.promises.specs.Words.{All}
-use Rattle.promises.proofs.Law.{FieldKind}
+use Rattle.laws.specs.All.{All}
+use Rattle.laws.proofs.All.{all-append}
+use Rattle.laws.proofs.Law.{FieldKind}
 use Rattle.promises.proofs.Simple.{Simple, view, simple-root}
 
 module _ (P : Entry → Type 0) where
   pub record Each (m : Step) : Type 0 where
     pub at : (s : State) → All P (listOf (m s))
 
-  pub all-append : (es fs : List Entry) → All P es → All P fs → All P (es ++ fs)
-  all-append [] fs h k = k
-  all-append (e ∷ es) fs h k = (h .0, all-append es fs (h .1) k)
-
   pub all-onto : (es : List Entry) (o : Out) → All P es → All P (listOf o) → All P (listOf (onto es o))
   unfolding onto listOf
-  all-onto es (stop fs v) h k = all-append es fs h k
-  all-onto es (go fs s) h k = all-append es fs h k
+  all-onto es (stop fs v) h k = all-append P es fs h k
+  all-onto es (go fs s) h k = all-append P es fs h k
 
   pub all-after : (o : Out) (n : Step) → All P (listOf o) → ((s : State) → All P (listOf (n s))) → All P (listOf (after o n))
   unfolding after listOf

@@ -28,7 +28,7 @@ use Rattle.rules.specs.Read.{Reading, ended, begin, readStream, readAll, readPa
 use Rattle.rules.specs.Packet.{readEvent, readEvents, readContent, readPacket, readPackets, withEvent, withStream, mark, readRoot, startEvent, startPacket, endPacket}
 use Rattle.facts.proofs.Steps.{listOf, onto-nil, onto-cons}
 use Rattle.facts.proofs.Truth.{clash}
-use Rattle.promises.specs.Words.{All}
+use Rattle.laws.specs.All.{All}
 use Rattle.promises.proofs.Each.{Each, _⨾ᵉ_, each-check, each-due, each-change, each-pass, each-refuse, each-λ, each-listed, FieldEntry, fields-root}
 use Rattle.promises.proofs.Leave.{kept, gone, stream-kept, stream-gone}
 use Rattle.promises.specs.Edition.{keep, keepStreams, keepEvents, both}

@@ -21,13 +21,13 @@ use Rattle.rules.specs.Packet.{readEvent, readPackets}
 use Rattle.rules.specs.Read.{Reading, ended, begin, readStream, readAll, readParsed}
 use Rattle.facts.proofs.Refusals.{refusalNumber-bounds}
 use Rattle.promises.specs.Laws.{Rising, Within, Inside, TheLaws}
-use Rattle.promises.proofs.Law.{Any}
-use Rattle.promises.proofs.Triple.{Ok}
+use Rattle.laws.proofs.Law.{Any}
+use Rattle.laws.proofs.Triple.{Ok}
 use Rattle.promises.proofs.Rising.{RiseOut, Onward}
 use Rattle.promises.proofs.Rounds.{event-rounds}
 use Rattle.promises.proofs.Spent.{reading-spent}
 use Rattle.promises.proofs.Room.{room-more}
-use Rattle.promises.proofs.Bounds.{In, At, NoMore}
+use Rattle.laws.proofs.Between.{In, At, NoMore}
 use Rattle.promises.proofs.Packets.{Fitting, Positive, bound-event, packet-rounds, go-packets}
 use Rattle.promises.proofs.Accepted.{accepted-fits, table-rounds}
 use Rattle.promises.proofs.Listed.{reading-words, list-words}

@@ -1,11 +1,9 @@
-pub mod Law
 pub mod Simple
 pub mod Each
 pub mod Rising
 pub mod Rounds
 pub mod Spent
 pub mod Room
-pub mod Triple
 pub mod Values
 pub mod Bounds
 pub mod Packets

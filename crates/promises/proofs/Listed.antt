@@ -29,8 +29,9 @@ use Rattle.rules.specs.Read.{ended, begin, readStream, readAll, readParsed}
 use Rattle.facts.specs.Bytes.{Bytes}
 use Rattle.facts.proofs.Bytes.{bytes-take, bytes-drop}
 use Rattle.facts.proofs.Truth.{or-false}
-use Rattle.promises.specs.Words.{Word, All, AllWords, WordEntry, WordIds, WordStop, WordReading}
-use Rattle.promises.proofs.Triple.{Ok, changing, naming, tested, untested}
+use Rattle.laws.specs.All.{All}
+use Rattle.promises.specs.Words.{Word, AllWords, WordEntry, WordIds, WordStop, WordReading}
+use Rattle.laws.proofs.Triple.{Ok, changing, naming, tested, untested}
 use Rattle.promises.proofs.Packets.{Fitting}
 use Rattle.promises.proofs.Accepted.{accepted-fits}
 use Rattle.promises.proofs.Exact.{found-id}

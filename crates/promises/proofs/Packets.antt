@@ -25,10 +25,11 @@ use Rattle.rules.specs.Field.{Env}
 use Rattle.rules.specs.Packet.{readEvent, readEvents, readContent, readPacket, readPackets, withEvent, withStream, mark, readRoot, startEvent, startPacket, nothingSaid, endPacket, orElse}
 use Rattle.facts.proofs.Truth.{or-false, if-agree}
 use Rattle.promises.specs.Laws.{Moved, Inside}
-use Rattle.promises.proofs.Law.{Any, FitRoot}
-use Rattle.promises.proofs.Triple.{Ok, then, changing, naming, checks, dued}
+use Rattle.laws.proofs.Law.{Any, FitRoot}
+use Rattle.laws.proofs.Triple.{Ok, then, changing, naming, checks, dued}
 use Rattle.promises.proofs.Rising.{RiseOut, Rise, Onward, rise-after, _⨾ᵘ_, rise-refuse, rise-check, rise-due, rise-change, rise-mark, rise-root}
-use Rattle.promises.proofs.Bounds.{In, At, NoMore, Bounded, place-of, bound-root}
+use Rattle.laws.proofs.Between.{In, At, NoMore}
+use Rattle.promises.proofs.Bounds.{Bounded, place-of, bound-root}
 
 -- a table whose classes fit
 pub record Fitting (N W : ℕ → Type 0) (t : Asked) : Type 0 where

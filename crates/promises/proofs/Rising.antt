@@ -1,8 +1,8 @@
 -- The place never goes back: each entry's place is at or behind the one before, and where a step goes on or stops is at or behind the last.
 use mathlib.Core.Path.{_≡_, refl}
-use Prim.Native.Nat.{ℕ, _+_, _-_, _≤_}
+use Prim.Native.Nat.{ℕ, _≤_}
 use native.Mathlib.Omega.{arith}
-use native.Mathlib.Nat.{le-refl, div-add-mod', mod-lt}
+use native.Mathlib.Nat.{le-refl}
 use mathlib.Core.List.{List, [], _∷_, _++_}
 use mathlib.Core.Bool.{Bool, true, false}
 use mathlib.Core.Option.{Option}
@@ -10,24 +10,14 @@ use Rattle.rules.specs.declared.BitPlace.{BitPlace}
 use Rattle.rules.specs.declared.Entry.{Entry}
 use Rattle.rules.specs.declared.Refusal.{Refusal}
 use Rattle.rules.specs.declared.Refusal.the-variants.{ListFull}
-use Rattle.rules.specs.Place.{roundUp, alignFrom}
 use Rattle.rules.specs.Slots.{slotAt}
 use Rattle.rules.specs.Step.{State, Out, stop, go, Step, onto, after, _⨾_, refuse, check, due, listed, change, pass, withSlots, withOrder, withClock, withSaid}
 use Rattle.rules.specs.Class.{Class}
 use Rattle.rules.specs.Field.{Env, aligned, field, store, say, fromSlot}
 use Rattle.rules.specs.Packet.{mark, readRoot}
+use Rattle.laws.proofs.Places.{alignFrom-le}
 use Rattle.promises.specs.Laws.{Rising}
 use Rattle.promises.proofs.Simple.{Simple, view, simple-root}
-
--- alignment does not go back
-
-roundUp-le : (a x : ℕ) → 1 ≤ a → x ≤ roundUp a x
-unfolding roundUp
-roundUp-le a x h = omega (arith, div-add-mod' (x + (a - 1)) a, mod-lt (x + (a - 1)) h)
-
-pub alignFrom-le : (start a p : ℕ) → 1 ≤ a → p ≤ alignFrom start a p
-unfolding alignFrom
-alignFrom-le start a p h = omega (arith, roundUp-le a (p - start) h)
 
 abbrev pub RiseOut : ℕ → Out → Type 0
 RiseOut p (stop es v) = Rising es p (v .place .0)

@@ -40,7 +40,7 @@ use Rattle.rules.specs.Table.{StreamClass, EventClass, Asked}
 use Rattle.rules.specs.Field.{Env, aligned, fit, ahead, bytesAt, field, store, newClock, say, role, sameBytes, blobRole, fromSlot, valueOf, slotOf, otherOrder, turned}
 use Rattle.rules.specs.Field.{readFixed, readLeb, readZero, readText, readBlob}
 use Rattle.rules.specs.Packet.{mark, readRoot, withEvent, startEvent, readEvent, endPacket, readEvents, orElse, above, readContent, withStream, differs, startPacket, readPacket, readPackets}
-use Rattle.promises.proofs.Law.{FieldKind, Any, any-slot, Law, law-any}
+use Rattle.laws.proofs.Law.{FieldKind, Any, any-slot, Law, law-any}
 
 -- what a step may look at beside the slots and the room
 pub record View : Type 0 where

@@ -21,7 +21,7 @@ use Rattle.rules.specs.Slots.{Slots, slot, slotAt, setSlot, noSlots, packetSlot
 use Rattle.rules.specs.Field.{truth, oneOrNone, valueOf, slotOf}
 use Rattle.bits.proofs.Laws.{bits-below}
 use Rattle.promises.specs.Words.{Word}
-use Rattle.promises.proofs.Law.{SlotOf}
+use Rattle.laws.proofs.Law.{SlotOf}
 
 bits-word : (o : Order) (s : List ℕ) (p n : ℕ) → n ≤ 64 → Word (bits o s p n)
 bits-word o s p n h = let l : 2 ^ n ≤ 2 ^ 64 = pow-mono h in omega (arith, bits-below o s p n)

@@ -39,11 +39,11 @@ use Rattle.rules.specs.Field.{Env, aligned, fit, field, store, newClock, say, r
 use Rattle.rules.specs.Packet.{readRoot}
 use Rattle.leb128.proofs.ValueSays.{unsigned-value, signed-value}
 use Rattle.text.proofs.Laws.{text-le, zero-found}
+use Rattle.laws.proofs.Places.{LebFits, ahead-fits}
 use Rattle.promises.specs.Words.{Word, WordEntry, WordIds, WordStop}
-use Rattle.promises.proofs.Law.{SlotOf, Law, FitRoot, law-root}
-use Rattle.promises.proofs.Triple.{Ok, Triple, then, passing, changing, refusing, checks, tested, untested, dued}
+use Rattle.laws.proofs.Law.{SlotOf, Law, FitRoot, law-root}
+use Rattle.laws.proofs.Triple.{Ok, Triple, then, passing, changing, refusing, checks, tested, untested, dued}
 use Rattle.promises.proofs.Values.{value-word, clock-word, WordSlots, slot-word, set-word, slotOf-word}
-use Rattle.promises.proofs.Bounds.{LebFits, ahead-fits}
 
 abbrev pub StatedWord : Stated → Type 0
 StatedWord Missing = Unit {0}

@@ -21,7 +21,9 @@ use Rattle.rules.specs.Table.{Table, StreamClass, asked}
 use Rattle.rules.specs.Parse.{good, parse, parseFragments}
 use Rattle.rules.specs.Packet.{readEvent, readEvents, readPackets}
 use Rattle.rules.specs.Read.{Reading, begin, readAll}
-use Rattle.promises.specs.Words.{All, AllWords, WordReading}
+use Rattle.laws.specs.All.{All}
+use Rattle.laws.specs.Between.{Between}
+use Rattle.promises.specs.Words.{AllWords, WordReading}
 
 -- Entries
 
@@ -31,9 +33,6 @@ Rising [] p q = p ≤ q
 Rising (e ∷ es) p q = (p ≤ e .place .0) × Rising es (e .place .0) q
 
 -- States within a packet
-
-abbrev pub Between : Env → ℕ → Type 0
-Between e p = (e .start .0 ≤ p) × (p ≤ e .bound .0)
 
 -- no length is stated, or the place is behind the packet's start
 abbrev pub Moved : Env → ℕ → Said → Type 0

@@ -8,6 +8,7 @@ use Rattle.rules.specs.declared.Refusal.the-variants.{StreamSize, PastBound, Or
 use Rattle.rules.specs.declared.Stop.{Stop}
 use Rattle.rules.specs.declared.Verdict.{Verdict}
 use Rattle.rules.specs.declared.Verdict.the-variants.{Accepted, TableRefused, Refused}
+use Rattle.laws.specs.All.{All}
 
 abbrev pub Word : ℕ → Type 0
 Word n = n < 2 ^ 64
@@ -15,11 +16,6 @@ Word n = n < 2 ^ 64
 abbrev pub AllWords : List ℕ → Type 0
 AllWords [] = Unit {0}
 AllWords (n ∷ l) = Word n × AllWords l
-
--- what holds of every entry of a list
-abbrev pub All : (Entry → Type 0) → List Entry → Type 0
-All P [] = Unit {0}
-All P (e ∷ es) = P e × All P es
 
 -- the words of an entry, and a verdict's place and ids
 abbrev pub WordEntry : Entry → Type 0

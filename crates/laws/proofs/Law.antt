@@ -71,7 +71,7 @@ module _ (N W : ℕ → Type 0) where
       fits (optional i g rs c) = fits c
       fits (variant i g os) = fitOptions os 0
 
-      fitMembers : (cs : Classes) → FitMembers cs
+      pub fitMembers : (cs : Classes) → FitMembers cs
       fitMembers noMember = tt
       fitMembers (member c cs) = (fits c, fitMembers cs)
 
@@ -138,7 +138,7 @@ module _ (e : Env) {N W : ℕ → Type 0} {L R : Step → Type 0} (h : Law e N W
   unfolding asLength
   law-length x f p g = law-number plain x _ p (λ n q. h .within n (g n q))
 
-  law-times : (n : ℕ) {m : Step} → L m → L (times n m)
+  pub law-times : (n : ℕ) {m : Step} → L m → L (times n m)
   unfolding times
   law-times zero g = h .passes
   law-times (suc n) g = h .seq g (law-times n g)
@@ -172,7 +172,7 @@ module _ (e : Env) {N W : ℕ → Type 0} {L R : Step → Type 0} (h : Law e N W
     law-read (optional i g rs c) w = h .dueʳ (h .slot i _ (λ x p. law-number g x _ p (λ v q. law-present (anyHolds g v rs) (law-read c w))))
     law-read (variant i g os) w = h .dueʳ (h .slot i _ (λ x p. law-number g x _ p (λ v q. law-option g v 0 os w)))
 
-    law-members : (cs : Classes) → FitMembers N W cs → L (readMembers e cs)
+    pub law-members : (cs : Classes) → FitMembers N W cs → L (readMembers e cs)
     law-members noMember w = h .passes
     law-members (member c cs) w = h .seq (law-read c (w .0)) (law-members cs (w .1))
 

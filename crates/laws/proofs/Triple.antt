@@ -8,8 +8,8 @@ use Rattle.rules.specs.declared.Refusal.the-variants.{ListFull}
 use Rattle.rules.specs.declared.Stop.{Stop}
 use Rattle.rules.specs.Verdict.{stopAt}
 use Rattle.rules.specs.Step.{State, Out, stop, go, Step, onto, after, _⨾_, refuse, check, due, change, pass}
-use Rattle.promises.specs.Words.{All}
-use Rattle.promises.proofs.Each.{all-append}
+use Rattle.laws.specs.All.{All}
+use Rattle.laws.proofs.All.{all-append}
 
 -- Q of every entry, U of where it stops; I is what is asked of a refusal's ids
 module _ (Q : Entry → Type 0) (U : Stop → Type 0) (I : Refusal → Type 0) where
@@ -47,6 +47,13 @@ module _ (Q : Entry → Type 0) (U : Stop → Type 0) (I : Refusal → Type 0) w
     pub weaker : {A′ B : State → Type 0} {m : Step} → ((s : State) → A′ s → A s) → Triple A m B → Triple A′ m B
     weaker f h = record { at = λ s a. h .at s (f s a) }
 
+    pub looser : {B B′ : State → Type 0} {m : Step} → ((s : State) → B s → B′ s) → Triple A m B → Triple A m B′
+    looser {B} {B′} {m} f h = record { at = λ s a. out (m s) (h .at s a) }
+      where
+        out : (o : Out) → Ok B o → Ok B′ o
+        out (stop es v) k = k
+        out (go es s) k = (k .0, f s (k .1))
+
     pub naming : {B : State → Type 0} (r : Refusal) → ((s : State) → A s → U (stopAt r (s .place))) → Triple A (refuse r) B
     unfolding refuse
     naming r u = record { at = λ s h. (tt, u s h) }
@@ -72,14 +79,7 @@ module _ (Q : Entry → Type 0) (U : Stop → Type 0) (I : Refusal → Type 0) w
       untested {B} t r i {m} h = then (checking t r i) (record { at = λ s a. h .at s (a .0) })
 
       pub checks : (t : State → Bool) (r : Refusal) → I r → Triple A (check t r) A
-      checks t r i = by
-        where
-          by : Triple A (check t r) A
-          by = record { at = λ s a. out (check t r s) (checking t r i .at s a) }
-            where
-              out : (o : Out) → Ok (λ s. A s × (t s ≡ false)) o → Ok A o
-              out (stop es v) h = h
-              out (go es s) h = (h .0, h .1 .0)
+      checks t r i = looser (λ s a. a .0) (checking t r i)
 
       pub dued : I ListFull → {B : State → Type 0} {m : Step} → Triple A m B → Triple A (due ⨾ m) B
       unfolding due

@@ -1,0 +1,269 @@
+-- A reading of fields never leaves the packet: the place does not go back, and stays between the packet's start and the bound.
+-- One law says it together with any fact of the place, and of what the roles said, that outlasts moves.
+use mathlib.Core.Path.{_≡_, refl, subst}
+use Prim.Native.Nat.{ℕ, _+_, _*_, _^_, _≤_, _<_}
+use native.Mathlib.Omega.{arith}
+use native.Mathlib.Nat.{le-refl}
+use lib.Pow.{pow-pos}
+use mathlib.Core.List.{List}
+use mathlib.Core.Bool.{Bool}
+use mathlib.Core.Option.{Option, none, some}
+use lib.ListN.{length}
+use borrow.Author.Tests.{ltb-false}
+use Rattle.rules.specs.declared.ByteLength.{ByteLength}
+use Rattle.rules.specs.declared.Order.{Order}
+use Rattle.rules.specs.declared.LastOrder.{LastOrder}
+use Rattle.rules.specs.declared.LastOrder.the-variants.{Was}
+use Rattle.rules.specs.declared.Content.{Content}
+use Rattle.rules.specs.declared.Content.the-variants.{Unsigned, Signed}
+use Rattle.rules.specs.declared.Said.{Said}
+use Rattle.rules.specs.declared.Leb.{Leb}
+use Rattle.rules.specs.declared.Leb.the-variants.{Value, Past, Large}
+use Rattle.rules.specs.declared.Ended.{Ended}
+use Rattle.rules.specs.declared.Ended.the-variants.{After, Never}
+use Rattle.rules.specs.declared.Entry.{Entry}
+use Rattle.rules.specs.declared.Refusal.{Refusal}
+use Rattle.rules.specs.declared.Refusal.the-variants.{PastBound, OrderChanged, LebTooLarge, NoZeroByte, SlotUnset, SlotOfWrongSort, LengthTooLarge, SelectorInNoOption, WrongMagic, WrongUuid, ClockTooLarge}
+use Rattle.rules.specs.declared.Stop.{Stop}
+use Rattle.rules.specs.Verdict.{stopAt}
+use Rattle.rules.specs.Bits.{bits}
+use Rattle.rules.specs.Leb128.{lebUnsigned, lebSigned}
+use Rattle.rules.specs.Clock.{clockAfter}
+use Rattle.rules.specs.Text.{textLength, zeroAt}
+use Rattle.rules.specs.Place.{alignFrom}
+use Rattle.rules.specs.Slots.{slotAt}
+use Rattle.rules.specs.Entry.{entry, clockAdvanced}
+use Rattle.rules.specs.Step.{State, go, Step, _⨾_, check, listed, change, pass, withSlots, withOrder, withClock, withSaid}
+use Rattle.rules.specs.Class.{Role, noRole, magic, streamClassId, streamId, uuid, totalLength, contentLength, clock, endClock, discarded, sequence, eventClassId}
+use Rattle.rules.specs.Class.{Class, Classes, Sort, kindOf}
+use Rattle.rules.specs.Field.{Env, aligned, fit, field, store, newClock, say, role, blobRole, fromSlot, valueOf, slotOf, ahead, bytesAt, readFixed, readLeb, readZero, readText, readBlob, times, read, readMembers}
+use Rattle.leb128.proofs.ValueSays.{unsigned-value, signed-value}
+use Rattle.text.proofs.Laws.{zero-found}
+use Rattle.laws.specs.Between.{Between}
+use Rattle.laws.proofs.Law.{Any, any-slot, Law, fits, fitMembers, law-times, law-read, law-members}
+use Rattle.laws.proofs.Triple.{Ok, Triple, then, passing, changing, looser, refusing, checks, tested, untested, dued}
+use Rattle.laws.proofs.Places.{alignFrom-le, start-le, align-one, ahead-fits, LebFits}
+
+-- J outlasts moves; and outlasts what a role says behind a field of n bits, where N n
+pub record Kept (e : Env) (N : ℕ → Type 0) (J : ℕ → Said → Type 0) : Type 0 where
+  pub some-bits : (n : ℕ) → 1 ≤ n → N n
+  pub moves : (p q : ℕ) (d : Said) → p ≤ q → J p d → J q d
+  pub says : (n p : ℕ) (d d′ : Said) → N n → e .start .0 + n ≤ p → J p d → J p d′
+
+pub record Held (e : Env) (J : ℕ → Said → Type 0) (s : State) : Type 0 where
+  pub from : e .start .0 ≤ s .place .0
+  pub to : s .place .0 ≤ e .bound .0
+  pub kept : J (s .place .0) (s .said)
+
+module _ (e : Env) where
+  abbrev pub In : Entry → Type 0
+  In x = Between e (x .place .0)
+
+  abbrev pub At : Stop → Type 0
+  At v = Between e (v .place .0)
+
+  abbrev pub NoMore : Refusal → Type 0
+  NoMore r = Unit {0}
+
+  abbrev pub Holding : (ℕ → Said → Type 0) → Step → Type 0
+  Holding J m = Triple In At NoMore (Held e J) m (Held e J)
+
+  module _ {N : ℕ → Type 0} {J : ℕ → Said → Type 0} (j : Kept e N J) where
+    abbrev Fine : (State → Type 0) → Step → (State → Type 0) → Type 0
+    Fine A m B = Triple In At NoMore A m B
+
+    abbrev Holds : State → Type 0
+    Holds s = Held e J s
+
+    abbrev Stays : Step → Type 0
+    Stays m = Fine Holds m Holds
+
+    -- n bits fit from where a field stands, and the place is behind n bits
+    abbrev Fit : ℕ → ℕ → State → Type 0
+    Fit a n s = Holds s × ((aligned e a s) .0 + n ≤ e .bound .0)
+
+    abbrev Behind : ℕ → State → Type 0
+    Behind n s = Holds s × (e .start .0 + n ≤ s .place .0)
+
+    stops : (r : Refusal) → NoMore r → (s : State) → Holds s → At (stopAt r (s .place))
+    stops r i s h = (h .from, h .to)
+
+    infixr 20 _⨾ᵇ_
+    _⨾ᵇ_ : {A B C : State → Type 0} {m n : Step} → Fine A m B → Fine B n C → Fine A (m ⨾ n) C
+    h ⨾ᵇ k = then In At NoMore h k
+
+    fitting : (a n : ℕ) {m : Step} → Fine (Fit a n) m Holds → Stays (fit e a n ⨾ m)
+    unfolding fit
+    fitting a n h = tested In At NoMore stops _ PastBound tt (record { at = λ s x. h .at s (x .0, ltb-false _ _ (x .1)) })
+
+    at-zero : (a : ℕ) {m : Step} → Fine (λ s. Holds s × ((aligned e a s) .0 ≤ e .bound .0)) m Holds → Stays (fit e a 0 ⨾ m)
+    at-zero a h = fitting a 0 (record { at = λ s x. let b : (aligned e a s) .0 + 0 ≤ e .bound .0 = x .1 in h .at s (x .0, omega arith) })
+
+    plain-fit : (a n : ℕ) {m : Step} → Stays m → Stays (fit e a n ⨾ m)
+    unfolding fit
+    plain-fit a n h = untested In At NoMore stops _ PastBound tt h
+
+    -- a field that fits
+    put-field : (k a n v : ℕ) → 1 ≤ a → Fine (Fit a n) (field e k a n v) (Behind n)
+    unfolding field listed aligned
+    put-field k a n v h = record {
+      at = λ s x.
+          let g = x .0 in
+          let b : alignFrom (e .start .0) a (s .place .0) + n ≤ e .bound .0 = x .1 in
+          let l : s .place .0 ≤ alignFrom (e .start .0) a (s .place .0) = alignFrom-le (e .start .0) a (s .place .0) h in
+          let f : e .start .0 ≤ alignFrom (e .start .0) a (s .place .0) = start-le (e .start .0) a (s .place .0) in
+          ((omega arith, tt), (record { from = omega arith; to = b; kept = j .moves (s .place .0) _ (s .said) (omega arith) (g .kept) }, omega arith));
+    }
+
+    a-field : (k a n v : ℕ) → 1 ≤ a → Fine (Fit a n) (field e k a n v) Holds
+    a-field k a n v h = looser In At NoMore (λ s x. x .0) (put-field k a n v h)
+
+    tagged : (k v : ℕ) → Stays (field e k 1 0 v)
+    unfolding aligned
+    tagged k v = record { at = λ s h. a-field k 1 0 v (le-refl 1) .at s (h, omega (arith, align-one (e .start .0) (s .place .0) (h .from), h .to)) }
+
+    -- what leaves place and said alone
+    set-order : (n : ℕ) (o : LastOrder) → Fine (Behind n) (change (withOrder o)) (Behind n)
+    unfolding withOrder
+    set-order n o = changing In At NoMore _ (λ s h. (record { from = h .0 .from; to = h .0 .to; kept = h .0 .kept }, h .1))
+
+    set-slot : (n i : ℕ) (x : Content) → Fine (Behind n) (store i x) (Behind n)
+    unfolding store withSlots
+    set-slot n i x = changing In At NoMore _ (λ s h. (record { from = h .0 .from; to = h .0 .to; kept = h .0 .kept }, h .1))
+
+    held-check : (t : State → Bool) (r : Refusal) → Stays (check t r)
+    held-check t r = checks In At NoMore stops t r tt
+
+    held-pass : Stays pass
+    held-pass = passing In At NoMore
+
+    held-clock : (l : ℕ) (o : Option ℕ) → Stays (newClock l o)
+    unfolding newClock
+    held-clock l none = refusing In At NoMore stops ClockTooLarge tt
+    held-clock l (some c) = by ⨾ᵇ changing In At NoMore (withClock c) (λ s h. unfold withClock in record { from = h .from; to = h .to; kept = h .kept })
+      where
+        by : Stays (λ s. listed (entry clockAdvanced (s .place) l c) (s .place) s)
+        by = unfold listed in record { at = λ s h. (((h .from, h .to), tt), record { from = h .from; to = h .to; kept = h .kept }) }
+
+    module _ (n : ℕ) (w : N n) where
+      saying : (f : Said → Said) → Fine (Behind n) (say f) Holds
+      unfolding say withSaid
+      saying f = changing In At NoMore _ (λ s h.
+          record { from = h .0 .from; to = h .0 .to; kept = j .says n (s .place .0) (s .said) (f (s .said)) w (h .1) (h .0 .kept) })
+
+      easy : {m : Step} → Stays m → Fine (Behind n) m Holds
+      easy h = record { at = λ s x. h .at s (x .0) }
+
+      held-role : (r : Role) (l v : ℕ) → Fine (Behind n) (role r l v) Holds
+      unfolding role
+      held-role noRole l v = easy held-pass
+      held-role magic l v = easy (held-check _ WrongMagic)
+      held-role streamClassId l v = saying _
+      held-role streamId l v = easy held-pass
+      held-role uuid l v = easy held-pass
+      held-role totalLength l v = saying _
+      held-role contentLength l v = saying _
+      held-role clock l v = easy (dued In At NoMore stops tt (record { at = λ s h. held-clock l (clockAfter (s .clock) l v) .at s h }))
+      held-role endClock l v = saying _
+      held-role discarded l v = easy held-pass
+      held-role sequence l v = easy held-pass
+      held-role eventClassId l v = saying _
+
+    held-blobRole : (r : Role) (b : List ℕ) → Stays (blobRole e r b)
+    unfolding blobRole
+    held-blobRole noRole b = held-pass
+    held-blobRole magic b = held-pass
+    held-blobRole streamClassId b = held-pass
+    held-blobRole streamId b = held-pass
+    held-blobRole uuid b = held-check _ WrongUuid
+    held-blobRole totalLength b = held-pass
+    held-blobRole contentLength b = held-pass
+    held-blobRole clock b = held-pass
+    held-blobRole endClock b = held-pass
+    held-blobRole discarded b = held-pass
+    held-blobRole sequence b = held-pass
+    held-blobRole eventClassId b = held-pass
+
+    held-fixed : (k : Sort) (n : ℕ) (o : Order) (a i : ℕ) (r : Role) → N n → 1 ≤ a → Stays (readFixed e k n o a i r)
+    unfolding readFixed
+    held-fixed k n o a i r w h =
+        dued In At NoMore stops tt (plain-fit a 0 (untested In At NoMore stops _ OrderChanged tt (fitting a n (record {
+          at = λ s x.
+              (let v : ℕ = bits o (e .bytes) ((aligned e a s) .0) n in
+              put-field (kindOf k) a n (valueOf k n v) h ⨾ᵇ set-order n (Was o) ⨾ᵇ set-slot n i (slotOf k n v) ⨾ᵇ held-role n w r n (valueOf k n v)) .at s x;
+        }))))
+
+    held-leb : (k : ℕ) (sl : ℕ → Content) (i : ℕ) (r : Role) (x : Leb) (s : State) → Holds s → (aligned e 8 s) .0 ≤ e .bound .0
+        → LebFits (ahead e (aligned e 8 s)) x → Ok In At NoMore Holds (readLeb e k sl i r x s)
+    unfolding readLeb
+    held-leb k sl i r Past s h b g = refusing In At NoMore stops PastBound tt .at s h
+    held-leb k sl i r Large s h b g = refusing In At NoMore stops LebTooLarge tt .at s h
+    held-leb k sl i r (Value v n) s h b g =
+        let y = g v n refl in
+        let w : N (8 * n .0) = j .some-bits (8 * n .0) (omega (arith, y .some)) in
+        (put-field k 8 (8 * n .0) v (omega arith) ⨾ᵇ set-slot (8 * n .0) i (sl v) ⨾ᵇ held-role (8 * n .0) w r (7 * n .0) v) .at s
+        (h, ahead-fits e (aligned e 8 s) (n .0) b (y .inside))
+
+    held-zero : (x : Ended) (s : State) → Holds s → (aligned e 8 s) .0 ≤ e .bound .0 → ((n : ByteLength) → x ≡ After n → n .0 < length (ahead e (aligned e 8 s)))
+        → Ok In At NoMore Holds (readZero e x s)
+    unfolding readZero
+    held-zero Never s h b g = refusing In At NoMore stops NoZeroByte tt .at s h
+    held-zero (After n) s h b g =
+        let l : n .0 < length (ahead e (aligned e 8 s)) = g n refl in
+        a-field 23 8 (8 * (n .0 + 1)) (n .0) (omega arith) .at s (h, ahead-fits e (aligned e 8 s) (n .0 + 1) b (omega arith))
+
+    pub held-law : Law e N Any (Holding J) (Holding J)
+    unfolding fromSlot
+    held-law = record {
+      none? = tt;
+      one? = tt;
+      seq = λ h k. h ⨾ᵇ k;
+      dueʳ = λ h. dued In At NoMore stops tt h;
+      passes = held-pass;
+      unset = refusing In At NoMore stops SlotUnset tt;
+      wrongSort = refusing In At NoMore stops SlotOfWrongSort tt;
+      inNone = refusing In At NoMore stops SelectorInNoOption tt;
+      within = λ n h. untested In At NoMore stops _ LengthTooLarge tt h;
+      slot = λ i f h. record { at = λ s x. h (slotAt (s .slots) i) (any-slot (slotAt (s .slots) i)) .at s x };
+      fixes = λ k n o a i r w. held-fixed k n o (2 ^ a) i r w (pow-pos a);
+      lebs = λ i r. at-zero 8 (record { at = λ s x. held-leb 21 Unsigned i r (lebUnsigned (ahead e (aligned e 8 s))) s (x .0) (x .1) (unsigned-value _) });
+      signedLebs = λ i. at-zero 8 (record { at = λ s x. held-leb 22 Signed i noRole (lebSigned (ahead e (aligned e 8 s))) s (x .0) (x .1) (signed-value _) });
+      zeros = at-zero 8 (record { at = λ s x. held-zero (zeroAt (ahead e (aligned e 8 s))) s (x .0) (x .1) (λ n z. zero-found _ n z .0) });
+      texts = λ k n h. unfold readText in
+          plain-fit 8 0 (fitting 8 (8 * n) (record { at = λ s x. a-field k 8 (8 * n) (textLength (bytesAt e (aligned e 8 s) n)) (omega arith) .at s x }));
+      blobs = λ k n r h. unfold readBlob in
+          plain-fit 8 0 (fitting 8 (8 * n) (record { at = λ s x. (a-field k 8 (8 * n) n (omega arith) ⨾ᵇ held-blobRole r (bytesAt e (aligned e 8 s) n)) .at s x }));
+      heads = λ k a v h g w x. fitting a 0 (a-field k a 0 v g ⨾ᵇ x);
+      tags = λ k v h w x. tagged k v ⨾ᵇ x;
+      tag = λ k v h w. tagged k v;
+    }
+
+  -- Where the place was, for any class
+
+  at-least : (q : ℕ) → Kept e Any (λ p d. q ≤ p)
+  at-least q = record { some-bits = λ n h. tt; moves = λ p p′ d l k. omega arith; says = λ n p d d′ w l k. k }
+
+  from-law : (q : ℕ) → Law e Any Any (Holding (λ p d. q ≤ p)) (Holding (λ p d. q ≤ p))
+  from-law q = held-law (at-least q)
+
+  went : (m : Step) → ((q : ℕ) → Holding (λ p d. q ≤ p) m) → (s : State) (es : List Entry) (s′ : State)
+      → e .start .0 ≤ s .place .0 → s .place .0 ≤ e .bound .0 → m s ≡ go es s′
+      → (s .place .0 ≤ s′ .place .0) × (s′ .place .0 ≤ e .bound .0)
+  went m h s es s′ f t g =
+      let x = subst (Ok In At NoMore (Held e (λ p d. s .place .0 ≤ p))) g (h (s .place .0) .at s (record { from = f; to = t; kept = le-refl (s .place .0) })) in
+      (x .1 .kept, x .1 .to)
+
+  pub read-between : (c : Class) (s : State) (es : List Entry) (s′ : State)
+      → e .start .0 ≤ s .place .0 → s .place .0 ≤ e .bound .0 → read e c s ≡ go es s′
+      → (s .place .0 ≤ s′ .place .0) × (s′ .place .0 ≤ e .bound .0)
+  read-between c = went (read e c) (λ q. law-read e (from-law q) c (fits Any Any (λ n. tt) (λ n. tt) c))
+
+  pub members-between : (cs : Classes) (s : State) (es : List Entry) (s′ : State)
+      → e .start .0 ≤ s .place .0 → s .place .0 ≤ e .bound .0 → readMembers e cs s ≡ go es s′
+      → (s .place .0 ≤ s′ .place .0) × (s′ .place .0 ≤ e .bound .0)
+  members-between cs = went (readMembers e cs) (λ q. law-members e (from-law q) cs (fitMembers Any Any (λ n. tt) (λ n. tt) cs))
+
+  pub times-between : (n : ℕ) (c : Class) (s : State) (es : List Entry) (s′ : State)
+      → e .start .0 ≤ s .place .0 → s .place .0 ≤ e .bound .0 → times n (read e c) s ≡ go es s′
+      → (s .place .0 ≤ s′ .place .0) × (s′ .place .0 ≤ e .bound .0)
+  times-between n c = went (times n (read e c)) (λ q. law-times e (from-law q) n (law-read e (from-law q) c (fits Any Any (λ n. tt) (λ n. tt) c)))

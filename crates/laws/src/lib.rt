@@ -1,0 +1,2 @@
+// Laws of every field's reading, which code and promises alike rest on. They stand in proofs/, and what they say of entries and places in
+// specs/; there is no code.
