@@ -75,9 +75,6 @@ module _ (e : Env) where
     abbrev Holds : State → Type 0
     Holds s = Held e J s
 
-    abbrev Stays : Step → Type 0
-    Stays m = Fine Holds m Holds
-
     -- n bits fit from where a field stands, and the place is behind n bits
     abbrev Fit : ℕ → ℕ → State → Type 0
     Fit a n s = Holds s × ((aligned e a s) .0 + n ≤ e .bound .0)
@@ -92,14 +89,14 @@ module _ (e : Env) where
     _⨾ᵇ_ : {A B C : State → Type 0} {m n : Step} → Fine A m B → Fine B n C → Fine A (m ⨾ n) C
     h ⨾ᵇ k = then In At NoMore h k
 
-    fitting : (a n : ℕ) {m : Step} → Fine (Fit a n) m Holds → Stays (fit e a n ⨾ m)
+    fitting : (a n : ℕ) {m : Step} → Fine (Fit a n) m Holds → Holding J (fit e a n ⨾ m)
     unfolding fit
     fitting a n h = tested In At NoMore stops _ PastBound tt (record { at = λ s x. h .at s (x .0, ltb-false _ _ (x .1)) })
 
-    at-zero : (a : ℕ) {m : Step} → Fine (λ s. Holds s × ((aligned e a s) .0 ≤ e .bound .0)) m Holds → Stays (fit e a 0 ⨾ m)
+    at-zero : (a : ℕ) {m : Step} → Fine (λ s. Holds s × ((aligned e a s) .0 ≤ e .bound .0)) m Holds → Holding J (fit e a 0 ⨾ m)
     at-zero a h = fitting a 0 (record { at = λ s x. let b : (aligned e a s) .0 + 0 ≤ e .bound .0 = x .1 in h .at s (x .0, omega arith) })
 
-    plain-fit : (a n : ℕ) {m : Step} → Stays m → Stays (fit e a n ⨾ m)
+    plain-fit : (a n : ℕ) {m : Step} → Holding J m → Holding J (fit e a n ⨾ m)
     unfolding fit
     plain-fit a n h = untested In At NoMore stops _ PastBound tt h
 
@@ -118,7 +115,7 @@ module _ (e : Env) where
     a-field : (k a n v : ℕ) → 1 ≤ a → Fine (Fit a n) (field e k a n v) Holds
     a-field k a n v h = looser In At NoMore (λ s x. x .0) (put-field k a n v h)
 
-    tagged : (k v : ℕ) → Stays (field e k 1 0 v)
+    tagged : (k v : ℕ) → Holding J (field e k 1 0 v)
     unfolding aligned
     tagged k v = record { at = λ s h. a-field k 1 0 v (le-refl 1) .at s (h, omega (arith, align-one (e .start .0) (s .place .0) (h .from), h .to)) }
 
@@ -131,18 +128,18 @@ module _ (e : Env) where
     unfolding store withSlots
     set-slot n i x = changing In At NoMore _ (λ s h. (record { from = h .0 .from; to = h .0 .to; kept = h .0 .kept }, h .1))
 
-    held-check : (t : State → Bool) (r : Refusal) → Stays (check t r)
+    held-check : (t : State → Bool) (r : Refusal) → Holding J (check t r)
     held-check t r = checks In At NoMore stops t r tt
 
-    held-pass : Stays pass
+    held-pass : Holding J pass
     held-pass = passing In At NoMore
 
-    held-clock : (l : ℕ) (o : Option ℕ) → Stays (newClock l o)
+    held-clock : (l : ℕ) (o : Option ℕ) → Holding J (newClock l o)
     unfolding newClock
     held-clock l none = refusing In At NoMore stops ClockTooLarge tt
     held-clock l (some c) = by ⨾ᵇ changing In At NoMore (withClock c) (λ s h. unfold withClock in record { from = h .from; to = h .to; kept = h .kept })
       where
-        by : Stays (λ s. listed (entry clockAdvanced (s .place) l c) (s .place) s)
+        by : Holding J (λ s. listed (entry clockAdvanced (s .place) l c) (s .place) s)
         by = unfold listed in record { at = λ s h. (((h .from, h .to), tt), record { from = h .from; to = h .to; kept = h .kept }) }
 
     module _ (n : ℕ) (w : N n) where
@@ -151,7 +148,7 @@ module _ (e : Env) where
       saying f = changing In At NoMore _ (λ s h.
           record { from = h .0 .from; to = h .0 .to; kept = j .says n (s .place .0) (s .said) (f (s .said)) w (h .1) (h .0 .kept) })
 
-      easy : {m : Step} → Stays m → Fine (Behind n) m Holds
+      easy : {m : Step} → Holding J m → Fine (Behind n) m Holds
       easy h = record { at = λ s x. h .at s (x .0) }
 
       held-role : (r : Role) (l v : ℕ) → Fine (Behind n) (role r l v) Holds
@@ -169,7 +166,7 @@ module _ (e : Env) where
       held-role sequence l v = easy held-pass
       held-role eventClassId l v = saying _
 
-    held-blobRole : (r : Role) (b : List ℕ) → Stays (blobRole e r b)
+    held-blobRole : (r : Role) (b : List ℕ) → Holding J (blobRole e r b)
     unfolding blobRole
     held-blobRole noRole b = held-pass
     held-blobRole magic b = held-pass
@@ -184,7 +181,7 @@ module _ (e : Env) where
     held-blobRole sequence b = held-pass
     held-blobRole eventClassId b = held-pass
 
-    held-fixed : (k : Sort) (n : ℕ) (o : Order) (a i : ℕ) (r : Role) → N n → 1 ≤ a → Stays (readFixed e k n o a i r)
+    held-fixed : (k : Sort) (n : ℕ) (o : Order) (a i : ℕ) (r : Role) → N n → 1 ≤ a → Holding J (readFixed e k n o a i r)
     unfolding readFixed
     held-fixed k n o a i r w h =
         dued In At NoMore stops tt (plain-fit a 0 (untested In At NoMore stops _ OrderChanged tt (fitting a n (record {
