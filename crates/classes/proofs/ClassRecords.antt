@@ -11,8 +11,8 @@ use Rattle.rules.specs.Class.{Sort, bitArray, boolean, unsignedInt, signedInt, 
 use Rattle.rules.specs.Record.{Shape, bitField, lebField, signedLebField, zeroString, text, blob, textOf, blobOf, members, elements, elementsOf, option?, options, Says, says}
 use Rattle.rules.specs.Record.{class}
 use Rattle.rules.specs.Record.{u8, u16, Layout, no, bitsLayout, layouts, size, recordOf}
-use Rattle.table.specs.Bodies.{known, bodyIn, bodyOf}
-use Rattle.table.specs.declared.bodies.Body.the-variants.{Bytes, Unknown}
+use Rattle.offsets.specs.Bodies.{known, bodyIn, bodyOf}
+use Rattle.offsets.specs.declared.Body.the-variants.{Bytes, Unknown}
 use Rattle.facts.proofs.Every.{both-left, both-right}
 use Rattle.classes.specs.Trees.{shapes, shapeOf, recordSize}
 use Rattle.classes.proofs.Records.{body, eachRow, row, u8-body, number-body, ofKind, kind-of, size-at, record-at}

@@ -8,7 +8,6 @@ pub mod Ends
 pub mod Rooted
 pub mod Asked
 pub mod Lookups
-pub mod Eight
 pub mod Ahead
 pub mod Turns
 pub mod Noted

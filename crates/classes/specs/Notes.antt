@@ -8,7 +8,7 @@ use lib.ListN.{length, getD, set}
 use lib.Dec.{leb}
 use Rattle.rules.specs.Class.{string}
 use Rattle.rules.specs.Record.{u8}
-use Rattle.classes.specs.declared.prepare.Reach.{Reach}
+use Rattle.classes.specs.declared.Reach.{Reach}
 use Rattle.classes.specs.Trees.{shapeOf, Stood, behindMembers, nextIn, nextAt, alignMembers, alignIn, alignAt, whole}
 use Rattle.classes.specs.Fragments.{behindFragment, fragmentsOf}
 use Rattle.classes.specs.Sizes.{Sized}

@@ -1,6 +1,6 @@
 // Where the roots of a fragment stand, and where it ends. Places stay below 300,000: behind a place in the table there are at most three
 // roots, each of a 16-bit size.
-use crate::bytes::size_at;
+use bytes::size_at;
 ghost use mathlib.Core.Path.{_≡_};
 ghost use Prim.Native.Nat.{_+_, _≤_};
 ghost use lib.ListN.{length};

@@ -1,58 +1,27 @@
 // The class table: whether it is sound, and if not, by which number and at which byte ("Refusing a table").
 //
-// faults, limits, kinds   the papers' numbers, each named once
-// bodies                  how long the body of each kind of record is
-// numbers, records        bytes as numbers, and a record by itself: all there, and what it says
-// roles, classes, ranges  classes within classes, with what they set, read and choose by
-// roots, fragments        what opens a part of the table and what follows it
-//
-// A walk goes from record to record by offsets and stops at the first with a fault, at its lowest number.
-use fragments::check_fragments;
+// A walk goes from record to record by offsets and stops at the first with a fault, at its lowest number. What a record is, by itself, is
+// in the crates below: records, allowed (classes), ranges, fragments; the walk under a root is in roots.
+use fragments::PLACES;
 use fragments::first_fault;
+use fragments::fragment_fault;
+use fragments::lowest;
+use offsets::Walk;
+use records::faults;
+use records::kinds;
+use records::limits;
+use roots::roots_of;
 use roots::stray;
 use rules::ByteLength;
 use rules::Checked;
 ghost use mathlib.Core.Path.{_≡_};
+ghost use mathlib.Core.Bool.{false};
+ghost use mathlib.Core.List.{[]};
+ghost use Prim.Native.Nat.{_≤_, _-_};
+ghost use lib.ListN.{length};
+ghost use Rattle.rules.specs.Limits.{tableLimit};
 ghost use Rattle.rules.specs.Parse.{checked};
-ghost use Rattle.table.specs.Check.{checkedAt};
-
-pub mod bodies;
-mod classes;
-mod faults;
-mod fragments;
-mod kinds;
-mod limits;
-mod numbers;
-mod ranges;
-mod records;
-mod roles;
-mod roots;
-
-// What a walk over a part of a table finds: the byte behind it, or the number and the byte of the first record with a fault.
-pub enum Walk {
-    Fine(usize),
-    Bad(u8, usize),
-}
-
-// Under what a class stands: its root, whether its stream class has a clock and its trace class a UUID, and the root structure's byte.
-pub struct Under {
-    pub root: u8,
-    pub timed: bool,
-    pub uuid: bool,
-    pub start: usize,
-}
-
-// What a class record says. What its kind leaves out is as it does no harm.
-pub struct Says {
-    pub kind: u8,
-    pub length: u8,
-    pub order: u8,
-    pub align: u8,
-    pub sets: u8,
-    pub reads: u8,
-    pub role: u8,
-    pub count: usize,
-}
+ghost use Rattle.offsets.specs.Check.{traced as tracedBy, counted as countedOf, fragmentsAt, checkedAt};
 
 // "Number 1 is tested first, at byte 0. Then the first record with a fault decides, by its first byte, and there the lowest number"
 // (Refusing a table): for every slice of bytes the rules' own answer.
@@ -81,4 +50,48 @@ fn answer(table: &[u8]) -> Checked
         return Checked::Refused(s, ByteLength(kinds::PREAMBLE_SIZE));
     }
     check_fragments(table, kinds::PREAMBLE_SIZE)
+}
+
+// The fragments behind the preamble, which ends at `at`.
+fn check_fragments(table: &[u8], at: usize) -> Checked
+    requires { ⌜ (length (now table) ≤ tableLimit) × (at ≤ tableLimit) ⌝ }
+    ensures { λ r. ⌜ r ≡ fragmentsAt (length (now (table .entry)) - at) (now (table .entry)) false [] at ⌝ }
+{
+    let mut seen = [0u32; PLACES];
+    let mut n: usize = 0;
+    let mut trace = false;
+    let mut next = at;
+    while next < table.len() {
+        let f = fragment_fault(table, trace, &seen, n, next);
+        if f != faults::NO_FAULT {
+            return Checked::Refused(f, ByteLength(next));
+        }
+        let k = table[next];
+        seen[n] = next as u32;
+        n = n + counted(k);
+        trace = traced(trace, k);
+        let r = roots_of(table, next);
+        match r {
+            Walk::Bad(m, p) => {
+                let low = lowest(table, trace, &seen, n, m, p);
+                return Checked::Refused(low, ByteLength(p));
+            }
+            Walk::Fine(e) => {
+                next = e;
+            }
+        }
+    }
+    Checked::Accepted(ByteLength(table.len()))
+}
+
+fn counted(k: u8) -> usize
+    ensures { λ r. ⌜ r ≡ countedOf k ⌝ }
+{
+    if k == kinds::TRACE_CLASS { 0 } else { 1 }
+}
+
+fn traced(trace: bool, k: u8) -> bool
+    ensures { λ r. ⌜ r ≡ tracedBy trace k ⌝ }
+{
+    if k == kinds::TRACE_CLASS { true } else { trace }
 }

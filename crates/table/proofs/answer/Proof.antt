@@ -2,7 +2,7 @@
 use mathlib.Core.Path.{sym, _∙_}
 use native.Mathlib.Omega.{arith}
 use borrow.Author.Needs.{needs}
-use Rattle.table.proofs.Begun.{refused-zero, refused-some, checked-empty, checked-long, checked-on}
+use Rattle.offsets.proofs.Begun.{refused-zero, refused-some, checked-empty, checked-long, checked-on}
 use Rattle.table.proofs.answer.Statement.{statement}
 use Rattle.table.proofs.answer.Tie as tie
 

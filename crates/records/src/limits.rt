@@ -1,0 +1,33 @@
+// The papers' limits on a table, each named once.
+
+// "empty, or over 65,536 bytes" (Refusing a table)
+pub const TABLE_LIMIT: usize = 65_536;
+
+// "over 512 fragments of kinds 3, 4, 5" (Refusing a table)
+pub const FRAGMENT_LIMIT: usize = 512;
+
+// "to depth 8, the root structure being depth 1" (The class table)
+pub const DEPTH_LIMIT: usize = 8;
+
+// "options 1 to 32" (The class table)
+pub const OPTION_LIMIT: usize = 32;
+
+// "there are sixty-four slots", "Slots 0 to 15 are set by packet roots (0, 1), 16 to 63 by event roots" (The class table)
+pub const LAST_PACKET_SLOT: u8 = 15;
+
+pub const FIRST_EVENT_SLOT: u8 = 16;
+
+pub const LAST_SLOT: u8 = 63;
+
+// "slot 64 to 254" is outside the range; "255 means none where a slot is set" (Refusing a table; The class table)
+pub const FIRST_SLOT_OUT: u8 = 64;
+
+pub const LAST_SLOT_OUT: u8 = 254;
+
+pub const NO_SLOT: u8 = 255;
+
+// "clock id, 255 none" (The class table)
+pub const NO_CLOCK: u8 = 255;
+
+// "Roles: .. 0 none" (The class table)
+pub const NO_ROLE: u8 = 0;
