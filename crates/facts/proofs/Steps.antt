@@ -1,8 +1,8 @@
 -- Laws of steps: entries in front of an outcome.
 use mathlib.Core.Path.{_≡_, refl, sym, ap}
-use mathlib.Core.List.{List, [], _∷_, _++_, append-assoc}
+use mathlib.Core.List.{List, [], _∷_, _++_, append-nil, append-assoc}
 use Rattle.rules.specs.declared.Entry.{Entry}
-use Rattle.rules.specs.Step.{Out, stop, go, Step, onto, after}
+use Rattle.rules.specs.Step.{Out, stop, go, Step, onto, after, pass}
 
 -- the entries of an outcome
 unfoldable pub listOf : Out → List Entry
@@ -33,3 +33,8 @@ pub after-onto : (es : List Entry) (o : Out) (n : Step) → after (onto es o) n 
 unfolding onto after
 after-onto es (stop gs v) n = refl
 after-onto es (go gs s) n = sym (onto-onto es gs (n s))
+
+pub after-pass : (o : Out) → after o pass ≡ o
+unfolding after pass onto
+after-pass (stop es v) = refl
+after-pass (go es s) = ap (λ l. go l s) (append-nil es)

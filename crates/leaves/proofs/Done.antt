@@ -1,42 +1,42 @@
 -- What a leaf does once it is found: entry, slot, role.
 use mathlib.Core.Path.{_≡_, refl, ap, _∙_}
 use mathlib.Core.List.{List, [], _∷_, _++_}
-use Prim.Native.Nat.{ℕ, _+_, _-_, _%_, _^_, _<_, _≤_}
-use mathlib.Core.Logic.{⊎-elim}
-use mathlib.Core.Bool.{Bool, true, false, not, _&&_}
-use lib.Dec.{ltb, eqb}
+use Prim.Native.Nat.{ℕ, zero, suc, _+_, _*_, _/_, _≤_}
 use native.Mathlib.Omega.{arith}
-use lib.ListN.{length, drop}
+use mathlib.Core.Bool.{Bool, true, false}
+use lib.Dec.{ltb}
+use borrow.Author.Tests.{ltb-false}
+use lib.ListN.{length, drop, set}
 use Rattle.rules.specs.declared.Entry.{Entry}
 use Rattle.rules.specs.declared.Stop.{Stop}
 use Rattle.rules.specs.declared.BitPlace.{BitPlace}
+use Rattle.rules.specs.declared.ByteLength.{ByteLength}
 use Rattle.rules.specs.declared.Order.{Order}
 use Rattle.rules.specs.declared.Refusal.{Refusal}
 use Rattle.rules.specs.declared.LastOrder.{LastOrder}
 use Rattle.rules.specs.declared.LastOrder.the-variants.{Was}
 use Rattle.rules.specs.declared.Content.{Content}
-use Rattle.rules.specs.declared.Refusal.the-variants.{PastBound, OrderChanged}
-use Rattle.rules.specs.Bits.{bits}
-use Rattle.rules.specs.Class.{Role, Sort, kindOf}
+use Rattle.rules.specs.declared.Content.the-variants.{Unset, Flag, Unsigned, Signed}
+use Rattle.rules.specs.declared.Slot.{Slot}
+use Rattle.rules.specs.Limits.{slotCount, noSlot, lengthLimit}
+use Rattle.rules.specs.Place.{byteLength}
+use Rattle.rules.specs.Class.{Role, noRole, Sort, kindOf}
 use Rattle.rules.specs.Verdict.{stopAt}
 use Rattle.rules.specs.Slots.{Slots, noSlots, setSlot}
 use Rattle.rules.specs.Entry.{entry, words}
-use Rattle.rules.specs.Step.{onto, after, _⨾_, refuse, listed, change, withOrder, withSlots}
-use Rattle.rules.specs.Field.{store, role, valueOf, slotOf, otherOrder}
-use Rattle.facts.proofs.Numbers.{lt-or-ge}
+use Rattle.rules.specs.Step.{Step, onto, after, _⨾_, pass, refuse, listed, change, withOrder, withSlots}
+use Rattle.rules.specs.Field.{store, role, valueOf, slotOf}
 use Rattle.facts.proofs.Steps.{onto-nil}
-use Rattle.bits.proofs.Laws.{bits-below}
-use Rattle.leaves.specs.declared.Frame.{Frame}
 use Rattle.leaves.specs.declared.find.Found.{Found}
 use Rattle.leaves.specs.declared.find.Found.the-variants.{At, Refused}
-use Rattle.leaves.specs.Found.{alignedAt, foundBits}
-use Rattle.leaves.specs.Settled.{Then, settle, listing, thenFixed}
+use Rattle.leaves.specs.Settled.{Then, settle, listing, thenBits, thenFixed, thenLeb, lengthOf, forLength}
+use Rattle.leaves.specs.declared.slots.Length.{Length}
+use Rattle.leaves.specs.declared.slots.Length.the-variants.{Of, NotOf}
 use Rattle.leaves.specs.declared.Leaf.{Leaf}
 use Rattle.leaves.specs.declared.State.{State}
 use Rattle.leaves.specs.declared.Went.the-variants.{On, Stopped}
 use Rattle.leaves.specs.declared.role.Roled.{Roled}
 use Rattle.leaves.specs.Did.{full, RoleDid, LeafDid, thenSet, behindState, stoppedLeaf}
-use Rattle.leaves.proofs.Found.{bits-past, bits-turned, bits-short, bits-at}
 use Rattle.leaves.proofs.Roles.{went-no-further}
 use Rattle.leaves.proofs.Parts.{Part, lent, merged, part-last-on, part-last-stopped, back-room}
 
@@ -70,46 +70,70 @@ module _ (x : Entry) (o : LastOrder) (i : ℕ) (c : Content) (r : Role) (w : ℕ
       none = λ v k. (refl, refl);
     }
 
--- A leaf that was found, and one that was refused
+-- two steps that do the same with sixty-four slots
+pub same-did : {m m′ : Step} {st : State} {d : Leaf} {ws ws′ : List ℕ}
+    → ((l : Slots) → length l ≡ slotCount → m (full st l (length ws)) ≡ m′ (full st l (length ws)))
+    → LeafDid m st d ws ws′ → LeafDid m′ st d ws ws′
+same-did same did = record { at = λ l n. rw (← same l n) (did .at l n); none = did .none }
 
-module _ (x : Found) (m : Then) (st : State) (ws : List ℕ) where
-  pub refused-did : (why : Refusal) → x ≡ Refused why → LeafDid (settle x m) st (stoppedLeaf (stopAt why (st .place)) 0 st) ws ws
+-- nothing is set past the end
+set-past : (l : Slots) (i : ℕ) (x : Slot) → length l ≤ i → set l i x ≡ l
+set-past [] i x h = refl
+set-past (y ∷ l) zero x h = absurd (omega arith)
+set-past (y ∷ l) (suc i) x h = ap (λ k. y ∷ k) (set-past l i x (omega arith))
+
+-- A leaf that was refused, and one that was found: x is what the code found, y the rules' name for it
+
+module _ {x y : Found} (is : x ≡ y) where
+  pub refused-did : {why : Refusal} → x ≡ Refused why → (m : Then) (st : State) (ws : List ℕ)
+      → LeafDid (settle y m) st (stoppedLeaf (stopAt why (st .place)) 0 st) ws ws
   unfolding settle refuse
-  refused-did why e = rw (e) (record { at = λ l n. went-no-further _ st _ _ ws refl; none = λ v h. (refl, refl) })
+  refused-did e m st ws = rw (← is, e) (record { at = λ l n. went-no-further _ st _ _ ws refl; none = λ v h. (refl, refl) })
 
-module _ (x : Found) (k : Sort) (o : Order) (i : ℕ) (r : Role) (p : BitPlace) (n v : ℕ) (e : x ≡ At p n v) where
-  pub fixed-did : {st : State} {d : Leaf} {ws ws′ : List ℕ} → LeafDid (thenSet (entry (kindOf k) p n (valueOf k n v)) (Was o) i (slotOf k n v) r n) st d ws ws′
-      → LeafDid (settle x (thenFixed k o i r)) st d ws ws′
-  unfolding settle thenFixed thenSet listing
-  fixed-did did = rw (e) did
+  module _ {p : BitPlace} {n v : ℕ} (e : x ≡ At p n v) {st : State} {d : Leaf} {ws ws′ : List ℕ} where
+    pub fixed-did : (k : Sort) (o : Order) (i : ℕ) (r : Role)
+        → LeafDid (thenSet (entry (kindOf k) p n (valueOf k n v)) (Was o) i (slotOf k n v) r n) st d ws ws′
+        → LeafDid (settle y (thenFixed k o i r)) st d ws ws′
+    unfolding settle thenFixed thenSet listing
+    fixed-did k o i r did = rw (← is, e) did
 
--- what was found of kinds 16 to 20 lies before the bound, and fits its bits
-module _ (b : List ℕ) (f : Frame) (from : BitPlace) (last : LastOrder) (n : ℕ) (o : Order) (a : ℕ) (p : BitPlace) (m v : ℕ) where
-  abbrev Lies : Type 0
-  Lies = (m ≡ n) × (p .0 + m ≤ f .bound .0) × (v < 2 ^ m)
+    pub bits-did : (k : ℕ) (o : Order) → LeafDid (thenSet (entry k p n v) (Was o) noSlot Unset noRole n) st d ws ws′
+        → LeafDid (settle y (thenBits k o)) st d ws ws′
+    unfolding settle thenBits thenSet listing
+    bits-did k o did = rw (← is, e) did
 
-  not-refused : (r : Refusal) → Refused r ≡ At p m v → Lies
-  not-refused r e = let z : _≡_ {A = ℕ} 0 1 = cc in absurd (omega arith)
+    -- where the order stays the packet's last
+    pub leb-did : (k : ℕ) (c : ℕ → Content) (i : ℕ) (r : Role)
+        → LeafDid (thenSet (entry k p n v) (st .order) i (c v) r (7 * (n / 8))) st d ws ws′ → LeafDid (settle y (thenLeb k c i r)) st d ws ws′
+    unfolding settle thenLeb thenSet listing _⨾_ after listed change withOrder
+    leb-did k c i r did = rw (← is, e) (same-did (λ l h. ap (onto (entry k p n v ∷ [])) (onto-nil _)) did)
 
-  lies-at : (q : BitPlace) → q .0 + n ≤ f .bound .0 → At q n (bits o b (q .0) n) ≡ At p m v → Lies
-  lies-at q fits e =
-      let place : q ≡ p = cc in
-      let width : n ≡ m = cc in
-      let value : bits o b (q .0) n ≡ v = cc in
-      rw (← place, ← width, ← value) (refl, fits, bits-below o b (q .0) n)
+    -- with no slot and no role
+    pub plain-did : (k w : ℕ) → LeafDid (thenSet (entry k p n v) (st .order) noSlot Unset noRole w) st d ws ws′
+        → LeafDid (settle y (listing k)) st d ws ws′
+    unfolding settle thenSet listing _⨾_ after onto listed change withOrder store withSlots role pass setSlot
+    plain-did k w did = rw (← is, e) (same-did (λ l h. rw (set-past l noSlot _ (omega arith)) refl) did)
 
-  pub bits-found : foundBits b f from last n o a ≡ At p m v → Lies
-  bits-found e = ⊎-elim
-      (λ (past : f .bound .0 < q .0). not-refused PastBound (bits-past b f from q last n o a refl past ∙ e))
-      (λ (l : q .0 ≤ f .bound .0). by l (not (eqb ((q .0 - f .start .0) % 8) 0) && otherOrder o last) refl)
-      (lt-or-ge (f .bound .0) (q .0))
-    where
-      q : BitPlace
-      q = alignedAt f a from
+-- A length that a slot gives, or none
 
-      by : q .0 ≤ f .bound .0 → (t : Bool) → (not (eqb ((q .0 - f .start .0) % 8) 0) && otherOrder o last) ≡ t → Lies
-      by l true h = not-refused OrderChanged (bits-turned b f from q last n o a refl l _ refl h ∙ e)
-      by l false h = ⊎-elim
-          (λ (past : f .bound .0 < q .0 + n). not-refused PastBound (bits-short b f from q last n o a refl l _ refl h past ∙ e))
-          (λ (fits : q .0 + n ≤ f .bound .0). lies-at q fits (bits-at b f from q last n o a refl _ refl h fits ∙ e))
-          (lt-or-ge (f .bound .0) (q .0 + n))
+module _ {x y : Length} (is : x ≡ y) {st : State} where
+  pub no-length-did : {why : Refusal} → x ≡ NotOf why → (m : ℕ → Step) (ws : List ℕ)
+      → LeafDid (forLength y m) st (stoppedLeaf (stopAt why (st .place)) 0 st) ws ws
+  unfolding forLength refuse
+  no-length-did e m ws = rw (← is, e) (record { at = λ l n. went-no-further _ st _ _ ws refl; none = λ v h. (refl, refl) })
+
+  pub length-did : {n : ByteLength} → x ≡ Of n → (m : ℕ → Step) {d : Leaf} {ws ws′ : List ℕ}
+      → LeafDid (m (n .0)) st d ws ws′ → LeafDid (forLength y m) st d ws ws′
+  unfolding forLength
+  length-did e m did = rw (← is, e) did
+
+pub length-small : (c : Content) {x : Length} {n : ByteLength} → x ≡ lengthOf c → x ≡ Of n → n .0 ≤ lengthLimit
+unfolding lengthOf
+length-small Unset is e = let z : _≡_ {A = ℕ} 0 1 = cc in absurd (omega arith)
+length-small (Flag t) is e = let z : _≡_ {A = ℕ} 0 1 = cc in absurd (omega arith)
+length-small (Unsigned k) {x} {n} is e = by (ltb lengthLimit k) refl
+  where
+    by : (t : Bool) → ltb lengthLimit k ≡ t → n .0 ≤ lengthLimit
+    by true h = let z : _≡_ {A = ℕ} 0 1 = cc in absurd (omega arith)
+    by false h = let same : byteLength k ≡ n = cc in rw (← same) (ltb-false lengthLimit k h)
+length-small (Signed k) is e = let z : _≡_ {A = ℕ} 0 1 = cc in absurd (omega arith)

@@ -3,3 +3,5 @@ pub mod Settled
 pub mod Roles
 pub mod Parts
 pub mod Done
+pub mod Lies
+pub mod Uuid

@@ -1,11 +1,12 @@
 -- The rules' reading of a leaf is what is found of it, and then what is done with that.
-use Prim.Native.Nat.{ℕ, _*_, _/_, _<_, _≤_}
+use Prim.Native.Nat.{ℕ, _-_, _*_, _/_, _<_, _≤_}
 use native.Mathlib.Omega.{arith}
 use lib.Dec.{ltb}
 use mathlib.Core.Path.{_≡_, refl, ap, _∙_}
-use mathlib.Core.List.{List, []}
+use mathlib.Core.List.{List, [], _∷_}
 use mathlib.Core.Bool.{Bool, true, false}
 use borrow.Author.Tests.{lt-ltb, le-ltb}
+use Rattle.rules.specs.declared.BitPlace.{BitPlace}
 use Rattle.rules.specs.declared.Content.{Content}
 use Rattle.rules.specs.declared.Content.the-variants.{Unset, Flag, Unsigned, Signed}
 use Rattle.rules.specs.declared.Leb.{Leb}
@@ -15,16 +16,19 @@ use Rattle.rules.specs.declared.Ended.the-variants.{After, Never}
 use Rattle.rules.specs.declared.Order.{Order}
 use Rattle.rules.specs.declared.Refusal.{Refusal}
 use Rattle.rules.specs.declared.Refusal.the-variants.{ListFull, LengthTooLarge}
-use Rattle.rules.specs.Limits.{lengthLimit}
+use Rattle.rules.specs.Limits.{lengthLimit, wordsPerEntry}
 use Rattle.rules.specs.Class.{Role, noRole, Sort, leb128, signedLeb128, string, staticString, staticBlob, dynamicString, dynamicBlob}
 use Rattle.rules.specs.Slots.{slotAt}
-use Rattle.rules.specs.Step.{State, Step, go, _⨾_, after, pass, refuse, check, due}
-use Rattle.rules.specs.Field.{aligned, fit, ahead, bytesAt, field, turned, fromSlot, asNumber, asLength, readFixed, readLeb, readZero, readText, readBlob, read}
+use Rattle.rules.specs.Place.{further}
+use Rattle.rules.specs.Entry.{entry}
+use Rattle.rules.specs.Step.{State, Step, go, _⨾_, onto, after, pass, refuse, check, due, listed}
+use Rattle.rules.specs.Field.{aligned, fit, ahead, bytesAt, field, turned, fromSlot, asNumber, asLength, readFixed, readLeb, readZero, readText, blobRole, readBlob, read}
 use Rattle.facts.proofs.Steps.{onto-nil}
 use Rattle.leaves.specs.declared.Frame.{Frame}
 use Rattle.leaves.specs.declared.slots.Length.{Length}
 use Rattle.leaves.specs.declared.slots.Length.the-variants.{Of, NotOf}
 use Rattle.leaves.specs.declared.find.Found.{Found}
+use Rattle.leaves.specs.declared.find.Found.the-variants.{At, Refused}
 use Rattle.leaves.specs.Framed.{envOf}
 use Rattle.leaves.specs.Found.{alignedAt, unless, within, bytesAhead, foundBits, foundLeb, foundUnsigned, foundSigned, foundZero, foundString, foundText, foundBlob}
 use Rattle.leaves.specs.Settled.{Then, settle, listing, thenFixed, thenLeb, thenBlob, lengthOf, forLength}
@@ -52,6 +56,30 @@ check-settles : (t : State → Bool) (r : Refusal) (m : Step) (s : State) (b : B
 unfolding _⨾_ after unless settle refuse
 check-settles t r m s true x f h e = ap (λ o. after o m) (check-stops t r s h)
 check-settles t r m s false x f h e = ap (λ o. after o m) (check-goes t r s h) ∙ onto-nil (m s) ∙ e
+
+-- the state behind an entry
+abbrev behindEntry : BitPlace → ℕ → State → State
+behindEntry p n s = record {
+  place = further p n;
+  room = s .room - wordsPerEntry;
+  slots = s .slots;
+  order = s .order;
+  clock = s .clock;
+  last = s .last;
+  said = s .said;
+}
+
+-- what is done with a leaf, where two ways do the same
+pub settle-same : (x : Found) (m m′ : Then) (s : State) → ((p : BitPlace) (n v : ℕ) → m p n v s ≡ m′ p n v s) → settle x m s ≡ settle x m′ s
+unfolding settle
+settle-same (At p n v) m m′ s h = h p n v
+settle-same (Refused r) m m′ s h = refl
+
+-- a step that goes on and lists nothing changes nothing behind an entry
+pub listing-goes : (k : ℕ) (p : BitPlace) (n v : ℕ) (m : Step) (s : State)
+    → m (behindEntry p n s) ≡ go [] (behindEntry p n s) → (listing k p n v ⨾ m) s ≡ listing k p n v s
+unfolding listing listed _⨾_ after onto
+listing-goes k p n v m s h = ap (onto (entry k p n v ∷ [])) h
 
 module _ (b uuid : List ℕ) (f : Frame) (s : State) (h : 4 ≤ s .room) where
   pub fixed-settles : (k : Sort) (n : ℕ) (o : Order) (a i : ℕ) (r : Role) →
@@ -111,6 +139,10 @@ module _ (b uuid : List ℕ) (f : Frame) (s : State) (h : 4 ≤ s .room) where
   unfolding read
   static-blob-settles n r = room-first _ s h ∙ blob-settles 25 n r
 
+  plain-blob : (n : ℕ) → settle (foundBlob f (s .place) n) (thenBlob (envOf b uuid f) 27 noRole) s ≡ settle (foundBlob f (s .place) n) (listing 27) s
+  unfolding thenBlob blobRole pass
+  plain-blob n = settle-same (foundBlob f (s .place) n) _ _ s (λ p m v. listing-goes 27 p m v _ s refl)
+
   length-settles : (x : Content) (m : ℕ → Step) → asLength x m s ≡ forLength (lengthOf x) m s
   unfolding asLength asNumber lengthOf forLength _⨾_ after refuse
   length-settles Unset m = refl
@@ -136,6 +168,6 @@ module _ (b uuid : List ℕ) (f : Frame) (s : State) (h : 4 ≤ s .room) where
 
   pub dynamic-blob-settles : (i : ℕ) →
       read (envOf b uuid f) (dynamicBlob i) s
-      ≡ forLength (lengthOf (slotAt (s .slots) i)) (λ n. settle (foundBlob f (s .place) n) (thenBlob (envOf b uuid f) 27 noRole)) s
+      ≡ forLength (lengthOf (slotAt (s .slots) i)) (λ n. settle (foundBlob f (s .place) n) (listing 27)) s
   unfolding read fromSlot
-  dynamic-blob-settles i = room-first _ s h ∙ length-settles _ _ ∙ for-length _ _ _ (λ n. blob-settles 27 n noRole)
+  dynamic-blob-settles i = room-first _ s h ∙ length-settles _ _ ∙ for-length _ _ _ (λ n. blob-settles 27 n noRole ∙ plain-blob n)

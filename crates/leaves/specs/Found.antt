@@ -1,6 +1,6 @@
 -- Where a leaf stands and what it says, or why it is refused: "alignment, 23, then its bits or bytes" (Reading). The steps of `read` in
 -- which nothing is listed yet, as numbers.
-use Prim.Native.Nat.{ℕ, _+_, _-_, _*_, _/_, _%_}
+use Prim.Native.Nat.{ℕ, _+_, _-_, _*_, _/_, _%_, _^_, _<_}
 use mathlib.Core.List.{List}
 use mathlib.Core.Bool.{Bool, true, false, not, _&&_}
 use lib.Dec.{ltb, eqb}
@@ -22,6 +22,11 @@ use Rattle.rules.specs.Field.{otherOrder}
 use Rattle.leaves.specs.declared.Frame.{Frame}
 use Rattle.leaves.specs.declared.find.Found.{Found}
 use Rattle.leaves.specs.declared.find.Found.the-variants.{At, Refused}
+
+-- a leaf that ends below what a place can be
+unfoldable pub Ends : Found → Type 0
+Ends (At p n v) = p .0 + n < 2 ^ 64
+Ends (Refused r) = Unit {0}
 
 -- "A field aligns (place - P) up to its requirement"
 unfoldable pub alignedAt : Frame → ℕ → BitPlace → BitPlace

@@ -8,9 +8,9 @@ use Rattle.rules.specs.declared.Order.{Order}
 use Rattle.rules.specs.declared.Content.{Content}
 use Rattle.rules.specs.declared.Content.the-variants.{Unset, Flag, Unsigned, Signed}
 use Rattle.rules.specs.declared.Refusal.the-variants.{SlotUnset, SlotOfWrongSort, LengthTooLarge}
-use Rattle.rules.specs.Limits.{lengthLimit}
+use Rattle.rules.specs.Limits.{lengthLimit, noSlot}
 use Rattle.rules.specs.Place.{byteLength, further}
-use Rattle.rules.specs.Class.{Role, Sort, kindOf}
+use Rattle.rules.specs.Class.{Role, noRole, Sort, kindOf}
 use Rattle.rules.specs.Entry.{entry}
 use Rattle.rules.specs.Step.{Step, _⨾_, refuse, listed, change, withOrder}
 use Rattle.rules.specs.Field.{Env, bytesAt, store, role, blobRole, valueOf, slotOf}
@@ -35,6 +35,10 @@ listing k p n v = listed (entry k p n v) (further p n)
 unfoldable pub thenFixed : Sort → Order → ℕ → Role → Then
 thenFixed k o i r p n v =
     listing (kindOf k) p n (valueOf k n v) ⨾ change (withOrder (Was o)) ⨾ store i (slotOf k n v) ⨾ role r n (valueOf k n v)
+
+-- kinds 16 and 20, which have neither slot nor role: "their bits as unsigned" (The list)
+unfoldable pub thenBits : ℕ → Order → Then
+thenBits k o p n v = listing k p n v ⨾ change (withOrder (Was o)) ⨾ store noSlot Unset ⨾ role noRole n v
 
 -- "L the field's bits (7 times its bytes for LEB128)"
 unfoldable pub thenLeb : ℕ → (ℕ → Content) → ℕ → Role → Then

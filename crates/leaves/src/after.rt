@@ -17,10 +17,12 @@ ghost use Rattle.rules.specs.Verdict.{stopAt};
 ghost use Rattle.leaves.specs.Did.{LeafDid, thenSet, behindState, stoppedLeaf};
 ghost use Rattle.leaves.specs.Roled.{Stamp};
 
-pub const NO_SLOT: u8 = 255;
+pub(crate) const NO_SLOT: u8 = 255;
+
+pub(crate) const NO_ROLE: u8 = 0;
 
 // "The place is where the failing step began" (Refusing a stream)
-pub fn refused(why: Refusal, st: State) -> Leaf
+pub(crate) fn refused(why: Refusal, st: State) -> Leaf
     ensures { λ r. ⌜ r ≡ stoppedLeaf (stopAt why (st .place)) 0 st ⌝ }
 {
     let place = st.place;
@@ -28,7 +30,7 @@ pub fn refused(why: Refusal, st: State) -> Leaf
 }
 
 // "Afterwards, in order: entry, slot, role" (Reading). The role's number is the entry's value.
-pub fn finish(
+pub(crate) fn finish(
     entry: Entry,
     order: LastOrder,
     slot: u8,
@@ -80,7 +82,7 @@ fn behind(entry: Entry, order: LastOrder, st: State) -> State
 }
 
 // A leaf that stopped sets no slot, and hands back the state as it came.
-fn stopped(stop: Stop, used: usize, st: State) -> Leaf
+pub(crate) fn stopped(stop: Stop, used: usize, st: State) -> Leaf
     ensures { λ r. ⌜ r ≡ stoppedLeaf stop used st ⌝ }
 {
     Leaf {

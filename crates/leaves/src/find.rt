@@ -17,7 +17,7 @@ ghost use Rattle.leaves.specs.Framed.{Framed, Short};
 ghost use Rattle.leaves.specs.Found.{foundBits, foundUnsigned, foundSigned, foundString, foundBlob, foundText, foundLeb};
 
 // A leaf that stands at its aligned place with so many bits and says a value; or why it is refused.
-pub enum Found {
+pub(crate) enum Found {
     At {
         place: BitPlace,
         bits: u64,
@@ -30,7 +30,7 @@ pub enum Found {
 const BYTE: u64 = 3;
 
 // Kinds 16 to 20: a number of `width` bits.
-pub fn find_bits(
+pub(crate) fn find_bits(
     stream: &[u8],
     frame: Frame,
     from: BitPlace,
@@ -89,7 +89,7 @@ fn differs(order: Order, last: LastOrder) -> bool
 }
 
 // Kind 21.
-pub fn find_unsigned(stream: &[u8], frame: Frame, from: BitPlace) -> Found
+pub(crate) fn find_unsigned(stream: &[u8], frame: Frame, from: BitPlace) -> Found
     requires { ⌜ Framed (now stream) frame from ⌝ }
     ensures { λ r. ⌜ r ≡ foundUnsigned (now (stream .entry)) frame from ⌝ }
 {
@@ -103,7 +103,7 @@ pub fn find_unsigned(stream: &[u8], frame: Frame, from: BitPlace) -> Found
 }
 
 // Kind 22.
-pub fn find_signed(stream: &[u8], frame: Frame, from: BitPlace) -> Found
+pub(crate) fn find_signed(stream: &[u8], frame: Frame, from: BitPlace) -> Found
     requires { ⌜ Framed (now stream) frame from ⌝ }
     ensures { λ r. ⌜ r ≡ foundSigned (now (stream .entry)) frame from ⌝ }
 {
@@ -133,7 +133,7 @@ fn leb_at(place: BitPlace, answer: Leb) -> Found
 }
 
 // Kind 23: a string up to its zero byte.
-pub fn find_string(stream: &[u8], frame: Frame, from: BitPlace) -> Found
+pub(crate) fn find_string(stream: &[u8], frame: Frame, from: BitPlace) -> Found
     requires { ⌜ Framed (now stream) frame from ⌝ }
     ensures { λ r. ⌜ r ≡ foundString (now (stream .entry)) frame from ⌝ }
 {
@@ -154,7 +154,7 @@ pub fn find_string(stream: &[u8], frame: Frame, from: BitPlace) -> Found
 }
 
 // Kinds 25 and 27: so many bytes, of which nothing is said but where they stand.
-pub fn find_blob(stream: &[u8], frame: Frame, from: BitPlace, bytes: ByteLength) -> Found
+pub(crate) fn find_blob(stream: &[u8], frame: Frame, from: BitPlace, bytes: ByteLength) -> Found
     requires { ⌜ Framed (now stream) frame from ⌝ }
     requires { ⌜ bytes .0 ≤ 65535 ⌝ }
     ensures { λ r. ⌜ r ≡ foundBlob frame from (bytes .0) ⌝ }
@@ -175,7 +175,7 @@ pub fn find_blob(stream: &[u8], frame: Frame, from: BitPlace, bytes: ByteLength)
 }
 
 // Kinds 24 and 26: so many bytes of text, "the count before the first zero byte, or of all".
-pub fn find_text(stream: &[u8], frame: Frame, from: BitPlace, bytes: ByteLength) -> Found
+pub(crate) fn find_text(stream: &[u8], frame: Frame, from: BitPlace, bytes: ByteLength) -> Found
     requires { ⌜ Framed (now stream) frame from ⌝ }
     requires { ⌜ bytes .0 ≤ 65535 ⌝ }
     ensures { λ r. ⌜ r ≡ foundText (now (stream .entry)) frame from (bytes .0) ⌝ }

@@ -1,6 +1,6 @@
 // Leaves, fields that hold no other: kinds 16 to 27. In order: find, where a leaf stands and what it says; slots, what a slot's content is
 // taken as; entry, the one place where the list is written; role, what a role does with a number; after, what comes behind the finding;
-// numbers, kinds 16 to 22.
+// numbers, kinds 16 to 22; bytes, kinds 23 to 27.
 use clock::Clock;
 use rules::BitPlace;
 use rules::Content;
@@ -8,11 +8,12 @@ use rules::LastOrder;
 use rules::Said;
 use rules::Stop;
 
-pub mod after;
+mod after;
+pub mod bytes;
 pub mod entry;
-pub mod find;
+mod find;
 pub mod numbers;
-pub mod role;
+mod role;
 pub mod slots;
 
 // The packet's start, and the bound.

@@ -2,6 +2,8 @@
 use crate::Frame;
 use crate::Leaf;
 use crate::State;
+use crate::after::NO_ROLE;
+use crate::after::NO_SLOT;
 use crate::after::finish;
 use crate::after::refused;
 use crate::find;
@@ -14,13 +16,164 @@ ghost use mathlib.Core.Path.{_≡_};
 ghost use Prim.Native.Nat.{_≤_, _^_};
 ghost use lib.ListN.{length};
 ghost use Rattle.rules.specs.Faults.{roleOf};
-ghost use Rattle.rules.specs.Class.{unsignedInt};
+ghost use Rattle.rules.specs.declared.Content.the-variants.{Unsigned, Signed};
+ghost use Rattle.rules.specs.Limits.{noSlot};
+ghost use Rattle.rules.specs.Class.{noRole, bitArray, boolean, unsignedInt, signedInt, float};
+ghost use Rattle.rules.specs.Field.{truth, oneOrNone};
 ghost use Rattle.leaves.specs.Framed.{Framed};
-ghost use Rattle.leaves.specs.Found.{foundBits};
-ghost use Rattle.leaves.specs.Settled.{settle, thenFixed};
+ghost use Rattle.leaves.specs.Found.{foundBits, foundUnsigned, foundSigned};
+ghost use Rattle.leaves.specs.Settled.{settle, thenBits, thenFixed, thenLeb};
 ghost use Rattle.leaves.specs.Did.{LeafDid};
 
+const BIT_ARRAY: u64 = 16;
+
+const BOOLEAN: u64 = 17;
+
 const UNSIGNED: u64 = 18;
+
+const SIGNED: u64 = 19;
+
+const FLOAT: u64 = 20;
+
+const UNSIGNED_LEB: u64 = 21;
+
+const SIGNED_LEB: u64 = 22;
+
+// Kind 16.
+pub fn read_bit_array(
+    width: u64,
+    order: Order,
+    exponent: u64,
+    stream: &[u8],
+    frame: Frame,
+    st: State,
+    list: &mut [u64],
+) -> Leaf
+    requires { ⌜ Framed (now stream) frame (st .place) ⌝ }
+    requires { ⌜ (width ≤ 64) × (exponent ≤ 6) ⌝ }
+    requires { ⌜ 4 ≤ length (now list) ⌝ }
+    ensures { λ r. ⌜
+        LeafDid (settle (foundBits (now (stream .entry)) frame (st .place) (st .order) width order (2 ^ exponent)) (thenFixed bitArray order noSlot noRole))
+        st r (now (list .entry)) (now (list .exit))
+        ⌝ }
+{
+    read_bits(BIT_ARRAY, width, order, exponent, stream, frame, st, list)
+}
+
+// Kind 20.
+pub fn read_float(
+    width: u64,
+    order: Order,
+    exponent: u64,
+    stream: &[u8],
+    frame: Frame,
+    st: State,
+    list: &mut [u64],
+) -> Leaf
+    requires { ⌜ Framed (now stream) frame (st .place) ⌝ }
+    requires { ⌜ (width ≤ 64) × (exponent ≤ 6) ⌝ }
+    requires { ⌜ 4 ≤ length (now list) ⌝ }
+    ensures { λ r. ⌜
+        LeafDid (settle (foundBits (now (stream .entry)) frame (st .place) (st .order) width order (2 ^ exponent)) (thenFixed float order noSlot noRole))
+        st r (now (list .entry)) (now (list .exit))
+        ⌝ }
+{
+    read_bits(FLOAT, width, order, exponent, stream, frame, st, list)
+}
+
+// Kinds 16 and 20: "floats and bit arrays their bits as unsigned" (The list)
+fn read_bits(
+    kind: u64,
+    width: u64,
+    order: Order,
+    exponent: u64,
+    stream: &[u8],
+    frame: Frame,
+    st: State,
+    list: &mut [u64],
+) -> Leaf
+    requires { ⌜ Framed (now stream) frame (st .place) ⌝ }
+    requires { ⌜ (width ≤ 64) × (exponent ≤ 6) ⌝ }
+    requires { ⌜ 4 ≤ length (now list) ⌝ }
+    ensures { λ r. ⌜
+        LeafDid (settle (foundBits (now (stream .entry)) frame (st .place) (st .order) width order (2 ^ exponent)) (thenBits kind order))
+        st r (now (list .entry)) (now (list .exit))
+        ⌝ }
+{
+    let from = st.place;
+    let last = st.order;
+    match find::find_bits(stream, frame, from, last, width, order, exponent) {
+        Found::Refused(why) => refused(why, st),
+        Found::At { place, bits, value } => finish(
+            Entry {
+                kind,
+                place,
+                bits,
+                value,
+            },
+            LastOrder::Was(order),
+            NO_SLOT,
+            Content::Unset,
+            NO_ROLE,
+            bits,
+            st,
+            list,
+        ),
+    }
+}
+
+// Kind 17: "0 or, with any bit set, 1" (Reading)
+pub fn read_boolean(
+    width: u64,
+    order: Order,
+    exponent: u64,
+    slot: u8,
+    stream: &[u8],
+    frame: Frame,
+    st: State,
+    list: &mut [u64],
+) -> Leaf
+    requires { ⌜ Framed (now stream) frame (st .place) ⌝ }
+    requires { ⌜ (width ≤ 64) × (exponent ≤ 6) ⌝ }
+    requires { ⌜ 4 ≤ length (now list) ⌝ }
+    ensures { λ r. ⌜
+        LeafDid (settle (foundBits (now (stream .entry)) frame (st .place) (st .order) width order (2 ^ exponent)) (thenFixed boolean order slot noRole))
+        st r (now (list .entry)) (now (list .exit))
+        ⌝ }
+{
+    let from = st.place;
+    let last = st.order;
+    match find::find_bits(stream, frame, from, last, width, order, exponent) {
+        Found::Refused(why) => refused(why, st),
+        Found::At { place, bits, value } => finish(
+            Entry {
+                kind: BOOLEAN,
+                place,
+                bits,
+                value: one_or_none(value),
+            },
+            LastOrder::Was(order),
+            slot,
+            Content::Flag(any_bit(value)),
+            NO_ROLE,
+            bits,
+            st,
+            list,
+        ),
+    }
+}
+
+fn any_bit(value: u64) -> bool
+    ensures { λ r. ⌜ r ≡ truth value ⌝ }
+{
+    value != 0
+}
+
+fn one_or_none(value: u64) -> u64
+    ensures { λ r. ⌜ r ≡ oneOrNone (truth value) ⌝ }
+{
+    if value == 0 { 0 } else { 1 }
+}
 
 // Kind 18.
 pub fn read_unsigned(
@@ -57,6 +210,123 @@ pub fn read_unsigned(
             slot,
             Content::Unsigned(value),
             role,
+            bits,
+            st,
+            list,
+        ),
+    }
+}
+
+// Kind 19.
+pub fn read_signed(
+    width: u64,
+    order: Order,
+    exponent: u64,
+    slot: u8,
+    stream: &[u8],
+    frame: Frame,
+    st: State,
+    list: &mut [u64],
+) -> Leaf
+    requires { ⌜ Framed (now stream) frame (st .place) ⌝ }
+    requires { ⌜ (1 ≤ width) × (width ≤ 64) × (exponent ≤ 6) ⌝ }
+    requires { ⌜ 4 ≤ length (now list) ⌝ }
+    ensures { λ r. ⌜
+        LeafDid (settle (foundBits (now (stream .entry)) frame (st .place) (st .order) width order (2 ^ exponent)) (thenFixed signedInt order slot noRole))
+        st r (now (list .entry)) (now (list .exit))
+        ⌝ }
+{
+    let from = st.place;
+    let last = st.order;
+    match find::find_bits(stream, frame, from, last, width, order, exponent) {
+        Found::Refused(why) => refused(why, st),
+        Found::At {
+            place,
+            bits,
+            value: number,
+        } => {
+            let value = bits::sign_extend(number, bits);
+            finish(
+                Entry {
+                    kind: SIGNED,
+                    place,
+                    bits,
+                    value,
+                },
+                LastOrder::Was(order),
+                slot,
+                Content::Signed(value),
+                NO_ROLE,
+                bits,
+                st,
+                list,
+            )
+        }
+    }
+}
+
+// Kind 21: "L the field's bits (7 times its bytes for LEB128)" (Reading)
+pub fn read_unsigned_leb(
+    slot: u8,
+    role: u8,
+    stream: &[u8],
+    frame: Frame,
+    st: State,
+    list: &mut [u64],
+) -> Leaf
+    requires { ⌜ Framed (now stream) frame (st .place) ⌝ }
+    requires { ⌜ 4 ≤ length (now list) ⌝ }
+    ensures { λ r. ⌜
+        LeafDid (settle (foundUnsigned (now (stream .entry)) frame (st .place)) (thenLeb 21 Unsigned slot (roleOf role)))
+        st r (now (list .entry)) (now (list .exit))
+        ⌝ }
+{
+    let from = st.place;
+    let last = st.order;
+    match find::find_unsigned(stream, frame, from) {
+        Found::Refused(why) => refused(why, st),
+        Found::At { place, bits, value } => finish(
+            Entry {
+                kind: UNSIGNED_LEB,
+                place,
+                bits,
+                value,
+            },
+            last,
+            slot,
+            Content::Unsigned(value),
+            role,
+            7 * (bits / 8),
+            st,
+            list,
+        ),
+    }
+}
+
+// Kind 22.
+pub fn read_signed_leb(slot: u8, stream: &[u8], frame: Frame, st: State, list: &mut [u64]) -> Leaf
+    requires { ⌜ Framed (now stream) frame (st .place) ⌝ }
+    requires { ⌜ 4 ≤ length (now list) ⌝ }
+    ensures { λ r. ⌜
+        LeafDid (settle (foundSigned (now (stream .entry)) frame (st .place)) (thenLeb 22 Signed slot noRole))
+        st r (now (list .entry)) (now (list .exit))
+        ⌝ }
+{
+    let from = st.place;
+    let last = st.order;
+    match find::find_signed(stream, frame, from) {
+        Found::Refused(why) => refused(why, st),
+        Found::At { place, bits, value } => finish(
+            Entry {
+                kind: SIGNED_LEB,
+                place,
+                bits,
+                value,
+            },
+            last,
+            slot,
+            Content::Signed(value),
+            NO_ROLE,
             bits,
             st,
             list,

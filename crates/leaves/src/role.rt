@@ -37,14 +37,14 @@ const MAGIC_NUMBER: u64 = 0xC1FC_1FC1;
 const CLOCK_ADVANCED: u64 = 6;
 
 // What a role did: how it went, the words that it listed, and the state behind it.
-pub struct Roled {
+pub(crate) struct Roled {
     pub went: Went,
     pub used: usize,
     pub state: State,
 }
 
 // The role of a number, which has `width` bits as a timestamp.
-pub fn apply(role: u8, width: u64, value: u64, st: State, list: &mut [u64]) -> Roled
+pub(crate) fn apply(role: u8, width: u64, value: u64, st: State, list: &mut [u64]) -> Roled
     requires { ⌜ Stamp role width value ⌝ }
     ensures { λ r. ⌜ RoleDid (roleStep (roleOf role) width value) st r (now (list .entry)) (now (list .exit)) ⌝ }
 {

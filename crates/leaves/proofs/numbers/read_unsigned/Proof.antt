@@ -7,13 +7,10 @@ use Rattle.leaves.proofs.numbers.read_unsigned.Lts as lts
 use Rattle.leaves.proofs.find.find_bits.Reads as find-bits-reads
 use Rattle.leaves.proofs.after.finish.Reads as finish-reads
 use Rattle.leaves.proofs.after.refused.Reads as refused-reads
-use native.Mathlib.Omega.{arith}
-use Prim.Native.Nat.{_^_}
-use mathlib.Core.Path.{_∙_, sym}
 use Rattle.rules.specs.Class.{unsignedInt, kindOf}
 use Rattle.rules.specs.Field.{valueOf, slotOf}
-use Rattle.rules.specs.Faults.{roleOf}
-use Rattle.leaves.proofs.Done.{refused-did, fixed-did, bits-found}
+use Rattle.leaves.proofs.Done.{refused-did, fixed-did}
+use Rattle.leaves.proofs.Lies.{bits-lie}
 
 find-bits-requires : tie.Need-find-bits-requires
 find-bits-requires c κs = search needs
@@ -28,19 +25,19 @@ enum-known-place : tie.Need-enum-known-place
 enum-known-place c = search needs
 
 finish-requires : tie.Need-finish-requires
-finish-requires c κs = let a = c .before .before .before .before .before .before .before .before .args in
-    let lies = bits-found (a .stream .now) (a .frame) (a .st .place) (a .st .order) (a .width) (a .order) (2 ^ a .exponent) _ _ _ (sym (c .before .before .before .before .find-bits .ensures) ∙ c .before .before .place .given .1) in
-    (c .before .before .before .before .before .before .before .before .pre .1 .1, (omega (arith, lies .1, c .before .before .before .before .before .before .before .before .pre .0 .ends, c .before .before .before .before .before .before .before .before .pre .0 .small), λ e. lies .2))
+finish-requires c κs =
+    let lies = bits-lie (c .before .before .before .before .before .before .before .before .pre .0) (c .before .before .place .given .1) _ _ _ _ (c .before .before .before .before .find-bits .ensures) in
+    (c .before .before .before .before .before .before .before .before .pre .1 .1, (lies .0, λ e. lies .1))
 
 returns : tie.Need-returns
-returns c = rw (c .refused .ensures) (refused-did _ _ _ _ _ (sym (c .before .before .before .before .find-bits .ensures) ∙ c .before .before .why .given .1))
+returns c = rw (c .refused .ensures) (refused-did (c .before .before .before .before .find-bits .ensures) (c .before .before .why .given .1) _ _ _)
 
 same-length : tie.Need-same-length
 same-length c = search needs
 
 returns-2 : tie.Need-returns-2
 unfolding kindOf valueOf slotOf
-returns-2 c = fixed-did _ unsignedInt _ _ _ _ _ _ (sym (c .before .before .before .before .before .before .before .find-bits .ensures) ∙ c .before .before .before .before .before .place .given .1) (c .before .before .finish .ensures)
+returns-2 c = fixed-did (c .before .before .before .before .before .before .before .find-bits .ensures) (c .before .before .before .before .before .place .given .1) unsignedInt _ _ _ (c .before .before .finish .ensures)
 
 pub read-unsigned-spec : {M : Type 1} → statement M
 read-unsigned-spec =
