@@ -1,0 +1,4 @@
+pub mod Standing
+pub mod ByKind
+pub mod Turns
+pub mod Holds

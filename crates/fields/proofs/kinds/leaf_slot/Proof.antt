@@ -1,0 +1,48 @@
+-- Kinds 26 and 27 name a slot behind their kind; the others read none.
+use borrow.Author.Needs.{needs}
+use Rattle.fields.proofs.kinds.leaf_slot.Statement.{statement}
+use Rattle.fields.proofs.kinds.leaf_slot.Tie as tie
+use Rattle.fields.proofs.kinds.leaf_slot.Reads as reads
+use Rattle.fields.proofs.kinds.leaf_slot.Lts as lts
+use Rattle.bytes.proofs.wide.Reads as wide-reads
+use native.Mathlib.Omega.{arith}
+use Rattle.rules.specs.Record.{u8}
+use Rattle.classes.specs.Trees.{recordSize, shapeOf, shapes}
+use mathlib.Core.Path.{_∙_, refl}
+use borrow.Author.Tests.{lt-ltb, le-ltb}
+use Rattle.fields.specs.Reads.{leafSlot}
+use Rattle.fields.proofs.ByKind.{slot-there}
+use Rattle.fields.proofs.Standing.{stands-within}
+
+shared-slice-read-if1 : tie.Need-shared-slice-read-if1
+shared-slice-read-if1 c = stands-within (c .before .before .args .table .now) (c .before .before .args .at) 1 (c .before .before .pre .0)
+
+returns : tie.Need-returns
+unfolding leafSlot u8
+returns c = rw (lt-ltb _ _ (c .if1 .taken), leafSlot) refl
+
+add-wide : tie.Need-add-wide
+unfolding u8
+add-wide c = omega (arith, slot-there (c .before .before .before .args .table .now) (c .before .before .before .args .at) (c .before .before .before .pre .0) (c .before .before .before .pre .1) (c .if1 .left), c .before .before .before .good .0)
+
+shared-slice-read-wide : tie.Need-shared-slice-read-wide
+unfolding u8
+shared-slice-read-wide c = omega (arith, slot-there (c .before .before .before .before .args .table .now) (c .before .before .before .before .args .at) (c .before .before .before .before .pre .0) (c .before .before .before .before .pre .1) (c .before .if1 .left), c .before .before .before .before .good .0)
+
+wide-requires : tie.Need-wide-requires
+wide-requires c κs = search needs
+
+returns-2 : tie.Need-returns-2
+unfolding leafSlot u8
+returns-2 c = rw (le-ltb _ _ (c .before .before .if1 .left), leafSlot) (c .wide .ensures .0)
+
+pub leaf-slot-spec : {M : Type 1} → statement M
+leaf-slot-spec =
+    tie.close
+    (tie.spec
+    shared-slice-read-if1
+    returns
+    add-wide
+    shared-slice-read-wide
+    wide-requires
+    returns-2)

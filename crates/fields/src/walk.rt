@@ -1,0 +1,406 @@
+// Fields that hold fields, kinds 28 to 32. Three functions call each other, the depth left falling; both walks take leaves directly, and
+// change their own slots: no leaf has the slots in its signature.
+use crate::Field;
+use crate::kinds::leaf_slot;
+use crate::kinds::read_leaf;
+use bytes::size_at;
+use bytes::wide64;
+use inside::look::Inside;
+use inside::look::look;
+use inside::look::slot_read;
+use leaves::Frame;
+use leaves::State;
+use leaves::Went;
+use leaves::entry;
+use rules::BitPlace;
+use rules::Content;
+use rules::Entry;
+use rules::Refusal;
+use rules::Slot;
+use rules::Stop;
+ghost use mathlib.Core.Path.{_≡_};
+ghost use mathlib.Core.List.{[], _∷_, _++_};
+ghost use Prim.Native.Nat.{_≤_, _<_};
+ghost use lib.ListN.{length, drop};
+ghost use Rattle.rules.specs.Record.{u8};
+ghost use Rattle.rules.specs.Entry.{words};
+ghost use Rattle.rules.specs.Field.{read, readMembers, times};
+ghost use Rattle.leaves.specs.Framed.{Framed, envOf};
+ghost use Rattle.classes.specs.Trees.{whole, wholeMembers, stoodAt, classAt, membersAt};
+ghost use Rattle.classes.specs.Notes.{notes, Prepared};
+ghost use Rattle.fields.specs.Reads.{FieldReads, stoppedField, openedState};
+
+// Kinds from here on hold fields.
+const FIRST_THAT_HOLDS: u8 = 28;
+
+// A field that holds fields, where there is room for its entry.
+pub fn read_field(
+    table: &[u8],
+    sizes: &[u16],
+    aligns: &[u8],
+    uuid: &[u8],
+    stream: &[u8],
+    frame: Frame,
+    at: usize,
+    left: usize,
+    st: State,
+    slots: [Slot; 64],
+    list: &mut [u64],
+) -> Field
+    requires { ⌜ whole left (now table) at ⌝ }
+    requires { ⌜ (28 ≤ u8 (now table) at) × (4 ≤ length (now list)) ⌝ }
+    requires { ⌜ Prepared (now table) (notes (now sizes) (now aligns)) ⌝ }
+    requires { ⌜ Framed (now stream) frame (st .place) ⌝ }
+    ensures { λ r. ⌜
+        FieldReads (read (envOf (now (stream .entry)) (now (uuid .entry)) frame) (classAt left (now (table .entry)) at)) st slots r
+        (now (list .entry)) (now (list .exit))
+        ⌝ }
+{
+    let mut content = Content::Unset;
+    let i = slot_read(table, at);
+    if i < 64 {
+        let slot = slots[i];
+        content = slot.content;
+    }
+    match look(table, sizes, aligns, at, frame, st.place, content) {
+        Inside::Refused(why) => {
+            let place = st.place;
+            stopped(Stop { why, place }, 0, st, slots)
+        }
+        Inside::Members {
+            place,
+            value,
+            from,
+            count,
+        } => {
+            let next = enter(wide64(table[at]), place, value, st, list);
+            let r = walk_members(
+                table,
+                sizes,
+                aligns,
+                uuid,
+                stream,
+                frame,
+                from,
+                count,
+                left - 1,
+                next,
+                slots,
+                &mut list[4..],
+            );
+            let went = r.went;
+            match went {
+                Went::Stopped(stop) => stopped(stop, 4 + r.used, st, slots),
+                Went::On => {
+                    let state = r.state;
+                    let changed = r.slots;
+                    Field {
+                        went: Went::On,
+                        used: 4 + r.used,
+                        state,
+                        slots: changed,
+                    }
+                }
+            }
+        }
+        Inside::Elements {
+            place,
+            value,
+            from,
+            count,
+        } => {
+            let next = enter(wide64(table[at]), place, value, st, list);
+            let r = walk_elements(
+                table,
+                sizes,
+                aligns,
+                uuid,
+                stream,
+                frame,
+                from,
+                count,
+                left - 1,
+                next,
+                slots,
+                &mut list[4..],
+            );
+            let went = r.went;
+            match went {
+                Went::Stopped(stop) => stopped(stop, 4 + r.used, st, slots),
+                Went::On => {
+                    let state = r.state;
+                    let changed = r.slots;
+                    Field {
+                        went: Went::On,
+                        used: 4 + r.used,
+                        state,
+                        slots: changed,
+                    }
+                }
+            }
+        }
+    }
+}
+
+// So many classes one behind the other, from a byte of the table on.
+pub fn walk_members(
+    table: &[u8],
+    sizes: &[u16],
+    aligns: &[u8],
+    uuid: &[u8],
+    stream: &[u8],
+    frame: Frame,
+    at: usize,
+    count: usize,
+    left: usize,
+    st: State,
+    given: [Slot; 64],
+    list: &mut [u64],
+) -> Field
+    requires { ⌜ wholeMembers (whole left (now table)) (stoodAt left (now table)) at count ⌝ }
+    requires { ⌜ Prepared (now table) (notes (now sizes) (now aligns)) ⌝ }
+    requires { ⌜ Framed (now stream) frame (st .place) ⌝ }
+    ensures { λ r. ⌜
+        FieldReads
+        (readMembers (envOf (now (stream .entry)) (now (uuid .entry)) frame) (membersAt (stoodAt left (now (table .entry))) at count))
+        st given r (now (list .entry)) (now (list .exit))
+        ⌝ }
+{
+    let mut state = st;
+    let mut slots = given;
+    let mut used: usize = 0;
+    let mut next = at;
+    let mut todo = count;
+    while 0 < todo {
+        if list.len() - used < 4 {
+            let place = state.place;
+            return stopped(
+                Stop {
+                    why: Refusal::ListFull,
+                    place,
+                },
+                used,
+                st,
+                given,
+            );
+        }
+        if table[next] < FIRST_THAT_HOLDS {
+            let mut content = Content::Unset;
+            let i = leaf_slot(table, next);
+            if i < 64 {
+                let slot = slots[i];
+                content = slot.content;
+            }
+            let r = read_leaf(
+                table,
+                next,
+                uuid,
+                stream,
+                frame,
+                state,
+                content,
+                &mut list[used..],
+            );
+            used = used + r.used;
+            let went = r.went;
+            match went {
+                Went::Stopped(stop) => {
+                    return stopped(stop, used, st, given);
+                }
+                Went::On => {}
+            }
+            next = next + size_at(sizes, next);
+            todo = todo - 1;
+            let changed = r.state;
+            state = changed;
+            let to = r.slot as usize;
+            if to < 64 {
+                let content = r.content;
+                slots[to] = Slot { content };
+            }
+            continue;
+        }
+        let r = read_field(
+            table,
+            sizes,
+            aligns,
+            uuid,
+            stream,
+            frame,
+            next,
+            left,
+            state,
+            slots,
+            &mut list[used..],
+        );
+        used = used + r.used;
+        let went = r.went;
+        match went {
+            Went::Stopped(stop) => {
+                return stopped(stop, used, st, given);
+            }
+            Went::On => {}
+        }
+        next = next + size_at(sizes, next);
+        todo = todo - 1;
+        let changed = r.state;
+        state = changed;
+        let held = r.slots;
+        slots = held;
+    }
+    Field {
+        went: Went::On,
+        used,
+        state,
+        slots,
+    }
+}
+
+// The class at a byte of the table, so many times.
+fn walk_elements(
+    table: &[u8],
+    sizes: &[u16],
+    aligns: &[u8],
+    uuid: &[u8],
+    stream: &[u8],
+    frame: Frame,
+    at: usize,
+    count: usize,
+    left: usize,
+    st: State,
+    given: [Slot; 64],
+    list: &mut [u64],
+) -> Field
+    requires { ⌜ whole left (now table) at ⌝ }
+    requires { ⌜ Prepared (now table) (notes (now sizes) (now aligns)) ⌝ }
+    requires { ⌜ Framed (now stream) frame (st .place) ⌝ }
+    ensures { λ r. ⌜
+        FieldReads (times count (read (envOf (now (stream .entry)) (now (uuid .entry)) frame) (classAt left (now (table .entry)) at)))
+        st given r (now (list .entry)) (now (list .exit))
+        ⌝ }
+{
+    let mut state = st;
+    let mut slots = given;
+    let mut used: usize = 0;
+    let mut todo = count;
+    while 0 < todo {
+        if list.len() - used < 4 {
+            let place = state.place;
+            return stopped(
+                Stop {
+                    why: Refusal::ListFull,
+                    place,
+                },
+                used,
+                st,
+                given,
+            );
+        }
+        if table[at] < FIRST_THAT_HOLDS {
+            let mut content = Content::Unset;
+            let i = leaf_slot(table, at);
+            if i < 64 {
+                let slot = slots[i];
+                content = slot.content;
+            }
+            let r = read_leaf(
+                table,
+                at,
+                uuid,
+                stream,
+                frame,
+                state,
+                content,
+                &mut list[used..],
+            );
+            used = used + r.used;
+            let went = r.went;
+            match went {
+                Went::Stopped(stop) => {
+                    return stopped(stop, used, st, given);
+                }
+                Went::On => {}
+            }
+            todo = todo - 1;
+            let changed = r.state;
+            state = changed;
+            let to = r.slot as usize;
+            if to < 64 {
+                let content = r.content;
+                slots[to] = Slot { content };
+            }
+            continue;
+        }
+        let r = read_field(
+            table,
+            sizes,
+            aligns,
+            uuid,
+            stream,
+            frame,
+            at,
+            left,
+            state,
+            slots,
+            &mut list[used..],
+        );
+        used = used + r.used;
+        let went = r.went;
+        match went {
+            Went::Stopped(stop) => {
+                return stopped(stop, used, st, given);
+            }
+            Went::On => {}
+        }
+        todo = todo - 1;
+        let changed = r.state;
+        state = changed;
+        let held = r.slots;
+        slots = held;
+    }
+    Field {
+        went: Went::On,
+        used,
+        state,
+        slots,
+    }
+}
+
+// The field's own entry, and the state at its place.
+fn enter(kind: u64, place: BitPlace, value: u64, st: State, list: &mut [u64]) -> State
+    requires { ⌜ 4 ≤ length (now list) ⌝ }
+    ensures { λ r. ⌜ r ≡ openedState place st ⌝ }
+    ensures { λ _. ⌜ now (list .exit) ≡ words (record { kind = kind; place = place; bits = 0; value = value } ∷ []) ++ drop 4 (now (list .entry)) ⌝ }
+{
+    entry::write(
+        list,
+        Entry {
+            kind,
+            place,
+            bits: 0,
+            value,
+        },
+    );
+    let order = st.order;
+    let clock = st.clock;
+    let said = st.said;
+    State {
+        place,
+        order,
+        clock,
+        last: st.last,
+        said,
+    }
+}
+
+// A field that stopped hands back state and slots as they came.
+fn stopped(stop: Stop, used: usize, st: State, slots: [Slot; 64]) -> Field
+    ensures { λ r. ⌜ r ≡ stoppedField stop used st slots ⌝ }
+{
+    Field {
+        went: Went::Stopped(stop),
+        used,
+        state: st,
+        slots,
+    }
+}
