@@ -209,7 +209,7 @@ module _ (e : Env) where
         let l : n .0 < length (ahead e (aligned e 8 s)) = g n refl in
         a-field 23 8 (8 * (n .0 + 1)) (n .0) (omega arith) .at s (h, ahead-fits e (aligned e 8 s) (n .0 + 1) b (omega arith))
 
-    pub held-law : Law e N Any (Holding J) (Holding J)
+    pub held-law : Law e N Any Any (Holding J) (Holding J)
     unfolding fromSlot
     held-law = record {
       none? = tt;
@@ -222,9 +222,9 @@ module _ (e : Env) where
       inNone = refusing In At NoMore stops SelectorInNoOption tt;
       within = λ n h. untested In At NoMore stops _ LengthTooLarge tt h;
       slot = λ i f h. record { at = λ s x. h (slotAt (s .slots) i) (any-slot (slotAt (s .slots) i)) .at s x };
-      fixes = λ k n o a i r w. held-fixed k n o (2 ^ a) i r w (pow-pos a);
-      lebs = λ i r. at-zero 8 (record { at = λ s x. held-leb 21 Unsigned i r (lebUnsigned (ahead e (aligned e 8 s))) s (x .0) (x .1) (unsigned-value _) });
-      signedLebs = λ i. at-zero 8 (record { at = λ s x. held-leb 22 Signed i noRole (lebSigned (ahead e (aligned e 8 s))) s (x .0) (x .1) (signed-value _) });
+      fixes = λ k n o a i r w z. held-fixed k n o (2 ^ a) i r w (pow-pos a);
+      lebs = λ i r z. at-zero 8 (record { at = λ s x. held-leb 21 Unsigned i r (lebUnsigned (ahead e (aligned e 8 s))) s (x .0) (x .1) (unsigned-value _) });
+      signedLebs = λ i z. at-zero 8 (record { at = λ s x. held-leb 22 Signed i noRole (lebSigned (ahead e (aligned e 8 s))) s (x .0) (x .1) (signed-value _) });
       zeros = at-zero 8 (record { at = λ s x. held-zero (zeroAt (ahead e (aligned e 8 s))) s (x .0) (x .1) (λ n z. zero-found _ n z .0) });
       texts = λ k n h. unfold readText in
           plain-fit 8 0 (fitting 8 (8 * n) (record { at = λ s x. a-field k 8 (8 * n) (textLength (bytesAt e (aligned e 8 s) n)) (omega arith) .at s x }));
@@ -240,7 +240,7 @@ module _ (e : Env) where
   at-least : (q : ℕ) → Kept e Any (λ p d. q ≤ p)
   at-least q = record { some-bits = λ n h. tt; moves = λ p p′ d l k. omega arith; says = λ n p d d′ w l k. k }
 
-  from-law : (q : ℕ) → Law e Any Any (Holding (λ p d. q ≤ p)) (Holding (λ p d. q ≤ p))
+  from-law : (q : ℕ) → Law e Any Any Any (Holding (λ p d. q ≤ p)) (Holding (λ p d. q ≤ p))
   from-law q = held-law (at-least q)
 
   went : (m : Step) → ((q : ℕ) → Holding (λ p d. q ≤ p) m) → (s : State) (es : List Entry) (s′ : State)
@@ -253,14 +253,14 @@ module _ (e : Env) where
   pub read-between : (c : Class) (s : State) (es : List Entry) (s′ : State)
       → e .start .0 ≤ s .place .0 → s .place .0 ≤ e .bound .0 → read e c s ≡ go es s′
       → (s .place .0 ≤ s′ .place .0) × (s′ .place .0 ≤ e .bound .0)
-  read-between c = went (read e c) (λ q. law-read e (from-law q) c (fits Any Any (λ n. tt) (λ n. tt) c))
+  read-between c = went (read e c) (λ q. law-read e (from-law q) c (fits Any Any Any (λ n. tt) (λ n. tt) (λ n. tt) c))
 
   pub members-between : (cs : Classes) (s : State) (es : List Entry) (s′ : State)
       → e .start .0 ≤ s .place .0 → s .place .0 ≤ e .bound .0 → readMembers e cs s ≡ go es s′
       → (s .place .0 ≤ s′ .place .0) × (s′ .place .0 ≤ e .bound .0)
-  members-between cs = went (readMembers e cs) (λ q. law-members e (from-law q) cs (fitMembers Any Any (λ n. tt) (λ n. tt) cs))
+  members-between cs = went (readMembers e cs) (λ q. law-members e (from-law q) cs (fitMembers Any Any Any (λ n. tt) (λ n. tt) (λ n. tt) cs))
 
   pub times-between : (n : ℕ) (c : Class) (s : State) (es : List Entry) (s′ : State)
       → e .start .0 ≤ s .place .0 → s .place .0 ≤ e .bound .0 → times n (read e c) s ≡ go es s′
       → (s .place .0 ≤ s′ .place .0) × (s′ .place .0 ≤ e .bound .0)
-  times-between n c = went (times n (read e c)) (λ q. law-times e (from-law q) n (law-read e (from-law q) c (fits Any Any (λ n. tt) (λ n. tt) c)))
+  times-between n c = went (times n (read e c)) (λ q. law-times e (from-law q) n (law-read e (from-law q) c (fits Any Any Any (λ n. tt) (λ n. tt) (λ n. tt) c)))

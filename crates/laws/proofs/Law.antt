@@ -21,13 +21,13 @@ use Rattle.rules.specs.Packet.{readRoot}
 abbrev pub FieldKind : ℕ → Type 0
 FieldKind k = (16 ≤ k) × (k ≤ 32)
 
--- what may be asked of a class's numbers: N of a field's bits, W of a value that is listed as it stands
-module _ (N W : ℕ → Type 0) where
+-- what may be asked of a class's numbers: N of a field's bits, S of a slot that is set, W of a value that is listed as it stands
+module _ (N S W : ℕ → Type 0) where
   abbrev mutual
     pub Fits : Class → Type 0
-    Fits (fixed k n o a i r) = N n
-    Fits (leb128 i r) = Unit {0}
-    Fits (signedLeb128 i) = Unit {0}
+    Fits (fixed k n o a i r) = N n × S i
+    Fits (leb128 i r) = S i
+    Fits (signedLeb128 i) = S i
     Fits string = Unit {0}
     Fits (staticString n) = Unit {0}
     Fits (staticBlob n r) = Unit {0}
@@ -53,12 +53,12 @@ module _ (N W : ℕ → Type 0) where
   FitRoot (some c) = Fits c
 
   -- where every number will do, every class does
-  module _ (n : (x : ℕ) → N x) (v : (x : ℕ) → W x) where
+  module _ (n : (x : ℕ) → N x) (s : (x : ℕ) → S x) (v : (x : ℕ) → W x) where
     mutual
       pub fits : (c : Class) → Fits c
-      fits (fixed k m o a i r) = n m
-      fits (leb128 i r) = tt
-      fits (signedLeb128 i) = tt
+      fits (fixed k m o a i r) = (n m, s i)
+      fits (leb128 i r) = s i
+      fits (signedLeb128 i) = s i
       fits string = tt
       fits (staticString m) = tt
       fits (staticBlob m r) = tt
@@ -91,7 +91,7 @@ SlotOf W (Unsigned n) = W n
 SlotOf W (Signed n) = W n
 
 -- L is a law of steps, and R the same of steps that come where there is room for an entry
-pub record Law (e : Env) (N W : ℕ → Type 0) (L R : Step → Type 0) : Type 0 where
+pub record Law (e : Env) (N S W : ℕ → Type 0) (L R : Step → Type 0) : Type 0 where
   pub none? : W 0
   pub one? : W 1
   pub seq : {m n : Step} → L m → L n → L (m ⨾ n)
@@ -102,9 +102,9 @@ pub record Law (e : Env) (N W : ℕ → Type 0) (L R : Step → Type 0) : Type 0
   pub inNone : R (refuse SelectorInNoOption)
   pub within : (n : ℕ) {m : Step} → R m → R (check (λ s. ltb lengthLimit n) LengthTooLarge ⨾ m)
   pub slot : (i : ℕ) (f : Content → Step) → ((x : Content) → SlotOf W x → R (f x)) → R (fromSlot i f)
-  pub fixes : (k : Sort) (n : ℕ) (o : Order) (a i : ℕ) (r : Role) → N n → L (readFixed e k n o (2 ^ a) i r)
-  pub lebs : (i : ℕ) (r : Role) → R (fit e 8 0 ⨾ λ s. readLeb e 21 Unsigned i r (lebUnsigned (ahead e (aligned e 8 s))) s)
-  pub signedLebs : (i : ℕ) → R (fit e 8 0 ⨾ λ s. readLeb e 22 Signed i noRole (lebSigned (ahead e (aligned e 8 s))) s)
+  pub fixes : (k : Sort) (n : ℕ) (o : Order) (a i : ℕ) (r : Role) → N n → S i → L (readFixed e k n o (2 ^ a) i r)
+  pub lebs : (i : ℕ) (r : Role) → S i → R (fit e 8 0 ⨾ λ s. readLeb e 21 Unsigned i r (lebUnsigned (ahead e (aligned e 8 s))) s)
+  pub signedLebs : (i : ℕ) → S i → R (fit e 8 0 ⨾ λ s. readLeb e 22 Signed i noRole (lebSigned (ahead e (aligned e 8 s))) s)
   pub zeros : R (fit e 8 0 ⨾ λ s. readZero e (zeroAt (ahead e (aligned e 8 s))) s)
   pub texts : (k n : ℕ) → FieldKind k → R (readText e k n)
   pub blobs : (k n : ℕ) (r : Role) → FieldKind k → R (readBlob e k n r)
@@ -117,7 +117,7 @@ pub record Law (e : Env) (N W : ℕ → Type 0) (L R : Step → Type 0) : Type 0
 one-le : (a b : ℕ) → 1 ≤ max (2 ^ a) b
 one-le a b = omega (arith, pow-pos a)
 
-module _ (e : Env) {N W : ℕ → Type 0} {L R : Step → Type 0} (h : Law e N W L R) where
+module _ (e : Env) {N S W : ℕ → Type 0} {L R : Step → Type 0} (h : Law e N S W L R) where
   law-flag : (x : Content) (f : Bool → Step) → ((b : Bool) → R (f b)) → R (asFlag x f)
   unfolding asFlag
   law-flag Unset f g = h .unset
@@ -155,10 +155,10 @@ module _ (e : Env) {N W : ℕ → Type 0} {L R : Step → Type 0} (h : Law e N W
   mutual
     unfolding read alignOf readMembers readOption
 
-    pub law-read : (c : Class) → Fits N W c → L (read e c)
-    law-read (fixed k n o a i r) w = h .fixes k n o a i r w
-    law-read (leb128 i r) w = h .dueʳ (h .lebs i r)
-    law-read (signedLeb128 i) w = h .dueʳ (h .signedLebs i)
+    pub law-read : (c : Class) → Fits N S W c → L (read e c)
+    law-read (fixed k n o a i r) w = h .fixes k n o a i r (w .0) (w .1)
+    law-read (leb128 i r) w = h .dueʳ (h .lebs i r w)
+    law-read (signedLeb128 i) w = h .dueʳ (h .signedLebs i w)
     law-read string w = h .dueʳ (h .zeros)
     law-read (staticString n) w = h .dueʳ (h .texts 24 n (omega arith))
     law-read (staticBlob n r) w = h .dueʳ (h .blobs 25 n r (omega arith))
@@ -172,16 +172,16 @@ module _ (e : Env) {N W : ℕ → Type 0} {L R : Step → Type 0} (h : Law e N W
     law-read (optional i g rs c) w = h .dueʳ (h .slot i _ (λ x p. law-number g x _ p (λ v q. law-present (anyHolds g v rs) (law-read c w))))
     law-read (variant i g os) w = h .dueʳ (h .slot i _ (λ x p. law-number g x _ p (λ v q. law-option g v 0 os w)))
 
-    pub law-members : (cs : Classes) → FitMembers N W cs → L (readMembers e cs)
+    pub law-members : (cs : Classes) → FitMembers N S W cs → L (readMembers e cs)
     law-members noMember w = h .passes
     law-members (member c cs) w = h .seq (law-read c (w .0)) (law-members cs (w .1))
 
-    law-option : (g : Sign) (v k : ℕ) (os : Options) → FitOptions N W os k → R (readOption e g v k os)
+    law-option : (g : Sign) (v k : ℕ) (os : Options) → FitOptions N S W os k → R (readOption e g v k os)
     law-option g v k noOption w = h .inNone
     law-option g v k (option rs c os) w =
         law-if (anyHolds g v rs) (h .tags 32 k (omega arith) (w .0) (law-read c (w .1))) (law-option g v (k + 1) os (w .2))
 
-  pub law-root : (c : Option Class) → FitRoot N W c → L (readRoot e c)
+  pub law-root : (c : Option Class) → FitRoot N S W c → L (readRoot e c)
   unfolding readRoot
   law-root none w = h .passes
   law-root (some c) w = law-read c w
@@ -196,5 +196,5 @@ any-slot (Flag b) = tt
 any-slot (Unsigned n) = tt
 any-slot (Signed n) = tt
 
-pub law-any : (e : Env) {L R : Step → Type 0} → Law e Any Any L R → (c : Option Class) → L (readRoot e c)
-law-any e h c = law-root e h c (fitRoot Any Any (λ n. tt) (λ n. tt) c)
+pub law-any : (e : Env) {L R : Step → Type 0} → Law e Any Any Any L R → (c : Option Class) → L (readRoot e c)
+law-any e h c = law-root e h c (fitRoot Any Any Any (λ n. tt) (λ n. tt) (λ n. tt) c)

@@ -1,5 +1,9 @@
 pub mod Law
+pub mod Simple
 pub mod All
 pub mod Triple
 pub mod Places
 pub mod Between
+pub mod Sound
+pub mod Accepted
+pub mod Kept

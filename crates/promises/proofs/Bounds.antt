@@ -31,7 +31,7 @@ module _ (e : Env) where
   place-of r i s h = (h .from, h .to)
 
   -- a root whose fields have a bit or more
-  pub bound-root : (c : Option Class) → FitRoot (λ n. 1 ≤ n) Any c → Bounded (readRoot e c)
+  pub bound-root : (c : Option Class) → FitRoot (λ n. 1 ≤ n) Any Any c → Bounded (readRoot e c)
   bound-root c w =
       weaker (In e) (At e) (NoMore e) (λ s h. record { from = h .from; to = h .to; kept = h .moved })
       (looser (In e) (At e) (NoMore e) (λ s h. record { from = h .from; to = h .to; moved = h .kept }) (law-root e (held-law e (moved-kept e)) c w))

@@ -17,8 +17,8 @@ use Rattle.rules.specs.Packet.{readRoot}
 use Rattle.facts.proofs.Steps.{listOf}
 use Rattle.laws.specs.All.{All}
 use Rattle.laws.proofs.All.{all-append}
-use Rattle.laws.proofs.Law.{FieldKind}
-use Rattle.promises.proofs.Simple.{Simple, view, simple-root}
+use Rattle.laws.proofs.Law.{FieldKind, Any}
+use Rattle.laws.proofs.Simple.{Simple, view, simple-root}
 
 module _ (P : Entry → Type 0) where
   pub record Each (m : Step) : Type 0 where
@@ -75,7 +75,7 @@ module _ (P : Entry → Type 0) where
 abbrev pub FieldEntry : Entry → Type 0
 FieldEntry e = (e .kind ≡ clockAdvanced) ⊎ FieldKind (e .kind)
 
-fields-simple : (e : Env) → Simple e (Each FieldEntry) (Each FieldEntry)
+fields-simple : (e : Env) → Simple e Any (Each FieldEntry) (Each FieldEntry)
 unfolding field store say fromSlot
 fields-simple e = record {
   seq = λ a b. _⨾ᵉ_ FieldEntry a b;
@@ -91,7 +91,7 @@ fields-simple e = record {
   slots = λ i f a. record { at = λ s. a (slotAt (s .slots) i) .at s };
   fields = λ k a n v h l. record { at = λ s. each-listed FieldEntry (entry k (aligned e a s) n v) _ s (inr h) };
   clocked = λ l c. record { at = λ s. each-listed FieldEntry (entry clockAdvanced (s .place) l c) (s .place) s (inl refl) };
-  stores = λ i x. each-change FieldEntry _;
+  stores = λ i x w. each-change FieldEntry _;
   orders = λ o. each-change FieldEntry _;
   clocks = λ c. each-change FieldEntry _;
   says = λ f. each-change FieldEntry _;

@@ -16,8 +16,9 @@ use Rattle.rules.specs.Parse.{Parsed, bad, good, Parser, then, sound, missing, 
 use Rattle.rules.specs.Faults.{pick, Seen, recordFault, fragmentFault, among, pairAmong, many, openFault, seen, firstFault, noneSeen}
 use Rattle.facts.proofs.Truth.{or-false, and-left}
 use Rattle.facts.proofs.Faults.{pick-zero, pick-false}
-use Rattle.promises.proofs.Accepted.{behind-less}
-use Rattle.promises.proofs.Local.{Whole, Plain, nothing, after, isFragment, whole-size, whole-record, whole-behind, whole-missing, first-whole, first-split, first-record, bad-good, Sound, no-fault, one-whole}
+use Rattle.laws.proofs.Sound.{Sound, no-fault}
+use Rattle.promises.proofs.TableRounds.{behind-less}
+use Rattle.promises.proofs.Local.{Whole, Plain, nothing, after, isFragment, whole-size, whole-record, whole-behind, whole-missing, first-whole, first-split, first-record, bad-good, one-whole}
 use Rattle.promises.proofs.Roots.{Stops, Rooted, roots-local}
 use Rattle.promises.specs.Edition.{keep, keepStreams, keepEvents, both, stays, part, leaveRecords, leave, Editions}
 

@@ -22,19 +22,23 @@ use Rattle.rules.specs.Read.{Reading, ended, begin, readStream, readAll, readPa
 use Rattle.facts.proofs.Refusals.{refusalNumber-bounds}
 use Rattle.promises.specs.Laws.{Rising, Within, Inside, TheLaws}
 use Rattle.laws.proofs.Law.{Any}
+use Rattle.laws.proofs.Accepted.{Tells, Fitting, accepted-fits}
 use Rattle.laws.proofs.Triple.{Ok}
 use Rattle.promises.proofs.Rising.{RiseOut, Onward}
 use Rattle.promises.proofs.Rounds.{event-rounds}
 use Rattle.promises.proofs.Spent.{reading-spent}
 use Rattle.promises.proofs.Room.{room-more}
 use Rattle.laws.proofs.Between.{In, At, NoMore}
-use Rattle.promises.proofs.Packets.{Fitting, Positive, bound-event, packet-rounds, go-packets}
-use Rattle.promises.proofs.Accepted.{accepted-fits, table-rounds}
+use Rattle.promises.proofs.Packets.{Positive, bound-event, packet-rounds, go-packets}
+use Rattle.promises.proofs.TableRounds.{table-rounds}
 use Rattle.promises.proofs.Listed.{reading-words, list-words}
 
 -- an accepted table's fields have a bit or more
-accepted-positive : (x : List ℕ) (t : Table) (y : List ℕ) → parse x ≡ good t y → Fitting Positive Any (asked t)
-accepted-positive x t y p = accepted-fits Positive Any (λ z. Unit {0}) (λ n a b. a) (λ x y g e k l. tt) (λ x g. tt) x t y tt p
+positive : Tells Positive (λ r. Any) Any (λ z. Unit {0})
+positive = record { bits = λ n a b. a; slots = λ r i h. tt; values = λ x y g e k l. tt; on = λ x g. tt }
+
+accepted-positive : (x : List ℕ) (t : Table) (y : List ℕ) → parse x ≡ good t y → Fitting Positive (λ r. Any) Any (asked t)
+accepted-positive x t y p = accepted-fits positive x t y tt p
 
 ok-within : (e : Env) (o : Out) → Ok (In e) (At e) (NoMore e) (Inside e) o → Within e o
 ok-within e (stop es v) h = h
@@ -49,7 +53,7 @@ unfolding EndsAt ended placeOf numberOf
 ended-at last (stop es v) h k = (h, λ z. absurd (omega (arith, refusalNumber-bounds (v .why) .0)))
 ended-at last (go es s) h k = (h, λ z. k)
 
-stream-at : (t : Table) → Fitting Positive Any (asked t) → (b : List ℕ) (room : ℕ) → EndsAt (8 * length b) (readStream (asked t) b room)
+stream-at : (t : Table) → Fitting Positive (λ r. Any) Any (asked t) → (b : List ℕ) (room : ℕ) → EndsAt (8 * length b) (readStream (asked t) b room)
 unfolding readStream
 stream-at t w b room = by (eqb (length b) 0 || ltb streamLimit (length b))
   where

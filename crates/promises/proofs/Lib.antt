@@ -8,7 +8,7 @@ pub mod Values
 pub mod Bounds
 pub mod Packets
 pub mod Local
-pub mod Accepted
+pub mod TableRounds
 pub mod Roots
 pub mod Edited
 pub mod Figures

@@ -31,9 +31,9 @@ use Rattle.facts.proofs.Bytes.{bytes-take, bytes-drop}
 use Rattle.facts.proofs.Truth.{or-false}
 use Rattle.laws.specs.All.{All}
 use Rattle.promises.specs.Words.{Word, AllWords, WordEntry, WordIds, WordStop, WordReading}
+use Rattle.laws.proofs.Law.{Any}
+use Rattle.laws.proofs.Accepted.{Tells, Fitting, accepted-fits}
 use Rattle.laws.proofs.Triple.{Ok, changing, naming, tested, untested}
-use Rattle.promises.proofs.Packets.{Fitting}
-use Rattle.promises.proofs.Accepted.{accepted-fits}
 use Rattle.promises.proofs.Exact.{found-id}
 use Rattle.promises.proofs.Values.{no-word, packet-word}
 use Rattle.promises.proofs.Words.{Wordy, Worded, Env64, To64, place-of, _⨾ʷ_, word-listed, word-check, word-pass, word-due, word-root}
@@ -84,7 +84,7 @@ ok-if : (b : Bool) (x y : Out) → (b ≡ true → Ok WordEntry WordStop WordIds
 ok-if true x y h k = h refl
 ok-if false x y h k = k
 
-module _ (t : Asked) (w : Fitting To64 Word t) (ids : (i : ℕ) (c : StreamClass) → t .stream i ≡ some c → c .id ≡ i) where
+module _ (t : Asked) (w : Fitting To64 (λ r. Any) Word t) (ids : (i : ℕ) (c : StreamClass) → t .stream i ≡ some c → c .id ≡ i) where
   word-readEvent : (i : ℕ) (c : StreamClass) → t .stream i ≡ some c → Word i → (e : Env) → Env64 e → (n : ℕ) → Word n → Worded (readEvent t c e n)
   unfolding readEvent
   word-readEvent i c p j e g n h = record {
@@ -301,11 +301,16 @@ bytes-behind : (x : List ℕ) → Bytes x → Bytes (behind x)
 unfolding behind
 bytes-behind x g = bytes-drop (size x) x g
 
-pub accepted-words : (x : List ℕ) → Bytes x → (t : Table) (y : List ℕ) → parse x ≡ good t y → Fitting To64 Word (asked t)
-accepted-words x g t y p =
-    accepted-fits To64 Word Bytes (λ n a b. b)
-    (λ x y g e k l. let c : y .count ≤ 65535 = subst CountOk e (record-ok x g) in omega arith)
-    bytes-behind x t y g p
+word-numbers : Tells To64 (λ r. Any) Word Bytes
+word-numbers = record {
+  bits = λ n a b. b;
+  slots = λ r i h. tt;
+  values = λ x y g e k l. let c : y .count ≤ 65535 = subst CountOk e (record-ok x g) in omega arith;
+  on = bytes-behind;
+}
+
+pub accepted-words : (x : List ℕ) → Bytes x → (t : Table) (y : List ℕ) → parse x ≡ good t y → Fitting To64 (λ r. Any) Word (asked t)
+accepted-words x g t y p = accepted-fits word-numbers x t y g p
 
 -- Readings
 
@@ -318,7 +323,7 @@ begin-words : (room : ℕ) → Wordy (begin room)
 unfolding begin nothingSaid
 begin-words room = record { place = omega arith; clock = omega arith; slots = no-word; said = record { stream = omega arith; event = omega arith; total = tt; content = tt } }
 
-stream-words : (t : Asked) → Fitting To64 Word t → ((i : ℕ) (c : StreamClass) → t .stream i ≡ some c → c .id ≡ i) → (b : List ℕ) (room : ℕ) → WordReading (readStream t b room)
+stream-words : (t : Asked) → Fitting To64 (λ r. Any) Word t → ((i : ℕ) (c : StreamClass) → t .stream i ≡ some c → c .id ≡ i) → (b : List ℕ) (room : ℕ) → WordReading (readStream t b room)
 unfolding readStream
 stream-words t w ids b room = by (eqb (length b) 0 || ltb streamLimit (length b)) refl
   where

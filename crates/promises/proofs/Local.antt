@@ -12,8 +12,9 @@ use borrow.Author.Tests.{ltb-false, le-ltb}
 use Rattle.rules.specs.Class.{Sign, Range, Class, noMember, member, noOption, option as anOption, structure, staticArray, dynamicArray, variant}
 use Rattle.rules.specs.Record.{Record, unknown, fragment, root, class, range, option, Fragment, Says, Shape, bitField, lebField, signedLebField, zeroString, text, blob, textOf, blobOf, members, elements, elementsOf, option?, options, recordOf, size, behind, layoutOf, u8}
 use Rattle.rules.specs.Parse.{Parsed, bad, good, Parser, then, sound, missing, one, Ranges, rangeOf, countOf, theSign, selected, parseRanges, parseMembers, parseOptions, parseShape, parseBody, parseClass}
-use Rattle.facts.proofs.Faults.{pick-false, pick-zero, fragment-zero}
-use Rattle.rules.specs.Faults.{pick, Seen, recordFault, fragmentFault, Spot, inside, Under, memberSpot, classFault, rangeFault, optionFault}
+use Rattle.facts.proofs.Faults.{pick-zero}
+use Rattle.rules.specs.Faults.{pick, Seen, recordFault, Spot, inside, Under, memberSpot, classFault, rangeFault, optionFault}
+use Rattle.laws.proofs.Sound.{no-fault}
 
 -- a whole record that is no fragment's first
 unfoldable pub isFragment : Record → Bool
@@ -115,22 +116,6 @@ local-then {A} {B} P F l k = record { at = λ q x b y h. by q x b y (P q x) refl
         }
 
 -- one record
-pub record Sound (b s : Bool) (m : ℕ) : Type 0 where
-  pub there : b ≡ false
-  pub fits : s ≡ false
-  pub later : m ≡ 0
-
-pub no-fault : (b s : Bool) (q : Seen) (r : Record) (m : ℕ) → pick b 3 (recordFault s q r m) ≡ 0 → Sound b s m
-unfolding recordFault
-no-fault b s q unknown m h = absurd (omega (arith, pick-zero b 2 2 h))
-no-fault b s q (fragment g) m h =
-    let k = pick-zero b 2 (pick s 3 (fragmentFault q g m)) h in
-    record { there = pick-false b 2 _ h; fits = pick-false s 2 _ k; later = fragment-zero q g m (pick-zero s 2 _ k) }
-no-fault b s q (root r) m h = let k = pick-zero b 2 (pick s 3 m) h in record { there = pick-false b 2 _ h; fits = pick-false s 2 _ k; later = pick-zero s 2 _ k }
-no-fault b s q (class y) m h = let k = pick-zero b 2 (pick s 3 m) h in record { there = pick-false b 2 _ h; fits = pick-false s 2 _ k; later = pick-zero s 2 _ k }
-no-fault b s q (range g l i) m h = let k = pick-zero b 2 (pick s 3 m) h in record { there = pick-false b 2 _ h; fits = pick-false s 2 _ k; later = pick-zero s 2 _ k }
-no-fault b s q (option n) m h = let k = pick-zero b 2 (pick s 3 m) h in record { there = pick-false b 2 _ h; fits = pick-false s 2 _ k; later = pick-zero s 2 _ k }
-
 fault-free : (short : Bool) (q : Seen) (r : Record) (m : ℕ) → isFragment r ≡ false → recordFault short q r m ≡ 0 → (q : Seen) → recordFault short q r m ≡ 0
 unfolding recordFault isFragment
 fault-free short q unknown m f h q′ = h

@@ -25,18 +25,12 @@ use Rattle.rules.specs.Field.{Env}
 use Rattle.rules.specs.Packet.{readEvent, readEvents, readContent, readPacket, readPackets, withEvent, withStream, mark, readRoot, startEvent, startPacket, nothingSaid, endPacket, orElse}
 use Rattle.facts.proofs.Truth.{or-false, if-agree}
 use Rattle.promises.specs.Laws.{Moved, Inside}
-use Rattle.laws.proofs.Law.{Any, FitRoot}
+use Rattle.laws.proofs.Law.{Any}
+use Rattle.laws.proofs.Accepted.{Fitting}
 use Rattle.laws.proofs.Triple.{Ok, then, changing, naming, checks, dued}
 use Rattle.promises.proofs.Rising.{RiseOut, Rise, Onward, rise-after, _⨾ᵘ_, rise-refuse, rise-check, rise-due, rise-change, rise-mark, rise-root}
 use Rattle.laws.proofs.Between.{In, At, NoMore}
 use Rattle.promises.proofs.Bounds.{Bounded, place-of, bound-root}
-
--- a table whose classes fit
-pub record Fitting (N W : ℕ → Type 0) (t : Asked) : Type 0 where
-  pub header : FitRoot N W (t .header)
-  pub context : (i : ℕ) (c : StreamClass) → t .stream i ≡ some c → FitRoot N W (c .context)
-  pub events : (i : ℕ) (c : StreamClass) → t .stream i ≡ some c → FitRoot N W (c .header) × FitRoot N W (c .common)
-  pub event : (i j : ℕ) (d : EventClass) → t .event i j ≡ some d → FitRoot N W (d .specific) × FitRoot N W (d .payload)
 
 abbrev pub Positive : ℕ → Type 0
 Positive n = 1 ≤ n
@@ -159,7 +153,7 @@ lengths b p total content s h =
     let z = or-false (not (eqb (total % 8) 0)) (ltb total content) (y .0) in
     record { whole = eqb-true (total % 8) 0 (not-false (eqb (total % 8) 0) (z .0)); order = ltb-false _ _ (z .1); inStream = ltb-false _ _ (y .1); reach = ltb-false _ _ (x .1) }
 
-module _ (t : Asked) (w : Fitting Positive Any t) where
+module _ (t : Asked) (w : Fitting Positive (λ r. Any) Any t) where
   -- an event stays within the bound
   pub bound-event : (i : ℕ) (c : StreamClass) → t .stream i ≡ some c → (e : Env) (n : ℕ) → Bounded e (readEvent t c e n)
   unfolding readEvent

@@ -17,7 +17,8 @@ use Rattle.rules.specs.Field.{Env, aligned, field, store, say, fromSlot}
 use Rattle.rules.specs.Packet.{mark, readRoot}
 use Rattle.laws.proofs.Places.{alignFrom-le}
 use Rattle.promises.specs.Laws.{Rising}
-use Rattle.promises.proofs.Simple.{Simple, view, simple-root}
+use Rattle.laws.proofs.Law.{Any}
+use Rattle.laws.proofs.Simple.{Simple, view, simple-root}
 
 abbrev pub RiseOut : ℕ → Out → Type 0
 RiseOut p (stop es v) = Rising es p (v .place .0)
@@ -98,7 +99,7 @@ rise-field : (e : Env) (k a n v : ℕ) → 1 ≤ a → Rise (field e k a n v)
 unfolding field aligned
 rise-field e k a n v h = record { at = λ s. rise-listed _ _ s (alignFrom-le (e .start .0) a (s .place .0) h) (omega arith) }
 
-rise-simple : (e : Env) → Simple e Rise Rise
+rise-simple : (e : Env) → Simple e Any Rise Rise
 unfolding store say fromSlot withSlots withOrder withClock withSaid
 rise-simple e = record {
   seq = λ a b. a ⨾ᵘ b;
@@ -114,7 +115,7 @@ rise-simple e = record {
   slots = λ i f a. record { at = λ s. a (slotAt (s .slots) i) .at s };
   fields = λ k a n v h l. rise-field e k a n v l;
   clocked = λ l c. record { at = λ s. rise-listed _ _ s (le-refl (s .place .0)) (le-refl (s .place .0)) };
-  stores = λ i x. rise-change _ (λ s. refl);
+  stores = λ i x w. rise-change _ (λ s. refl);
   orders = λ o. rise-change _ (λ s. refl);
   clocks = λ c. rise-change _ (λ s. refl);
   says = λ f. rise-change _ (λ s. refl);

@@ -26,7 +26,9 @@ use Rattle.rules.specs.Parse.{Parsed, bad, good, parse}
 use Rattle.rules.specs.Read.{Reading, ended, begin, readStream, readAll, readParsed}
 use Rattle.facts.proofs.Steps.{onto-nil, onto-onto, after-onto}
 use Rattle.promises.specs.Laws.{RanOut}
-use Rattle.promises.proofs.Simple.{Simple, SimplePackets, View, view, simple-packets}
+use Rattle.laws.proofs.Law.{Any}
+use Rattle.laws.proofs.Simple.{Simple, View, view}
+use Rattle.promises.proofs.Simple.{SimplePackets, simple-packets}
 
 -- a state with d more words of room
 unfoldable more : ℕ → State → State
@@ -131,7 +133,7 @@ listed-wide e p d s r =
     let q : s .room + d - wordsPerEntry ≡ s .room - wordsPerEntry + d = omega arith in
     ap (λ x. go (e ∷ []) (record { place = p; room = x; slots = s .slots; order = s .order; clock = s .clock; last = s .last; said = s .said })) q
 
-wide-simple : (e : Env) → Simple e Wide WideR
+wide-simple : (e : Env) → Simple e Any Wide WideR
 unfolding _⨾_ field aligned store say fromSlot change withSlots withOrder withClock withSaid wide more
 wide-simple e = record {
   seq = λ {m} {n} h k. record { at = λ d s. wider-after d (m s) (m (more d s)) n (h .at d s) k };
@@ -147,7 +149,7 @@ wide-simple e = record {
   slots = λ i f h. record { at = λ d s r. h (slotAt (s .slots) i) .at d s r };
   fields = λ k a n v h l. record { at = λ d s r. inl (listed-wide _ _ d s r) };
   clocked = λ l c. record { at = λ d s r. inl (listed-wide _ _ d s r) };
-  stores = λ i x. record { at = λ d s. inl refl };
+  stores = λ i x w. record { at = λ d s. inl refl };
   orders = λ o. record { at = λ d s. inl refl };
   clocks = λ c. record { at = λ d s. inl refl };
   says = λ f. record { at = λ d s. inl refl };

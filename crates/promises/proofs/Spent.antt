@@ -26,7 +26,9 @@ use Rattle.rules.specs.Parse.{Parsed, bad, good, parse}
 use Rattle.rules.specs.Read.{ended, begin, readStream, readAll, readParsed}
 use Rattle.facts.proofs.Steps.{onto-nil}
 use Rattle.promises.specs.Laws.{SpentReading}
-use Rattle.promises.proofs.Simple.{Simple, SimplePackets, view, simple-packets}
+use Rattle.laws.proofs.Law.{Any}
+use Rattle.laws.proofs.Simple.{Simple, view}
+use Rattle.promises.proofs.Simple.{SimplePackets, simple-packets}
 
 record Stopped (room : ℕ) (es : List Entry) (v : Stop) : Type 0 where
   within : wordsPerEntry * length es ≤ room
@@ -98,7 +100,7 @@ spent-listed : (e : Entry) (p : BitPlace) (s : State) → wordsPerEntry ≤ s .r
 unfolding listed
 spent-listed e p s r = omega arith
 
-spent-simple : (e : Env) → Simple e Spent SpentR
+spent-simple : (e : Env) → Simple e Any Spent SpentR
 unfolding _⨾_ field store say fromSlot withSlots withOrder withClock withSaid
 spent-simple e = record {
   seq = λ {m} {n} h k. record { at = λ s. spent-after s (m s) n (h .at s) k };
@@ -114,7 +116,7 @@ spent-simple e = record {
   slots = λ i f h. record { at = λ s r. h (slotAt (s .slots) i) .at s r };
   fields = λ k a n v h l. record { at = λ s r. spent-listed _ _ s r };
   clocked = λ l c. record { at = λ s r. spent-listed _ _ s r };
-  stores = λ i x. spent-change _ (λ s. refl);
+  stores = λ i x w. spent-change _ (λ s. refl);
   orders = λ o. spent-change _ (λ s. refl);
   clocks = λ c. spent-change _ (λ s. refl);
   says = λ f. spent-change _ (λ s. refl);

@@ -41,7 +41,7 @@ use Rattle.leb128.proofs.ValueSays.{unsigned-value, signed-value}
 use Rattle.text.proofs.Laws.{text-le, zero-found}
 use Rattle.laws.proofs.Places.{LebFits, ahead-fits}
 use Rattle.promises.specs.Words.{Word, WordEntry, WordIds, WordStop}
-use Rattle.laws.proofs.Law.{SlotOf, Law, FitRoot, law-root}
+use Rattle.laws.proofs.Law.{Any, SlotOf, Law, FitRoot, law-root}
 use Rattle.laws.proofs.Triple.{Ok, Triple, then, passing, changing, refusing, checks, tested, untested, dued}
 use Rattle.promises.proofs.Values.{value-word, clock-word, WordSlots, slot-word, set-word, slotOf-word}
 
@@ -225,7 +225,7 @@ module _ (e : Env) (g : Env64 e) where
   unfolding bytesAt
   text-word p n = omega (arith, text-le (take n (drop (p .0 / 8) (e .bytes))), length-take n (drop (p .0 / 8) (e .bytes)))
 
-  pub word-law : Law e To64 Word Worded Worded
+  pub word-law : Law e To64 Any Word Worded Worded
   unfolding fromSlot
   word-law = record {
     none? = omega arith;
@@ -238,9 +238,9 @@ module _ (e : Env) (g : Env64 e) where
     inNone = word-refuse SelectorInNoOption tt;
     within = λ n h. untested WordEntry WordStop WordIds place-of _ LengthTooLarge tt h;
     slot = λ i f h. record { at = λ s x. h (slotAt (s .slots) i) (slot-word (s .slots) i (x .slots)) .at s x };
-    fixes = λ k n o a i r w. word-fixed k n o (2 ^ a) i r w;
-    lebs = λ i r. at-zero (record { at = λ s x. word-leb 21 Unsigned i r (lebUnsigned (ahead e (aligned e 8 s))) s (omega arith) (λ v w. w) (x .0) (x .1) (unsigned-value _) });
-    signedLebs = λ i. at-zero (record { at = λ s x. word-leb 22 Signed i noRole (lebSigned (ahead e (aligned e 8 s))) s (omega arith) (λ v w. w) (x .0) (x .1) (signed-value _) });
+    fixes = λ k n o a i r w z. word-fixed k n o (2 ^ a) i r w;
+    lebs = λ i r z. at-zero (record { at = λ s x. word-leb 21 Unsigned i r (lebUnsigned (ahead e (aligned e 8 s))) s (omega arith) (λ v w. w) (x .0) (x .1) (unsigned-value _) });
+    signedLebs = λ i z. at-zero (record { at = λ s x. word-leb 22 Signed i noRole (lebSigned (ahead e (aligned e 8 s))) s (omega arith) (λ v w. w) (x .0) (x .1) (signed-value _) });
     zeros = at-zero (record { at = λ s x. word-zero (zeroAt (ahead e (aligned e 8 s))) s (x .0) (x .1) (λ n z. zero-found _ n z .0) });
     texts = λ k n h. unfold readText in
         plain-fit 8 0 (fitting 8 (8 * n) (record {
@@ -261,5 +261,5 @@ module _ (e : Env) (g : Env64 e) where
     tag = λ k v h w. tagged k v (h .1) w;
   }
 
-  pub word-root : (c : Option Class) → FitRoot To64 Word c → Worded (readRoot e c)
+  pub word-root : (c : Option Class) → FitRoot To64 Any Word c → Worded (readRoot e c)
   word-root c w = law-root e word-law c w
