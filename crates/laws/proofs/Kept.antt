@@ -76,7 +76,7 @@ module _ (l : Slots) where
       slots = λ i f a. record { at = λ s h. a (slotAt (s .slots) i) .at s h };
       fields = λ k a n v g l. record { at = λ s h. ((tt, tt), h) };
       clocked = λ l c. record { at = λ s h. ((tt, tt), h) };
-      stores = λ i x w. changing AnyEntry AnyStop AnyRefusal _ (λ s h. set-keeps (s .slots) i x (w event) ∙ h);
+      stores = λ i x w. changing AnyEntry AnyStop AnyRefusal _ (λ s h. set-keeps (s .slots) i x (omega (arith, w event)) ∙ h);
       orders = λ o. changing AnyEntry AnyStop AnyRefusal _ (λ s h. h);
       clocks = λ c. changing AnyEntry AnyStop AnyRefusal _ (λ s h. h);
       says = λ f. changing AnyEntry AnyStop AnyRefusal _ (λ s h. h);
@@ -88,7 +88,7 @@ root-keeps r event c w e s es s′ g =
     subst (Ok AnyEntry AnyStop AnyRefusal (Has l)) g (simple-fits e (keeps-simple l r event e) c w .at s refl) .1
 
 set-by : Tells Any SetBy Any (λ x. Unit {0})
-set-by = record { bits = λ n a b. tt; slots = λ r i h. h; values = λ x y g e k l. tt; on = λ x g. tt }
+set-by = record { bits = λ n a b. tt; slots = λ r i h g. omega (arith, h g); values = λ x y g e k l. tt; on = λ x g. tt }
 
 pub accepted-keeps : (x : List ℕ) (t : Table) (y : List ℕ) → parse x ≡ good t y → KeepsEvents (asked t)
 accepted-keeps x t y p =
