@@ -26,7 +26,7 @@ use Rattle.laws.proofs.Triple.{Ok, Triple, then, passing, changing, ref
 use Rattle.laws.proofs.Accepted.{Tells, accepted-fits}
 
 -- the slots that a root may set, as far as an event's go
-abbrev pub SetBy : ℕ → ℕ → Type 0
+abbrev SetBy : ℕ → ℕ → Type 0
 SetBy r i = 2 ≤ r → packetSlotCount ≤ i
 
 take-set : (l : Slots) (n i : ℕ) (x : Slot) → n ≤ i → take n (set l i x) ≡ take n l
