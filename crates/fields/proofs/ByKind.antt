@@ -20,13 +20,15 @@ use Rattle.rules.specs.Step.{Step}
 use Rattle.rules.specs.Field.{read}
 use Rattle.facts.proofs.Numbers.{lt-or-ge}
 use Rattle.facts.proofs.Cases.{_▷_, below}
-use Rattle.leaves.specs.declared.Frame.{Frame}
-use Rattle.leaves.specs.declared.State.{State}
+use Rattle.finding.specs.declared.Frame.{Frame}
+use Rattle.listing.specs.declared.State.{State}
 use Rattle.leaves.specs.declared.Leaf.{Leaf}
-use Rattle.leaves.specs.Framed.{envOf}
-use Rattle.leaves.specs.Found.{foundBits, foundUnsigned, foundSigned, foundString, foundText, foundBlob}
-use Rattle.leaves.specs.Settled.{settle, listing, thenFixed, thenLeb, thenBlob, lengthOf, forLength}
-use Rattle.leaves.specs.Did.{full, LeafDid}
+use Rattle.finding.specs.Framed.{envOf}
+use Rattle.finding.specs.Found.{foundBits, foundUnsigned, foundSigned, foundString, foundText, foundBlob}
+use Rattle.finding.specs.Lengths.{lengthOf}
+use Rattle.leaves.specs.Settled.{settle, listing, thenFixed, thenLeb, thenBlob, forLength}
+use Rattle.leaves.specs.Done.{LeafDid}
+use Rattle.listing.specs.Did.{full}
 use Rattle.leaves.proofs.Settled.{fixed-settles, unsigned-settles, signed-settles, string-settles, static-string-settles, static-blob-settles, dynamic-string-settles, dynamic-blob-settles}
 use Rattle.classes.specs.Trees.{shapes, shapeOf, recordSize, stoodAt, classIn, classAt, whole, wholeIn}
 use Rattle.fields.specs.Reads.{LeafReads, leafSlot}

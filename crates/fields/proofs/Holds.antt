@@ -25,13 +25,13 @@ use Rattle.inside.specs.Held.{Held, Placed, HeldMembers, HeldElements}
 use Rattle.inside.proofs.Noted.{opens}
 use Rattle.inside.proofs.Opened.{inside-read}
 use Rattle.inside.proofs.Held.{inside-whole}
-use Rattle.leaves.specs.declared.Frame.{Frame}
-use Rattle.leaves.specs.Framed.{Framed, envOf}
-use Rattle.leaves.specs.declared.State.{State}
-use Rattle.leaves.specs.declared.Went.the-variants.{On, Stopped}
-use Rattle.leaves.specs.Did.{Did, full}
-use Rattle.leaves.proofs.Roles.{went-no-further}
-use Rattle.leaves.proofs.Parts.{Part, part-last-on, part-last-stopped, back-room, lent, merged}
+use Rattle.finding.specs.declared.Frame.{Frame}
+use Rattle.finding.specs.Framed.{Framed, envOf}
+use Rattle.listing.specs.declared.State.{State}
+use Rattle.listing.specs.declared.Went.the-variants.{On, Stopped}
+use Rattle.listing.specs.Did.{Did, full}
+use Rattle.listing.proofs.Roles.{went-no-further}
+use Rattle.listing.proofs.Parts.{Part, part-last-on, part-last-stopped, back-room, lent, merged}
 use Rattle.fields.specs.declared.Field.{Field}
 use Rattle.fields.specs.Reads.{FieldReads, stoppedField, openedState}
 

@@ -17,15 +17,15 @@ use Rattle.rules.specs.Class.{Class, fixed, leb128, signedLeb128, string, stati
 use Rattle.rules.specs.Step.{State as Full, Out, stop, go, Step, onto, after, _⨾_, pass, refuse}
 use Rattle.rules.specs.Field.{Env, read, readFixed, readMembers, times}
 use Rattle.classes.specs.Trees.{Stood, membersAt}
-use Rattle.leaves.specs.declared.Frame.{Frame}
-use Rattle.leaves.specs.declared.State.{State}
+use Rattle.finding.specs.declared.Frame.{Frame}
+use Rattle.listing.specs.declared.State.{State}
 use Rattle.leaves.specs.declared.Leaf.{Leaf}
-use Rattle.leaves.specs.declared.Went.{Went}
-use Rattle.leaves.specs.declared.Went.the-variants.{On, Stopped}
-use Rattle.leaves.specs.Framed.{Framed, envOf}
-use Rattle.leaves.specs.Did.{Did, full, outOf}
-use Rattle.leaves.proofs.Settled.{no-room-first}
-use Rattle.leaves.proofs.Parts.{Part, part-start, part-step, part-stop, part-end, part-length, back-room, lent, merged}
+use Rattle.listing.specs.declared.Went.{Went}
+use Rattle.listing.specs.declared.Went.the-variants.{On, Stopped}
+use Rattle.finding.specs.Framed.{Framed, envOf}
+use Rattle.listing.specs.Did.{Did, full, outOf}
+use Rattle.listing.proofs.Checks.{no-room-first}
+use Rattle.listing.proofs.Parts.{Part, part-start, part-step, part-stop, part-end, part-length, back-room, lent, merged}
 use Rattle.fields.specs.declared.Field.{Field}
 use Rattle.fields.specs.Reads.{LeafReads, FieldReads, stoppedField}
 use Rattle.fields.proofs.Standing.{First, no-member}

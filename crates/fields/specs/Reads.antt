@@ -14,13 +14,13 @@ use Rattle.rules.specs.Record.{u8}
 use Rattle.rules.specs.Slots.{Slots, slotAt, setSlot}
 use Rattle.rules.specs.Step.{Step}
 use Rattle.rules.specs.Field.{read}
-use Rattle.leaves.specs.declared.Frame.{Frame}
-use Rattle.leaves.specs.declared.State.{State}
-use Rattle.leaves.specs.Framed.{envOf}
+use Rattle.finding.specs.declared.Frame.{Frame}
+use Rattle.listing.specs.declared.State.{State}
+use Rattle.finding.specs.Framed.{envOf}
 use Rattle.classes.specs.Trees.{classAt}
 use Rattle.leaves.specs.declared.Leaf.{Leaf}
-use Rattle.leaves.specs.declared.Went.the-variants.{Stopped}
-use Rattle.leaves.specs.Did.{Did, full}
+use Rattle.listing.specs.declared.Went.the-variants.{Stopped}
+use Rattle.listing.specs.Did.{Did, full}
 use Rattle.fields.specs.declared.Field.{Field}
 
 -- the slot that a leaf's class reads: kinds 26 and 27 name one

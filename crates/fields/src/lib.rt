@@ -1,7 +1,7 @@
 // One field and all that it holds: kinds 16 to 32. In order: kinds, the leaf of the class at a byte of the table; walk, fields that hold
 // fields.
-use leaves::State;
-use leaves::Went;
+use listing::State;
+use listing::Went;
 use rules::Slot;
 
 pub mod kinds;

@@ -17,10 +17,10 @@ use Rattle.rules.specs.Record.{u8, u16}
 use Rattle.rules.specs.Class.{Sign, Range, anyHolds}
 use Rattle.facts.specs.Bytes.{Bytes}
 use Rattle.places.proofs.Multiple.{align-near}
-use Rattle.leaves.specs.declared.Frame.{Frame}
-use Rattle.leaves.specs.Framed.{Framed}
-use Rattle.leaves.specs.Found.{alignedAt}
-use Rattle.leaves.specs.Settled.{lengthOf}
+use Rattle.finding.specs.declared.Frame.{Frame}
+use Rattle.finding.specs.Framed.{Framed}
+use Rattle.finding.specs.Found.{alignedAt}
+use Rattle.finding.specs.Lengths.{lengthOf}
 use Rattle.classes.specs.Trees.{shapeOf, shapes, recordSize, rangesAt, signAt, optionClass, Stood, stoodAt, wholeMembers, wholeOptions, wholeIn, whole}
 use Rattle.classes.specs.Notes.{Notes, Prepared}
 use Rattle.inside.specs.declared.choice.Choice.{Choice}

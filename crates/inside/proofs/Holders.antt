@@ -11,9 +11,9 @@ use Rattle.rules.specs.declared.Refusal.{Refusal}
 use Rattle.rules.specs.Limits.{noSlot}
 use Rattle.rules.specs.Record.{u8, u16}
 use Rattle.facts.proofs.Cases.{below, _▷_}
-use Rattle.leaves.specs.declared.Frame.{Frame}
-use Rattle.leaves.specs.declared.slots.Length.the-variants.{Of, NotOf}
-use Rattle.leaves.specs.Settled.{lengthOf}
+use Rattle.finding.specs.declared.Frame.{Frame}
+use Rattle.finding.specs.declared.slots.Length.the-variants.{Of, NotOf}
+use Rattle.finding.specs.Lengths.{lengthOf}
 use Rattle.classes.specs.Trees.{shapeOf, shapes, recordSize, wholeIn}
 use Rattle.classes.specs.Notes.{Notes, endNoted}
 use Rattle.inside.specs.declared.look.Inside.the-variants.{Refused}

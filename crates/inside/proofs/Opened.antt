@@ -21,11 +21,11 @@ use Rattle.rules.specs.Entry.{entry}
 use Rattle.rules.specs.Step.{State, Step, _⨾_, onto, after, refuse, listed}
 use Rattle.rules.specs.Field.{Env, aligned, fit, field, fromSlot, asFlag, asNumber, asLength, times, present, read, readMembers, readOption}
 use Rattle.facts.proofs.Steps.{onto-nil, after-pass}
-use Rattle.leaves.specs.declared.Frame.{Frame}
-use Rattle.leaves.specs.Framed.{Framed, envOf}
-use Rattle.leaves.specs.Found.{alignedAt}
-use Rattle.leaves.specs.Settled.{lengthOf}
-use Rattle.leaves.proofs.Settled.{check-stops, check-goes, room-first}
+use Rattle.finding.specs.declared.Frame.{Frame}
+use Rattle.finding.specs.Framed.{Framed, envOf}
+use Rattle.finding.specs.Found.{alignedAt}
+use Rattle.finding.specs.Lengths.{lengthOf}
+use Rattle.listing.proofs.Checks.{check-stops, check-goes, room-first}
 use Rattle.classes.specs.Trees.{shapeOf, shapes, rangesAt, signAt, optionClass, optionalOf, Stood, membersAt, optionsAt, classIn, stoodAt, classAt, wholeOptions, wholeIn, whole}
 use Rattle.classes.specs.Notes.{Notes, endNoted, Prepared}
 use Rattle.classes.proofs.Turns.{whole-inside}

@@ -4,8 +4,8 @@ use Prim.Native.Nat.{ℕ, _≤_, _<_}
 use borrow.Author.Tests.{lt-ltb, le-ltb}
 use Rattle.rules.specs.declared.BitPlace.{BitPlace}
 use Rattle.rules.specs.declared.Refusal.the-variants.{PastBound}
-use Rattle.leaves.specs.declared.Frame.{Frame}
-use Rattle.leaves.specs.Found.{alignedAt}
+use Rattle.finding.specs.declared.Frame.{Frame}
+use Rattle.finding.specs.Found.{alignedAt}
 use Rattle.inside.specs.declared.look.Inside.{Inside}
 use Rattle.inside.specs.declared.look.Inside.the-variants.{Refused}
 use Rattle.inside.specs.Inside.{within, standing}

@@ -3,7 +3,7 @@ use Prim.Native.Nat.{ℕ, _≤_}
 use mathlib.Core.List.{List}
 use Rattle.rules.specs.declared.BitPlace.{BitPlace}
 use Rattle.rules.specs.Limits.{lengthLimit}
-use Rattle.leaves.specs.declared.Frame.{Frame}
+use Rattle.finding.specs.declared.Frame.{Frame}
 use Rattle.classes.specs.Trees.{stoodAt, wholeMembers, whole}
 use Rattle.inside.specs.declared.look.Inside.{Inside}
 use Rattle.inside.specs.declared.look.Inside.the-variants.{Members, Elements, Refused}

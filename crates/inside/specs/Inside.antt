@@ -13,11 +13,11 @@ use Rattle.rules.specs.Record.{Shape, bitField, lebField, signedLebField, zeroS
 use Rattle.rules.specs.Entry.{entry}
 use Rattle.rules.specs.Step.{Step, _⨾_, refuse, listed}
 use Rattle.rules.specs.Field.{Env, times, read, readMembers}
-use Rattle.leaves.specs.declared.Frame.{Frame}
-use Rattle.leaves.specs.declared.slots.Length.{Length}
-use Rattle.leaves.specs.declared.slots.Length.the-variants.{Of, NotOf}
-use Rattle.leaves.specs.Found.{alignedAt}
-use Rattle.leaves.specs.Settled.{lengthOf}
+use Rattle.finding.specs.declared.Frame.{Frame}
+use Rattle.finding.specs.declared.slots.Length.{Length}
+use Rattle.finding.specs.declared.slots.Length.the-variants.{Of, NotOf}
+use Rattle.finding.specs.Found.{alignedAt}
+use Rattle.finding.specs.Lengths.{lengthOf}
 use Rattle.classes.specs.Trees.{shapeOf, membersAt, stoodAt, classAt, Whole}
 use Rattle.classes.specs.Notes.{Notes, endNoted}
 use Rattle.inside.specs.declared.choice.Choice.{Choice}

@@ -27,18 +27,20 @@ use Rattle.rules.specs.Entry.{entry, words}
 use Rattle.rules.specs.Step.{Step, onto, after, _⨾_, pass, refuse, listed, change, withOrder, withSlots}
 use Rattle.rules.specs.Field.{store, role, valueOf, slotOf}
 use Rattle.facts.proofs.Steps.{onto-nil}
-use Rattle.leaves.specs.declared.find.Found.{Found}
-use Rattle.leaves.specs.declared.find.Found.the-variants.{At, Refused}
-use Rattle.leaves.specs.Settled.{Then, settle, listing, thenBits, thenFixed, thenLeb, lengthOf, forLength}
-use Rattle.leaves.specs.declared.slots.Length.{Length}
-use Rattle.leaves.specs.declared.slots.Length.the-variants.{Of, NotOf}
+use Rattle.finding.specs.declared.find.Found.{Found}
+use Rattle.finding.specs.declared.find.Found.the-variants.{At, Refused}
+use Rattle.finding.specs.Lengths.{lengthOf}
+use Rattle.finding.specs.declared.slots.Length.{Length}
+use Rattle.finding.specs.declared.slots.Length.the-variants.{Of, NotOf}
+use Rattle.listing.specs.declared.State.{State}
+use Rattle.listing.specs.declared.Went.the-variants.{On, Stopped}
+use Rattle.listing.specs.declared.role.Roled.{Roled}
+use Rattle.listing.specs.Did.{full, RoleDid}
+use Rattle.listing.proofs.Roles.{went-no-further}
+use Rattle.listing.proofs.Parts.{Part, lent, merged, part-last-on, part-last-stopped, back-room}
+use Rattle.leaves.specs.Settled.{Then, settle, listing, thenBits, thenFixed, thenLeb, forLength}
 use Rattle.leaves.specs.declared.Leaf.{Leaf}
-use Rattle.leaves.specs.declared.State.{State}
-use Rattle.leaves.specs.declared.Went.the-variants.{On, Stopped}
-use Rattle.leaves.specs.declared.role.Roled.{Roled}
-use Rattle.leaves.specs.Did.{full, RoleDid, LeafDid, thenSet, behindState, stoppedLeaf}
-use Rattle.leaves.proofs.Roles.{went-no-further}
-use Rattle.leaves.proofs.Parts.{Part, lent, merged, part-last-on, part-last-stopped, back-room}
+use Rattle.leaves.specs.Done.{LeafDid, thenSet, behindState, stoppedLeaf}
 
 module _ (x : Entry) (o : LastOrder) (i : ℕ) (c : Content) (r : Role) (w : ℕ) (st : State) (ws ws₁ : List ℕ)
     (h : 4 ≤ length ws) (e : ws₁ ≡ words (x ∷ []) ++ drop 4 ws) where

@@ -1,7 +1,2 @@
-pub mod Found
 pub mod Settled
-pub mod Roles
-pub mod Parts
 pub mod Done
-pub mod Lies
-pub mod Uuid

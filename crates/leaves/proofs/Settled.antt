@@ -1,11 +1,10 @@
 -- The rules' reading of a leaf is what is found of it, and then what is done with that.
-use Prim.Native.Nat.{ℕ, _-_, _*_, _/_, _<_, _≤_}
+use Prim.Native.Nat.{ℕ, _-_, _*_, _/_, _≤_}
 use native.Mathlib.Omega.{arith}
 use lib.Dec.{ltb}
 use mathlib.Core.Path.{_≡_, refl, ap, _∙_}
 use mathlib.Core.List.{List, [], _∷_}
 use mathlib.Core.Bool.{Bool, true, false}
-use borrow.Author.Tests.{lt-ltb, le-ltb}
 use Rattle.rules.specs.declared.BitPlace.{BitPlace}
 use Rattle.rules.specs.declared.Content.{Content}
 use Rattle.rules.specs.declared.Content.the-variants.{Unset, Flag, Unsigned, Signed}
@@ -15,41 +14,25 @@ use Rattle.rules.specs.declared.Ended.{Ended}
 use Rattle.rules.specs.declared.Ended.the-variants.{After, Never}
 use Rattle.rules.specs.declared.Order.{Order}
 use Rattle.rules.specs.declared.Refusal.{Refusal}
-use Rattle.rules.specs.declared.Refusal.the-variants.{ListFull, LengthTooLarge}
+use Rattle.rules.specs.declared.Refusal.the-variants.{LengthTooLarge}
 use Rattle.rules.specs.Limits.{lengthLimit, wordsPerEntry}
 use Rattle.rules.specs.Class.{Role, noRole, Sort, leb128, signedLeb128, string, staticString, staticBlob, dynamicString, dynamicBlob}
 use Rattle.rules.specs.Slots.{slotAt}
 use Rattle.rules.specs.Place.{further}
 use Rattle.rules.specs.Entry.{entry}
-use Rattle.rules.specs.Step.{State, Step, go, _⨾_, onto, after, pass, refuse, check, due, listed}
+use Rattle.rules.specs.Step.{State, Step, go, _⨾_, onto, after, pass, refuse, check, listed}
 use Rattle.rules.specs.Field.{aligned, fit, ahead, bytesAt, field, turned, fromSlot, asNumber, asLength, readFixed, readLeb, readZero, readText, blobRole, readBlob, read}
 use Rattle.facts.proofs.Steps.{onto-nil}
-use Rattle.leaves.specs.declared.Frame.{Frame}
-use Rattle.leaves.specs.declared.slots.Length.{Length}
-use Rattle.leaves.specs.declared.slots.Length.the-variants.{Of, NotOf}
-use Rattle.leaves.specs.declared.find.Found.{Found}
-use Rattle.leaves.specs.declared.find.Found.the-variants.{At, Refused}
-use Rattle.leaves.specs.Framed.{envOf}
-use Rattle.leaves.specs.Found.{alignedAt, unless, within, bytesAhead, foundBits, foundLeb, foundUnsigned, foundSigned, foundZero, foundString, foundText, foundBlob}
-use Rattle.leaves.specs.Settled.{Then, settle, listing, thenFixed, thenLeb, thenBlob, lengthOf, forLength}
-
--- a test that holds stops the reading, one that does not goes by
-pub check-stops : (t : State → Bool) (r : Refusal) (s : State) → t s ≡ true → check t r s ≡ refuse r s
-unfolding check
-check-stops t r s h = rw (h, check) refl
-
-pub check-goes : (t : State → Bool) (r : Refusal) (s : State) → t s ≡ false → check t r s ≡ go [] s
-unfolding check pass
-check-goes t r s h = rw (h, check) refl
-
--- 40 is tested first, and goes by where there is room
-pub room-first : (m : Step) (s : State) → 4 ≤ s .room → (due ⨾ m) s ≡ m s
-unfolding due _⨾_ after
-room-first m s h = ap (λ o. after o m) (check-goes _ ListFull s (le-ltb _ _ h)) ∙ onto-nil (m s)
-
-pub no-room-first : (m : Step) (s : State) → s .room < 4 → (due ⨾ m) s ≡ refuse ListFull s
-unfolding due _⨾_ after refuse
-no-room-first m s h = ap (λ o. after o m) (check-stops _ ListFull s (lt-ltb _ _ h))
+use Rattle.finding.specs.declared.Frame.{Frame}
+use Rattle.finding.specs.declared.slots.Length.{Length}
+use Rattle.finding.specs.declared.slots.Length.the-variants.{Of, NotOf}
+use Rattle.finding.specs.declared.find.Found.{Found}
+use Rattle.finding.specs.declared.find.Found.the-variants.{At, Refused}
+use Rattle.finding.specs.Framed.{envOf}
+use Rattle.finding.specs.Found.{alignedAt, unless, within, bytesAhead, foundBits, foundLeb, foundUnsigned, foundSigned, foundZero, foundString, foundText, foundBlob}
+use Rattle.finding.specs.Lengths.{lengthOf}
+use Rattle.listing.proofs.Checks.{check-stops, check-goes, room-first}
+use Rattle.leaves.specs.Settled.{Then, settle, listing, thenFixed, thenLeb, thenBlob, forLength}
 
 check-settles : (t : State → Bool) (r : Refusal) (m : Step) (s : State) (b : Bool) (x : Found) (f : Then) →
     t s ≡ b → m s ≡ settle x f s → (check t r ⨾ m) s ≡ settle (unless b r x) f s

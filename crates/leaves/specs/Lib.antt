@@ -1,5 +1,2 @@
-pub mod Framed
-pub mod Found
 pub mod Settled
-pub mod Did
-pub mod Roled
+pub mod Done

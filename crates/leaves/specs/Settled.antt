@@ -1,23 +1,20 @@
 -- A reading of a leaf in two parts: what is found of it, and what is done with that.
 use Prim.Native.Nat.{ℕ, _*_, _/_}
-use mathlib.Core.Bool.{true, false}
-use lib.Dec.{ltb}
 use Rattle.rules.specs.declared.BitPlace.{BitPlace}
 use Rattle.rules.specs.declared.LastOrder.the-variants.{Was}
 use Rattle.rules.specs.declared.Order.{Order}
 use Rattle.rules.specs.declared.Content.{Content}
-use Rattle.rules.specs.declared.Content.the-variants.{Unset, Flag, Unsigned, Signed}
-use Rattle.rules.specs.declared.Refusal.the-variants.{SlotUnset, SlotOfWrongSort, LengthTooLarge}
-use Rattle.rules.specs.Limits.{lengthLimit, noSlot}
-use Rattle.rules.specs.Place.{byteLength, further}
+use Rattle.rules.specs.declared.Content.the-variants.{Unset}
+use Rattle.rules.specs.Limits.{noSlot}
+use Rattle.rules.specs.Place.{further}
 use Rattle.rules.specs.Class.{Role, noRole, Sort, kindOf}
 use Rattle.rules.specs.Entry.{entry}
 use Rattle.rules.specs.Step.{Step, _⨾_, refuse, listed, change, withOrder}
 use Rattle.rules.specs.Field.{Env, bytesAt, store, role, blobRole, valueOf, slotOf}
-use Rattle.leaves.specs.declared.slots.Length.{Length}
-use Rattle.leaves.specs.declared.slots.Length.the-variants.{Of, NotOf}
-use Rattle.leaves.specs.declared.find.Found.{Found}
-use Rattle.leaves.specs.declared.find.Found.the-variants.{At, Refused}
+use Rattle.finding.specs.declared.slots.Length.{Length}
+use Rattle.finding.specs.declared.slots.Length.the-variants.{Of, NotOf}
+use Rattle.finding.specs.declared.find.Found.{Found}
+use Rattle.finding.specs.declared.find.Found.the-variants.{At, Refused}
 
 -- what is done with a leaf's place, bits and value
 abbrev pub Then : Type 0
@@ -47,13 +44,7 @@ thenLeb k c i r p n v = listing k p n v ⨾ store i (c v) ⨾ role r (7 * (n / 8
 unfoldable pub thenBlob : Env → ℕ → Role → Then
 thenBlob e k r p n v = listing k p n v ⨾ blobRole e r (bytesAt e p v)
 
--- "A length needs an unsigned number"; "length above 65,535" (28)
-unfoldable pub lengthOf : Content → Length
-lengthOf Unset = NotOf SlotUnset
-lengthOf (Flag b) = NotOf SlotOfWrongSort
-lengthOf (Unsigned n) = elim (ltb lengthLimit n) [ true ↦ NotOf LengthTooLarge | false ↦ Of (byteLength n) ]
-lengthOf (Signed n) = NotOf SlotOfWrongSort
-
+-- a length that a slot gives, or none
 unfoldable pub forLength : Length → (ℕ → Step) → Step
 forLength (Of n) m s = m (n .0) s
 forLength (NotOf r) m s = refuse r s

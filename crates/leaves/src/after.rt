@@ -1,9 +1,9 @@
 // What comes behind the finding of a leaf: "Afterwards, in order: entry, slot, role" (Reading); and what a leaf that stopped hands back.
 use crate::Leaf;
-use crate::State;
-use crate::Went;
-use crate::entry;
-use crate::role;
+use listing::State;
+use listing::Went;
+use listing::entry;
+use listing::role;
 use rules::Content;
 use rules::Entry;
 use rules::LastOrder;
@@ -14,15 +14,15 @@ ghost use Prim.Native.Nat.{_+_, _<_, _≤_, _^_};
 ghost use lib.ListN.{length};
 ghost use Rattle.rules.specs.Faults.{roleOf};
 ghost use Rattle.rules.specs.Verdict.{stopAt};
-ghost use Rattle.leaves.specs.Did.{LeafDid, thenSet, behindState, stoppedLeaf};
-ghost use Rattle.leaves.specs.Roled.{Stamp};
+ghost use Rattle.listing.specs.Roled.{Stamp};
+ghost use Rattle.leaves.specs.Done.{LeafDid, thenSet, behindState, stoppedLeaf};
 
-pub(crate) const NO_SLOT: u8 = 255;
+pub const NO_SLOT: u8 = 255;
 
-pub(crate) const NO_ROLE: u8 = 0;
+pub const NO_ROLE: u8 = 0;
 
 // "The place is where the failing step began" (Refusing a stream)
-pub(crate) fn refused(why: Refusal, st: State) -> Leaf
+pub fn refused(why: Refusal, st: State) -> Leaf
     ensures { λ r. ⌜ r ≡ stoppedLeaf (stopAt why (st .place)) 0 st ⌝ }
 {
     let place = st.place;
@@ -30,7 +30,7 @@ pub(crate) fn refused(why: Refusal, st: State) -> Leaf
 }
 
 // "Afterwards, in order: entry, slot, role" (Reading). The role's number is the entry's value.
-pub(crate) fn finish(
+pub fn finish(
     entry: Entry,
     order: LastOrder,
     slot: u8,
@@ -82,7 +82,7 @@ fn behind(entry: Entry, order: LastOrder, st: State) -> State
 }
 
 // A leaf that stopped sets no slot, and hands back the state as it came.
-pub(crate) fn stopped(stop: Stop, used: usize, st: State) -> Leaf
+pub fn stopped(stop: Stop, used: usize, st: State) -> Leaf
     ensures { λ r. ⌜ r ≡ stoppedLeaf stop used st ⌝ }
 {
     Leaf {

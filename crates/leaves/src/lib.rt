@@ -1,41 +1,10 @@
-// Leaves, fields that hold no other: kinds 16 to 27. In order: find, where a leaf stands and what it says; slots, what a slot's content is
-// taken as; entry, the one place where the list is written; role, what a role does with a number; after, what comes behind the finding;
-// numbers, kinds 16 to 22; bytes, kinds 23 to 27.
-use clock::Clock;
-use rules::BitPlace;
+// Leaves, fields that hold no other: kinds 16 to 27. Here: what is done with a leaf once it is found, entry, slot and role, and the law that
+// finding it and doing that is the rules' reading. The kinds themselves are in the crates above: numbers, kinds 16 to 22; strings, 23 to 27.
+use listing::State;
+use listing::Went;
 use rules::Content;
-use rules::LastOrder;
-use rules::Said;
-use rules::Stop;
 
-mod after;
-pub mod bytes;
-pub mod entry;
-mod find;
-pub mod numbers;
-mod role;
-pub mod slots;
-
-// The packet's start, and the bound.
-pub struct Frame {
-    pub start: BitPlace,
-    pub bound: BitPlace,
-}
-
-// What a reading of fields hands on from step to step, beside the slots and the list.
-pub struct State {
-    pub place: BitPlace,
-    pub order: LastOrder,
-    pub clock: Clock,
-    pub last: u64,
-    pub said: Said,
-}
-
-// How a step went.
-pub enum Went {
-    On,
-    Stopped(Stop),
-}
+pub mod after;
 
 // What a leaf did: how it went, the words that it listed, the state behind it, and which slot becomes what; 255 is none.
 pub struct Leaf {

@@ -3,10 +3,11 @@ use mathlib.Core.Path.{_≡_, refl, _∙_, sym}
 use mathlib.Core.Logic.{⊎-elim}
 use mathlib.Core.List.{List, [], _∷_}
 use mathlib.Core.Bool.{Bool, true, false}
-use Prim.Native.Nat.{ℕ, zero, suc, _-_, _*_, _^_, _<_, _≤_}
+use Prim.Native.Nat.{ℕ, zero, suc, _+_, _-_, _*_, _^_, _<_, _≤_}
 use native.Mathlib.Omega.{arith}
 use borrow.Author.Tests.{ltb-true}
 use lib.IntN.{ℤ, pos, negsuc}
+use lib.Pow.{pow-add}
 use lib.ListN.{length}
 use Rattle.rules.specs.declared.ByteLength.{ByteLength}
 use Rattle.rules.specs.declared.Leb.{Leb}
@@ -14,6 +15,7 @@ use Rattle.rules.specs.declared.Leb.the-variants.{Value, Past, Large}
 use Rattle.rules.specs.Limits.{lebLimit}
 use Rattle.rules.specs.Bits.{signed, word}
 use Rattle.rules.specs.Leb128.{below, sevens, fitUnsigned, fits64, fitSigned, lebUnsigned, lebSigned}
+use Rattle.facts.specs.Bytes.{Bytes}
 use Rattle.facts.proofs.Numbers.{lt-or-ge}
 use Rattle.leb128.specs.Answer.{ValueSays}
 use Rattle.leb128.proofs.FirstNine.{sevens-end, sevens-on}
@@ -81,3 +83,39 @@ module _ (bs : List ℕ) (v : ℕ) (n : ByteLength) where
   pub signed-value : lebSigned bs ≡ Value v n → ValueSays bs v n
   unfolding lebSigned
   signed-value = of-signed _ (took lebLimit bs)
+
+-- of bytes, a value has seven bits a byte
+abbrev Small : Leb → Type 0
+Small (Value v n) = v < 2 ^ (7 * n .0)
+Small Past = Unit {0}
+Small Large = Unit {0}
+
+small-below : (d : ℕ) → d < 128 → (x : Leb) → Small x → Small (below d x)
+unfolding below
+small-below d h (Value v n) l =
+    let more : 7 * (n .0 + 1) ≡ 7 + 7 * n .0 = omega arith in
+    rw (more, pow-add 2 7 (7 * n .0)) (omega arith)
+small-below d h Past l = tt
+small-below d h Large l = tt
+
+sevens-small : (m : ℕ) (bs : List ℕ) → Bytes bs → Small (sevens m bs)
+unfolding sevens
+sevens-small zero bs h = tt
+sevens-small (suc m) [] h = tt
+sevens-small (suc m) (b ∷ bs) h = ⊎-elim
+    (λ (l : b < 128). rw (sevens-end m b bs l) (omega arith))
+    (λ (l : 128 ≤ b). rw (sevens-on m b bs l) (small-below (b - 128) (omega (arith, h 0)) _ (sevens-small m bs (λ i. h (suc i)))))
+    (lt-or-ge b 128)
+
+fit-small : (x : Leb) → Small x → Small (fitUnsigned x)
+unfolding fitUnsigned
+fit-small (Value v n) h = ⊎-elim
+    (λ (l : v < 2 ^ 64). rw (fit-value v n l) h)
+    (λ (l : 2 ^ 64 ≤ v). rw (fit-large v n l) tt)
+    (lt-or-ge v (2 ^ 64))
+fit-small Past h = tt
+fit-small Large h = tt
+
+pub unsigned-small : (bs : List ℕ) → Bytes bs → (v : ℕ) (n : ByteLength) → lebUnsigned bs ≡ Value v n → v < 2 ^ (7 * n .0)
+unfolding lebUnsigned
+unsigned-small bs h v n e = rw (e) at (fit-small (sevens lebLimit bs) (sevens-small lebLimit bs h))

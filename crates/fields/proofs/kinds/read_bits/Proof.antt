@@ -6,11 +6,11 @@ use Rattle.fields.proofs.kinds.read_bits.Reads as reads
 use Rattle.fields.proofs.kinds.read_bits.Lts as lts
 use Rattle.bytes.proofs.wide64.Reads as wide64-reads
 use Rattle.fields.proofs.kinds.order_of.Reads as order-of-reads
-use Rattle.leaves.proofs.numbers.read_bit_array.Reads as read-bit-array-reads
-use Rattle.leaves.proofs.numbers.read_boolean.Reads as read-boolean-reads
-use Rattle.leaves.proofs.numbers.read_float.Reads as read-float-reads
-use Rattle.leaves.proofs.numbers.read_signed.Reads as read-signed-reads
-use Rattle.leaves.proofs.numbers.read_unsigned.Reads as read-unsigned-reads
+use Rattle.numbers.proofs.fixed.read_bit_array.Reads as read-bit-array-reads
+use Rattle.numbers.proofs.fixed.read_boolean.Reads as read-boolean-reads
+use Rattle.numbers.proofs.fixed.read_float.Reads as read-float-reads
+use Rattle.numbers.proofs.fixed.read_signed.Reads as read-signed-reads
+use Rattle.numbers.proofs.fixed.read_unsigned.Reads as read-unsigned-reads
 use native.Mathlib.Omega.{arith}
 use Rattle.rules.specs.Record.{u8}
 use Rattle.classes.specs.Trees.{recordSize, shapeOf, shapes}

@@ -6,13 +6,13 @@ use Rattle.fields.proofs.kinds.read_leaf.Reads as reads
 use Rattle.fields.proofs.kinds.read_leaf.Lts as lts
 use Rattle.bytes.proofs.u16_at.Reads as u16-at-reads
 use Rattle.fields.proofs.kinds.read_bits.Reads as read-bits-reads
-use Rattle.leaves.proofs.bytes.read_dynamic_blob.Reads as read-dynamic-blob-reads
-use Rattle.leaves.proofs.bytes.read_dynamic_string.Reads as read-dynamic-string-reads
-use Rattle.leaves.proofs.bytes.read_static_blob.Reads as read-static-blob-reads
-use Rattle.leaves.proofs.bytes.read_static_string.Reads as read-static-string-reads
-use Rattle.leaves.proofs.bytes.read_string.Reads as read-string-reads
-use Rattle.leaves.proofs.numbers.read_signed_leb.Reads as read-signed-leb-reads
-use Rattle.leaves.proofs.numbers.read_unsigned_leb.Reads as read-unsigned-leb-reads
+use Rattle.strings.proofs.read_dynamic_blob.Reads as read-dynamic-blob-reads
+use Rattle.strings.proofs.read_dynamic_string.Reads as read-dynamic-string-reads
+use Rattle.strings.proofs.read_static_blob.Reads as read-static-blob-reads
+use Rattle.strings.proofs.read_static_string.Reads as read-static-string-reads
+use Rattle.strings.proofs.read_string.Reads as read-string-reads
+use Rattle.numbers.proofs.leb.read_signed_leb.Reads as read-signed-leb-reads
+use Rattle.numbers.proofs.leb.read_unsigned_leb.Reads as read-unsigned-leb-reads
 use native.Mathlib.Omega.{arith}
 use Rattle.rules.specs.Record.{u8}
 use Rattle.classes.specs.Trees.{recordSize, shapeOf, shapes}

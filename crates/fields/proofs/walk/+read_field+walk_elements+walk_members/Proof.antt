@@ -34,9 +34,9 @@ use Rattle.rules.specs.Record.{u8}
 use Rattle.rules.specs.declared.Content.the-variants.{Unset}
 use Rattle.rules.specs.Slots.{setSlot, slotAt}
 use Rattle.rules.specs.Field.{read, readMembers, times}
-use Rattle.leaves.specs.Framed.{envOf}
-use Rattle.leaves.specs.Did.{full}
-use Rattle.leaves.proofs.Parts.{part-length, lent-room}
+use Rattle.finding.specs.Framed.{envOf}
+use Rattle.listing.specs.Did.{full}
+use Rattle.listing.proofs.Parts.{part-length, lent-room}
 use Rattle.classes.specs.Trees.{whole, wholeMembers, stoodAt, classAt, membersAt, nextAt}
 use Rattle.classes.specs.Notes.{notes}
 use Rattle.fields.proofs.Holds.{can-look, slot-within, members-held, elements-held, members-read, elements-read, refused-read, refused-reads, holds-room, holds-on, holds-stopped}

@@ -4,10 +4,10 @@ use Rattle.leaves.proofs.after.finish.Statement.{statement}
 use Rattle.leaves.proofs.after.finish.Tie as tie
 use Rattle.leaves.proofs.after.finish.Reads as reads
 use Rattle.leaves.proofs.after.finish.Lts as lts
-use Rattle.leaves.proofs.entry.write.Reads as write-reads
+use Rattle.listing.proofs.entry.write.Reads as write-reads
 use Rattle.leaves.proofs.after.behind.Reads as behind-reads
 use Rattle.leaves.proofs.after.stopped.Reads as stopped-reads
-use Rattle.leaves.proofs.role.apply.Reads as apply-reads
+use Rattle.listing.proofs.role.apply.Reads as apply-reads
 use native.Mathlib.Omega.{arith}
 use Rattle.rules.specs.Faults.{roleOf}
 use Rattle.leaves.proofs.Done.{set-room, set-on, set-stopped}

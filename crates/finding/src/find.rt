@@ -1,0 +1,197 @@
+// Where a leaf, kinds 16 to 27, stands and what it says, or why it is refused: alignment, order, then its bits or bytes. Nothing is
+// listed here.
+use crate::Frame;
+use rules::BitPlace;
+use rules::ByteLength;
+use rules::Ended;
+use rules::LastOrder;
+use rules::Leb;
+use rules::Order;
+use rules::Refusal;
+ghost use mathlib.Core.Path.{_≡_};
+ghost use mathlib.Core.Bool.{not, _&&_};
+ghost use Prim.Native.Nat.{_%_, _^_, _≤_};
+ghost use lib.Dec.{eqb};
+ghost use Rattle.rules.specs.Field.{otherOrder};
+ghost use Rattle.finding.specs.Framed.{Framed, Short};
+ghost use Rattle.finding.specs.Found.{foundBits, foundUnsigned, foundSigned, foundString, foundBlob, foundText, foundLeb};
+
+// A leaf that stands at its aligned place with so many bits and says a value; or why it is refused.
+pub enum Found {
+    At {
+        place: BitPlace,
+        bits: u64,
+        value: u64,
+    },
+    Refused(Refusal),
+}
+
+// The exponent of the alignment of kinds 21 to 27: whole bytes.
+const BYTE: u64 = 3;
+
+// Kinds 16 to 20: a number of `width` bits.
+pub fn find_bits(
+    stream: &[u8],
+    frame: Frame,
+    from: BitPlace,
+    last: LastOrder,
+    width: u64,
+    order: Order,
+    exponent: u64,
+) -> Found
+    requires { ⌜ Framed (now stream) frame from ⌝ }
+    requires { ⌜ (width ≤ 64) × (exponent ≤ 6) ⌝ }
+    ensures { λ r. ⌜ r ≡ foundBits (now (stream .entry)) frame from last width order (2 ^ exponent) ⌝ }
+{
+    let place = places::align(from, frame.start, exponent);
+    if frame.bound.0 < place.0 {
+        return Found::Refused(Refusal::PastBound);
+    }
+    if turns(order, last, place.0 - frame.start.0) {
+        return Found::Refused(Refusal::OrderChanged);
+    }
+    if frame.bound.0 < place.0 + width {
+        return Found::Refused(Refusal::PastBound);
+    }
+    Found::At {
+        place,
+        bits: width,
+        value: bits::take(stream, place, width, order),
+    }
+}
+
+// "Order may differ from that of the previous kind 16 to 20 field in the packet only at a multiple of 8 from P" (Reading)
+fn turns(order: Order, last: LastOrder, offset: u64) -> bool
+    ensures { λ r. ⌜ r ≡ not (eqb (offset % 8) 0) && otherOrder order last ⌝ }
+{
+    if offset % 8 == 0 {
+        return false;
+    }
+    differs(order, last)
+}
+
+fn differs(order: Order, last: LastOrder) -> bool
+    ensures { λ r. ⌜ r ≡ otherOrder order last ⌝ }
+{
+    match last {
+        LastOrder::Nothing => true,
+        LastOrder::Was(was) => match was {
+            Order::Little => match order {
+                Order::Little => false,
+                Order::Big => true,
+            },
+            Order::Big => match order {
+                Order::Little => true,
+                Order::Big => false,
+            },
+        },
+    }
+}
+
+// Kind 21.
+pub fn find_unsigned(stream: &[u8], frame: Frame, from: BitPlace) -> Found
+    requires { ⌜ Framed (now stream) frame from ⌝ }
+    ensures { λ r. ⌜ r ≡ foundUnsigned (now (stream .entry)) frame from ⌝ }
+{
+    let place = places::align(from, frame.start, BYTE);
+    if frame.bound.0 < place.0 {
+        return Found::Refused(Refusal::PastBound);
+    }
+    let at = places::bytes_before(place);
+    let end = places::bytes_before(frame.bound);
+    leb_at(place, leb128::unsigned(stream, at, end))
+}
+
+// Kind 22.
+pub fn find_signed(stream: &[u8], frame: Frame, from: BitPlace) -> Found
+    requires { ⌜ Framed (now stream) frame from ⌝ }
+    ensures { λ r. ⌜ r ≡ foundSigned (now (stream .entry)) frame from ⌝ }
+{
+    let place = places::align(from, frame.start, BYTE);
+    if frame.bound.0 < place.0 {
+        return Found::Refused(Refusal::PastBound);
+    }
+    let at = places::bytes_before(place);
+    let end = places::bytes_before(frame.bound);
+    leb_at(place, leb128::signed(stream, at, end))
+}
+
+// No LEB128 number has more than ten bytes.
+fn leb_at(place: BitPlace, answer: Leb) -> Found
+    requires { ⌜ Short answer ⌝ }
+    ensures { λ r. ⌜ r ≡ foundLeb place answer ⌝ }
+{
+    match answer {
+        Leb::Value { value, bytes } => Found::At {
+            place,
+            bits: places::bits_in(bytes),
+            value,
+        },
+        Leb::Past => Found::Refused(Refusal::PastBound),
+        Leb::Large => Found::Refused(Refusal::LebTooLarge),
+    }
+}
+
+// Kind 23: a string up to its zero byte.
+pub fn find_string(stream: &[u8], frame: Frame, from: BitPlace) -> Found
+    requires { ⌜ Framed (now stream) frame from ⌝ }
+    ensures { λ r. ⌜ r ≡ foundString (now (stream .entry)) frame from ⌝ }
+{
+    let place = places::align(from, frame.start, BYTE);
+    if frame.bound.0 < place.0 {
+        return Found::Refused(Refusal::PastBound);
+    }
+    let at = places::bytes_before(place);
+    let end = places::bytes_before(frame.bound);
+    match text::find_zero(stream, at, end) {
+        Ended::After(n) => Found::At {
+            place,
+            bits: places::bits_in(ByteLength(n.0 + 1)),
+            value: n.0 as u64,
+        },
+        Ended::Never => Found::Refused(Refusal::NoZeroByte),
+    }
+}
+
+// Kinds 25 and 27: so many bytes, of which nothing is said but where they stand.
+pub fn find_blob(stream: &[u8], frame: Frame, from: BitPlace, bytes: ByteLength) -> Found
+    requires { ⌜ Framed (now stream) frame from ⌝ }
+    requires { ⌜ bytes .0 ≤ 65535 ⌝ }
+    ensures { λ r. ⌜ r ≡ foundBlob frame from (bytes .0) ⌝ }
+{
+    let place = places::align(from, frame.start, BYTE);
+    if frame.bound.0 < place.0 {
+        return Found::Refused(Refusal::PastBound);
+    }
+    let bits = places::bits_in(bytes);
+    if frame.bound.0 < place.0 + bits {
+        return Found::Refused(Refusal::PastBound);
+    }
+    Found::At {
+        place,
+        bits,
+        value: bytes.0 as u64,
+    }
+}
+
+// Kinds 24 and 26: so many bytes of text, "the count before the first zero byte, or of all".
+pub fn find_text(stream: &[u8], frame: Frame, from: BitPlace, bytes: ByteLength) -> Found
+    requires { ⌜ Framed (now stream) frame from ⌝ }
+    requires { ⌜ bytes .0 ≤ 65535 ⌝ }
+    ensures { λ r. ⌜ r ≡ foundText (now (stream .entry)) frame from (bytes .0) ⌝ }
+{
+    let place = places::align(from, frame.start, BYTE);
+    if frame.bound.0 < place.0 {
+        return Found::Refused(Refusal::PastBound);
+    }
+    let bits = places::bits_in(bytes);
+    if frame.bound.0 < place.0 + bits {
+        return Found::Refused(Refusal::PastBound);
+    }
+    let count = text::count(stream, places::bytes_before(place), bytes);
+    Found::At {
+        place,
+        bits,
+        value: count.0 as u64,
+    }
+}

@@ -1,0 +1,28 @@
+-- The rules' tests before something is listed.
+use Prim.Native.Nat.{_-_, _<_, _≤_}
+use mathlib.Core.Path.{_≡_, refl, ap, _∙_}
+use mathlib.Core.List.{[]}
+use mathlib.Core.Bool.{Bool, true, false}
+use borrow.Author.Tests.{lt-ltb, le-ltb}
+use Rattle.rules.specs.declared.Refusal.{Refusal}
+use Rattle.rules.specs.declared.Refusal.the-variants.{ListFull}
+use Rattle.rules.specs.Step.{State, Step, go, _⨾_, after, pass, refuse, check, due}
+use Rattle.facts.proofs.Steps.{onto-nil}
+
+-- a test that holds stops the reading, one that does not goes by
+pub check-stops : (t : State → Bool) (r : Refusal) (s : State) → t s ≡ true → check t r s ≡ refuse r s
+unfolding check
+check-stops t r s h = rw (h, check) refl
+
+pub check-goes : (t : State → Bool) (r : Refusal) (s : State) → t s ≡ false → check t r s ≡ go [] s
+unfolding check pass
+check-goes t r s h = rw (h, check) refl
+
+-- 40 is tested first, and goes by where there is room
+pub room-first : (m : Step) (s : State) → 4 ≤ s .room → (due ⨾ m) s ≡ m s
+unfolding due _⨾_ after
+room-first m s h = ap (λ o. after o m) (check-goes _ ListFull s (le-ltb _ _ h)) ∙ onto-nil (m s)
+
+pub no-room-first : (m : Step) (s : State) → s .room < 4 → (due ⨾ m) s ≡ refuse ListFull s
+unfolding due _⨾_ after refuse
+no-room-first m s h = ap (λ o. after o m) (check-stops _ ListFull s (lt-ltb _ _ h))

@@ -1,0 +1,152 @@
+-- What each role does, and that the code's answers are the rules'.
+use Prim.Native.Nat.{ℕ, _-_, _<_, _≤_}
+use native.Mathlib.Omega.{arith}
+use mathlib.Core.Path.{_≡_, refl, sym, ap, _∙_}
+use mathlib.Core.List.{List, [], _∷_, _++_}
+use mathlib.Core.Logic.{⊎-elim}
+use mathlib.Core.Bool.{Bool, true, false}
+use mathlib.Core.Option.{Option, none, some}
+use lib.Dec.{eqb}
+use lib.ListN.{length, drop, List·getD-eq-default}
+use Rattle.rules.specs.declared.Entry.{Entry}
+use Rattle.rules.specs.declared.Stop.{Stop}
+use Rattle.rules.specs.declared.Refusal.the-variants.{WrongMagic, ListFull, ClockTooLarge}
+use Rattle.rules.specs.Limits.{magicNumber}
+use Rattle.rules.specs.Class.{noRole, magic, streamClassId, totalLength, contentLength, clock, endClock, eventClassId}
+use Rattle.rules.specs.Clock.{clockAfter}
+use Rattle.rules.specs.Slots.{Slots}
+use Rattle.rules.specs.Entry.{entry, words, clockAdvanced}
+use Rattle.rules.specs.Faults.{roles, roleOf}
+use Rattle.rules.specs.Step.{Out, stop, go, Step, onto, after, _⨾_, pass, refuse, listed, change, withClock, withSaid}
+use Rattle.rules.specs.Field.{role, newClock, say}
+use Rattle.facts.proofs.Numbers.{lt-or-ge}
+use Rattle.facts.proofs.Cases.{_▷_, below}
+use Rattle.clock.specs.declared.Clock.{Clock}
+use Rattle.clock.specs.declared.Ticked.{Ticked}
+use Rattle.clock.specs.declared.Ticked.the-variants.{To, TooLarge}
+use Rattle.clock.specs.Ticked.{tickedOf}
+use Rattle.listing.specs.declared.State.{State}
+use Rattle.listing.specs.declared.Went.the-variants.{On, Stopped}
+use Rattle.listing.specs.Did.{Did, full, outOf, RoleDid}
+use Rattle.listing.specs.Roled.{onDone, saidDone, stoppedDone, magicDone, tickedState, withStream, withTotal, withContent, withEnding, withEvent}
+use Rattle.listing.proofs.Checks.{check-stops, check-goes, room-first, no-room-first}
+
+too-large : (x : Option ℕ) → tickedOf x ≡ TooLarge → x ≡ none
+unfolding tickedOf
+too-large none e = refl
+too-large (some n) e = let z : _≡_ {A = ℕ} 0 1 = cc in absurd (omega arith)
+
+not-too-large : (x : Option ℕ) (c : Clock) → tickedOf x ≡ To c → x ≡ some (c .value)
+unfolding tickedOf
+not-too-large none c e = let z : _≡_ {A = ℕ} 0 1 = cc in absurd (omega arith)
+not-too-large (some n) c e = let same : record { value = n } ≡ c = cc in rw (← same) refl
+
+-- Three ways of a step
+
+-- it goes on and lists nothing
+pub went-on : (o : Out) (came st : State) (l : Slots) (ws : List ℕ) → o ≡ go [] (full st l (length ws)) → Did o came On 0 st l ws ws
+unfolding outOf words
+went-on o came st l ws e =
+    let all : length ws - 0 ≡ length ws = omega arith in
+    record { listed = []; out = rw (all) e; counted = refl; list = refl; room = omega arith; kept = λ v h. let z : _≡_ {A = ℕ} 0 1 = cc in absurd (omega arith) }
+
+-- it stops and lists nothing
+pub went-no-further : (o : Out) (came : State) (l : Slots) (v : Stop) (ws : List ℕ) → o ≡ stop [] v → Did o came (Stopped v) 0 came l ws ws
+unfolding outOf words
+went-no-further o came l v ws e = record { listed = []; out = e; counted = refl; list = refl; room = omega arith; kept = λ w h. refl }
+
+-- it lists one entry and goes on
+pub went-listing : (o : Out) (came st : State) (l : Slots) (x : Entry) (ws ws′ : List ℕ) →
+    o ≡ go (x ∷ []) (full st l (length ws - 4)) → ws′ ≡ words (x ∷ []) ++ drop 4 ws → 4 ≤ length ws → Did o came On 4 st l ws ws′
+unfolding outOf
+went-listing o came st l x ws ws′ e w h =
+    record { listed = x ∷ []; out = e; counted = refl; list = w; room = h; kept = λ v h. let z : _≡_ {A = ℕ} 0 1 = cc in absurd (omega arith) }
+
+module _ (w v : ℕ) (st : State) (ws : List ℕ) where
+  pub magic-did : RoleDid (role magic w v) st (magicDone v st) ws ws
+  unfolding role magicDone refuse
+  magic-did = by (eqb v magicNumber) refl
+    where
+      by : (t : Bool) → eqb v magicNumber ≡ t → RoleDid (role magic w v) st (magicDone v st) ws ws
+      by true e = rw (e, magicDone) (record { at = λ l. went-on _ st st l ws (check-goes _ WrongMagic _ refl) })
+      by false e = rw (e, magicDone) (record { at = λ l. went-no-further _ st l _ ws (check-stops _ WrongMagic _ refl) })
+
+  pub stream-did : RoleDid (role streamClassId w v) st (saidDone st (withStream v (st .said))) ws ws
+  unfolding role say change withSaid
+  stream-did = record { at = λ l. went-on _ st _ l ws refl }
+
+  pub total-did : RoleDid (role totalLength w v) st (saidDone st (withTotal v (st .said))) ws ws
+  unfolding role say change withSaid
+  total-did = record { at = λ l. went-on _ st _ l ws refl }
+
+  pub content-did : RoleDid (role contentLength w v) st (saidDone st (withContent v (st .said))) ws ws
+  unfolding role say change withSaid
+  content-did = record { at = λ l. went-on _ st _ l ws refl }
+
+  pub ending-did : RoleDid (role endClock w v) st (saidDone st (withEnding v (st .said))) ws ws
+  unfolding role say change withSaid
+  ending-did = record { at = λ l. went-on _ st _ l ws refl }
+
+  pub event-did : RoleDid (role eventClassId w v) st (saidDone st (withEvent v (st .said))) ws ws
+  unfolding role say change withSaid
+  event-did = record { at = λ l. went-on _ st _ l ws refl }
+
+  -- the roles that neither say nor test anything
+  abbrev Silent : ℕ → Type 0
+  Silent r = (r ≡ 1 → ⊥) → (r ≡ 2 → ⊥) → (r ≡ 5 → ⊥) → (r ≡ 6 → ⊥) → (r ≡ 7 → ⊥) → (r ≡ 8 → ⊥) → (r ≡ 11 → ⊥)
+      → RoleDid (role (roleOf r) w v) st (onDone st) ws ws
+
+  passes : (m : Step) → m ≡ pass → RoleDid m st (onDone st) ws ws
+  unfolding pass
+  passes m e = rw (e) (record { at = λ l. went-on _ st st l ws refl })
+
+  silent-listed : (r : ℕ) → r < 12 → Silent r
+  unfolding role roleOf roles
+  silent-listed = below Silent 12
+      ((λ a b c d e f g. passes _ refl)
+      ▷ (λ a b c d e f g. absurd (a refl))
+      ▷ (λ a b c d e f g. absurd (b refl))
+      ▷ (λ a b c d e f g. passes _ refl)
+      ▷ (λ a b c d e f g. passes _ refl)
+      ▷ (λ a b c d e f g. absurd (c refl))
+      ▷ (λ a b c d e f g. absurd (d refl))
+      ▷ (λ a b c d e f g. absurd (e refl))
+      ▷ (λ a b c d e f g. absurd (f refl))
+      ▷ (λ a b c d e f g. passes _ refl)
+      ▷ (λ a b c d e f g. passes _ refl)
+      ▷ (λ a b c d e f g. absurd (g refl))
+      ▷ tt)
+
+  pub silent-did : (r : ℕ) → Silent r
+  unfolding role roleOf roles
+  silent-did r a b c d e f g = ⊎-elim
+      (λ (h : r < 12). silent-listed r h a b c d e f g)
+      (λ (h : 12 ≤ r). rw (List·getD-eq-default roles noRole h) (passes _ refl))
+      (lt-or-ge r 12)
+
+  -- the clock, by what the new one is
+
+  pub clock-no-room : length ws < 4 → RoleDid (role clock w v) st (stoppedDone ListFull st) ws ws
+  unfolding role refuse
+  clock-no-room h = record { at = λ l. went-no-further _ st l _ ws (no-room-first _ _ h) }
+
+  module _ (h : 4 ≤ length ws) (t : Ticked) (e : t ≡ tickedOf (clockAfter (st .clock .value) w v)) where
+    after-room : (l : Slots) (x : Option ℕ) → clockAfter (st .clock .value) w v ≡ x →
+        role clock w v (full st l (length ws)) ≡ newClock w x (full st l (length ws))
+    unfolding role
+    after-room l x is = room-first _ _ h ∙ ap (λ y. newClock w y (full st l (length ws))) is
+
+    pub clock-too-large : t ≡ TooLarge → RoleDid (role clock w v) st (stoppedDone ClockTooLarge st) ws ws
+    unfolding newClock refuse
+    clock-too-large told = record {
+      at = λ l.
+          went-no-further _ st l _ ws (after-room l none (too-large _ (sym e ∙ told)));
+    }
+
+    pub clock-advanced : (next : Clock) (ws′ : List ℕ) → t ≡ To next → ws′ ≡ words (entry clockAdvanced (st .place) w (next .value) ∷ []) ++ drop 4 ws →
+        RoleDid (role clock w v) st (record { went = On; used = 4; state = tickedState st next }) ws ws′
+    unfolding newClock _⨾_ after onto listed change withClock
+    clock-advanced next ws′ told is = record {
+      at = λ l.
+          went-listing _ st _ l _ ws ws′ (after-room l (some (next .value)) (not-too-large _ next (sym e ∙ told))) is h;
+    }

@@ -1,0 +1,225 @@
+// What a role does with the number of its field, once that is listed. The place is behind the field.
+use crate::State;
+use crate::Went;
+use crate::entry;
+use clock::Clock;
+use clock::Ticked;
+use rules::Entry;
+use rules::Refusal;
+use rules::Said;
+use rules::Stated;
+use rules::Stop;
+ghost use mathlib.Core.Path.{_≡_};
+ghost use Prim.Native.Nat.{_<_, _^_};
+ghost use Rattle.rules.specs.Faults.{roleOf};
+ghost use Rattle.rules.specs.Class.{clock};
+ghost use Rattle.rules.specs.Field.{role as roleStep};
+ghost use Rattle.listing.specs.Did.{RoleDid};
+ghost use Rattle.listing.specs.Roled.{onDone, saidDone, stoppedDone, magicDone, tickedState, Stamp, withStream, withTotal, withContent, withEnding, withEvent};
+
+const MAGIC: u8 = 1;
+
+const STREAM_CLASS_ID: u8 = 2;
+
+const TOTAL_LENGTH: u8 = 5;
+
+const CONTENT_LENGTH: u8 = 6;
+
+const CLOCK: u8 = 7;
+
+const END_CLOCK: u8 = 8;
+
+const EVENT_CLASS_ID: u8 = 11;
+
+// "validate that V is 0xc1fc1fc1" (000 6.1)
+const MAGIC_NUMBER: u64 = 0xC1FC_1FC1;
+
+const CLOCK_ADVANCED: u64 = 6;
+
+// What a role did: how it went, the words that it listed, and the state behind it.
+pub struct Roled {
+    pub went: Went,
+    pub used: usize,
+    pub state: State,
+}
+
+// The role of a number, which has `width` bits as a timestamp.
+pub fn apply(role: u8, width: u64, value: u64, st: State, list: &mut [u64]) -> Roled
+    requires { ⌜ Stamp role width value ⌝ }
+    ensures { λ r. ⌜ RoleDid (roleStep (roleOf role) width value) st r (now (list .entry)) (now (list .exit)) ⌝ }
+{
+    match role {
+        MAGIC => check_magic(value, st),
+        STREAM_CLASS_ID => say(st, with_stream(st.said, value)),
+        TOTAL_LENGTH => say(st, with_total(st.said, value)),
+        CONTENT_LENGTH => say(st, with_content(st.said, value)),
+        CLOCK => advance(width, value, st, list),
+        END_CLOCK => say(st, with_ending(st.said, value)),
+        EVENT_CLASS_ID => say(st, with_event(st.said, value)),
+        _ => on(st),
+    }
+}
+
+// "validate that V is 0xc1fc1fc1" (000 6.1)
+fn check_magic(value: u64, st: State) -> Roled
+    ensures { λ r. ⌜ r ≡ magicDone value st ⌝ }
+{
+    if value == MAGIC_NUMBER {
+        return on(st);
+    }
+    stopped(Refusal::WrongMagic, st)
+}
+
+// "entry 6 shows it": "place after the field, L, clock" (The list)
+fn advance(width: u64, value: u64, st: State, list: &mut [u64]) -> Roled
+    requires { ⌜ value < 2 ^ width ⌝ }
+    ensures { λ r. ⌜ RoleDid (roleStep clock width value) st r (now (list .entry)) (now (list .exit)) ⌝ }
+{
+    if list.len() < 4 {
+        return stopped(Refusal::ListFull, st);
+    }
+    let place = st.place;
+    let clock = st.clock;
+    match clock.after(value, width) {
+        Ticked::TooLarge => stopped(Refusal::ClockTooLarge, st),
+        Ticked::To(next) => {
+            entry::write(
+                list,
+                Entry {
+                    kind: CLOCK_ADVANCED,
+                    place,
+                    bits: width,
+                    value: next.value,
+                },
+            );
+            Roled {
+                went: Went::On,
+                used: 4,
+                state: with_clock(st, next),
+            }
+        }
+    }
+}
+
+fn with_clock(st: State, clock: Clock) -> State
+    ensures { λ r. ⌜ r ≡ tickedState st clock ⌝ }
+{
+    let place = st.place;
+    let order = st.order;
+    let said = st.said;
+    State {
+        place,
+        order,
+        clock,
+        last: st.last,
+        said,
+    }
+}
+
+fn say(st: State, said: Said) -> Roled
+    ensures { λ r. ⌜ r ≡ saidDone st said ⌝ }
+{
+    let place = st.place;
+    let order = st.order;
+    let clock = st.clock;
+    on(State {
+        place,
+        order,
+        clock,
+        last: st.last,
+        said,
+    })
+}
+
+fn with_stream(said: Said, value: u64) -> Said
+    ensures { λ r. ⌜ r ≡ withStream value said ⌝ }
+{
+    let total = said.total;
+    let content = said.content;
+    let ending = said.ending;
+    Said {
+        stream: value,
+        total,
+        content,
+        ending,
+        event: said.event,
+    }
+}
+
+fn with_total(said: Said, value: u64) -> Said
+    ensures { λ r. ⌜ r ≡ withTotal value said ⌝ }
+{
+    let content = said.content;
+    let ending = said.ending;
+    Said {
+        stream: said.stream,
+        total: Stated::As(value),
+        content,
+        ending,
+        event: said.event,
+    }
+}
+
+fn with_content(said: Said, value: u64) -> Said
+    ensures { λ r. ⌜ r ≡ withContent value said ⌝ }
+{
+    let total = said.total;
+    let ending = said.ending;
+    Said {
+        stream: said.stream,
+        total,
+        content: Stated::As(value),
+        ending,
+        event: said.event,
+    }
+}
+
+fn with_ending(said: Said, value: u64) -> Said
+    ensures { λ r. ⌜ r ≡ withEnding value said ⌝ }
+{
+    let total = said.total;
+    let content = said.content;
+    Said {
+        stream: said.stream,
+        total,
+        content,
+        ending: Stated::As(value),
+        event: said.event,
+    }
+}
+
+fn with_event(said: Said, value: u64) -> Said
+    ensures { λ r. ⌜ r ≡ withEvent value said ⌝ }
+{
+    let total = said.total;
+    let content = said.content;
+    let ending = said.ending;
+    Said {
+        stream: said.stream,
+        total,
+        content,
+        ending,
+        event: value,
+    }
+}
+
+fn on(st: State) -> Roled
+    ensures { λ r. ⌜ r ≡ onDone st ⌝ }
+{
+    Roled {
+        went: Went::On,
+        used: 0,
+        state: st,
+    }
+}
+
+fn stopped(why: Refusal, st: State) -> Roled
+    ensures { λ r. ⌜ r ≡ stoppedDone why st ⌝ }
+{
+    let place = st.place;
+    Roled {
+        went: Went::Stopped(Stop { why, place }),
+        used: 0,
+        state: st,
+    }
+}
