@@ -1,9 +1,10 @@
 -- A field that holds others: its own entry stands in front, and what is inside is lent the rest of the list.
-use mathlib.Core.Path.{_≡_, refl, ap, sym, _∙_}
+use mathlib.Core.Path.{_≡_, refl, ap, sym, subst, _∙_}
 use mathlib.Core.List.{List, [], _∷_, _++_}
-use Prim.Native.Nat.{ℕ, zero, suc, _+_, _-_, _≤_, _<_}
+use Prim.Native.Nat.{ℕ, zero, suc, _+_, _-_, _*_, _^_, _≤_, _<_}
 use native.Mathlib.Omega.{arith}
 use lib.ListN.{length, drop}
+use borrow.Rule.Slice.PartMut.{same-len-mid}
 use Rattle.rules.specs.declared.BitPlace.{BitPlace}
 use Rattle.rules.specs.declared.Stop.{Stop}
 use Rattle.rules.specs.declared.Refusal.{Refusal}
@@ -19,6 +20,7 @@ use Rattle.rules.specs.Field.{read, readMembers, times}
 use Rattle.facts.proofs.Cases.{_▷_, below}
 use Rattle.classes.specs.Trees.{shapeOf, shapes, recordSize, whole, wholeMembers, classAt, stoodAt, membersAt}
 use Rattle.classes.specs.Notes.{Notes, Prepared}
+use Rattle.inside.specs.declared.look.Inside.{Inside}
 use Rattle.inside.specs.declared.look.Inside.the-variants.{Members, Elements, Refused}
 use Rattle.inside.specs.Inside.{insideOf, slotReadAt, opened, Opens}
 use Rattle.inside.specs.Held.{Held, Placed, HeldMembers, HeldElements}
@@ -31,9 +33,11 @@ use Rattle.listing.specs.declared.State.{State}
 use Rattle.listing.specs.declared.Went.the-variants.{On, Stopped}
 use Rattle.listing.specs.Did.{Did, full}
 use Rattle.listing.proofs.Roles.{went-no-further}
-use Rattle.listing.proofs.Parts.{Part, part-last-on, part-last-stopped, back-room, lent, merged}
+use Rattle.listing.proofs.Parts.{Part, part-last-on, part-last-stopped, part-length, back-room, lent, merged}
 use Rattle.fields.specs.declared.Field.{Field}
 use Rattle.fields.specs.Reads.{FieldReads, stoppedField, openedState}
+use Rattle.fields.proofs.Standing.{depth-some}
+use Rattle.fields.proofs.Turns.{Call, call, classRead, membersRead, elementsRead, did-length}
 
 -- kinds 28 to 32 have a byte or more behind their kind
 held-size : (k : ℕ) → 28 ≤ k → k ≤ 32 → 2 ≤ recordSize (shapeOf k)
@@ -41,85 +45,114 @@ unfolding shapeOf shapes recordSize
 held-size k l h = at-28 (k - 28) (omega arith) k (omega arith)
   where
     at-28 : (i : ℕ) → i < 5 → (k : ℕ) → k ≡ 28 + i → 2 ≤ recordSize (shapeOf k)
-    at-28 i h k e = rw e (below (λ i. 2 ≤ recordSize (shapeOf (28 + i))) 5 (omega arith ▷ omega arith ▷ omega arith ▷ omega arith ▷ omega arith ▷ tt) i h)
+    at-28 i h k e = rw e
+        (below (λ i. 2 ≤ recordSize (shapeOf (28 + i))) 5 (omega arith ▷ omega arith ▷ omega arith ▷ omega arith ▷ omega arith ▷ tt) i h)
 
-pub refused-reads : (M : Step) (st : State) (l : Slots) (ws : List ℕ) (why : Refusal) → length l ≡ slotCount
-    → M (full st l (length ws)) ≡ refuse why (full st l (length ws)) → FieldReads M st l (stoppedField (stopAt why (st .place)) 0 st l) ws ws
-unfolding refuse
-refused-reads M st l ws why n e = record { did = went-no-further _ st _ _ ws e; kept = λ v h. refl; many = n }
+pub slot-within : (t : List ℕ) (at d : ℕ) → whole d t at → 28 ≤ u8 t at → at + 2 ≤ length t
+unfolding whole
+slot-within t at zero w k = absurd w
+slot-within t at (suc d) w k = omega (arith, w .there, held-size (u8 t at) k (w .high))
 
--- the field is its entry, and then m
-module _ (k : ℕ) (p : BitPlace) (v : ℕ) (M m : Step) (st : State) (l : Slots) (ws ws₁ : List ℕ) (n : length l ≡ slotCount) (h : 4 ≤ length ws)
-    (e : ws₁ ≡ words (entry k p 0 v ∷ []) ++ drop 4 ws)
-    (o : M (full st l (length ws)) ≡ (listed (entry k p 0 v) p ⨾ m) (full st l (length ws))) where
-  entry-part : Part (M (full st l (length ws))) m ws ws₁ 4 (openedState p st) l
-  unfolding _⨾_ after listed
-  entry-part = record { listed = entry k p 0 v ∷ []; list = e; counted = refl; room = h; rest = o }
+-- the class at a byte holds fields, and c is the content of the slot that it reads
+pub record Holder (b u : List ℕ) (f : Frame) (t : List ℕ) (x : Notes) (d at : ℕ) (c : Content) (st : State) (l : Slots)
+    (ws : List ℕ) : Type 0 where
+  pub stands : whole d t at
+  pub holds : 28 ≤ u8 t at
+  pub room : 4 ≤ length ws
+  pub small : 8 * length ws < 2 ^ 63
+  pub noted : Prepared t x
+  pub framed : Framed b f (st .place)
+  pub many : length l ≡ slotCount
+  pub told : slotAt l (slotReadAt t at) ≡ c
 
-  module _ {r : Field} {ys : List ℕ} (did : FieldReads m (openedState p st) l r (lent 4 ws₁) ys) where
-    pub holds-room : 4 + r .used ≤ length ws
-    holds-room = back-room m entry-part (did .did)
+-- what the fields inside did to the field that holds them, whose entry stands in front
+pub record Closed (w : Call) (ws₁ ys : List ℕ) (r : Field) : Type 0 where
+  pub fits : 4 + r .used < 2 ^ 60
+  pub same : length (merged 4 ws₁ ys) ≡ length (w .list)
+  pub stops : (v : Stop) → r .went ≡ Stopped v
+      → FieldReads (w .all) (w .came) (w .given) (stoppedField v (4 + r .used) (w .came) (w .given)) (w .list) (merged 4 ws₁ ys)
+  pub goes : r .went ≡ On
+      → FieldReads (w .all) (w .came) (w .given) (record { went = On; used = 4 + r .used; state = r .state; slots = r .slots }) (w .list)
+      (merged 4 ws₁ ys)
 
-    pub holds-on : r .went ≡ On
-        → FieldReads M st l (record { went = On; used = 4 + r .used; state = r .state; slots = r .slots }) ws (merged 4 ws₁ ys)
-    holds-on on = record {
-      did = part-last-on m entry-part (did .did) st on;
-      kept = λ v h. let z : _≡_ {A = ℕ} 0 1 = cc in absurd (omega arith);
-      many = did .many;
+module _ {b u : List ℕ} {f : Frame} {t : List ℕ} {x : Notes} {d at : ℕ} {c : Content} {st : State} {l : Slots} {ws : List ℕ}
+    (h : Holder b u f t x d at c st l ws) where
+  pub can-look : Opens t x at
+  can-look = opens t x (h .noted) d at (h .stands) (h .holds)
+
+  -- its own depth is one of those left
+  deep : whole (suc (d - 1)) t at
+  deep = subst (λ (e : ℕ). whole e t at) (depth-some t at d (h .stands)) (h .stands)
+
+  held : Held (d - 1) t f (st .place) (insideOf t x at f (st .place) c)
+  held = inside-whole b f (d - 1) t x at c (st .place) deep (h .holds) (h .framed) (h .noted)
+
+  placed : (p : BitPlace) → Placed f (st .place) p → Framed b f p
+  placed p q = record { whole = h .framed .whole; begun = q .begun; within = q .within; ends = h .framed .ends; small = h .framed .small }
+
+  pub members-held : {o : Inside} {p : BitPlace} {v at′ n : ℕ} → o ≡ insideOf t x at f (st .place) c → o ≡ Members p v at′ n
+      → wholeMembers (whole (d - 1) t) (stoodAt (d - 1) t) at′ n × Framed b f p
+  unfolding Held
+  members-held {p = p} {at′ = at′} {n = n} look e =
+      let q : HeldMembers (d - 1) t f (st .place) p at′ n = rw (sym look ∙ e) at held in
+      (q .classes, placed p (q .place))
+
+  pub elements-held : {o : Inside} {p : BitPlace} {v at′ n : ℕ} → o ≡ insideOf t x at f (st .place) c → o ≡ Elements p v at′ n
+      → whole (d - 1) t at′ × Framed b f p
+  unfolding Held
+  elements-held {p = p} {at′ = at′} look e =
+      let q : HeldElements (d - 1) t f (st .place) p at′ = rw (sym look ∙ e) at held in
+      (q .class, placed p (q .place))
+
+  abbrev M : Step
+  M = classRead d t at (envOf b u f)
+
+  abbrev s : Full
+  s = full st l (length ws)
+
+  opened-read : M s ≡ opened (envOf b u f) (u8 t at) (d - 1) t (insideOf t x at f (st .place) c) s
+  opened-read = ap (λ (e : ℕ). classRead e t at (envOf b u f) s) (depth-some t at d (h .stands))
+      ∙ inside-read b u f (d - 1) t x at c s deep (h .holds) (h .room) (sym (h .told)) (h .framed) (h .noted)
+
+  pub refused-reads : {o : Inside} {why : Refusal} → o ≡ insideOf t x at f (st .place) c → o ≡ Refused why
+      → FieldReads M st l (stoppedField (stopAt why (st .place)) 0 st l) ws ws
+  unfolding refuse opened
+  refused-reads look e = record {
+    did = went-no-further _ st _ _ ws (opened-read ∙ rw (sym look ∙ e) refl);
+    kept = λ v off. refl;
+    many = h .many;
+  }
+
+  abbrev this : Call
+  this = call b u f (classRead d t at) st l ws
+
+  -- the field is its entry, and then m
+  module _ {p : BitPlace} (v : ℕ) {m : Step} {ws₁ ys : List ℕ} {r : Field} (o : M s ≡ (listed (entry (u8 t at) p 0 v) p ⨾ m) s)
+      (e : ws₁ ≡ words (entry (u8 t at) p 0 v ∷ []) ++ drop 4 ws) (did : FieldReads m (openedState p st) l r (lent 4 ws₁) ys) where
+    entry-part : Part (M s) m ws ws₁ 4 (openedState p st) l
+    unfolding _⨾_ after listed
+    entry-part = record { listed = entry (u8 t at) p 0 v ∷ []; list = e; counted = refl; room = h .room; rest = o }
+
+    closed : Closed this ws₁ ys r
+    closed = record {
+      fits = omega (arith, back-room m entry-part (did .did), h .small);
+      same = same-len-mid 4 (length ws₁ - 4) ws₁ ys (did-length (did .did)) ∙ part-length entry-part;
+      stops = λ v off. record { did = part-last-stopped m entry-part (did .did) v st _ off; kept = λ v h. refl; many = h .many };
+      goes = λ on. record {
+        did = part-last-on m entry-part (did .did) st on;
+        kept = λ v h. let z : _≡_ {A = ℕ} 0 1 = cc in absurd (omega arith);
+        many = did .many;
+      };
     }
 
-    pub holds-stopped : (x : Stop) → r .went ≡ Stopped x → FieldReads M st l (stoppedField x (4 + r .used) st l) ws (merged 4 ws₁ ys)
-    holds-stopped x off = record { did = part-last-stopped m entry-part (did .did) x st _ off; kept = λ v h. refl; many = n }
+  pub members-closed : {o : Inside} {p : BitPlace} {v at′ n : ℕ} {ws₁ ys : List ℕ} {r : Field}
+      → o ≡ insideOf t x at f (st .place) c → o ≡ Members p v at′ n → ws₁ ≡ words (entry (u8 t at) p 0 v ∷ []) ++ drop 4 ws
+      → FieldReads (membersRead (d - 1) t at′ n (envOf b u f)) (openedState p st) l r (lent 4 ws₁) ys → Closed this ws₁ ys r
+  unfolding opened
+  members-closed look e = closed _ (opened-read ∙ rw (sym look ∙ e) refl)
 
--- What the class at a byte holds, where d depths are left, its own among them
-
-module _ (b u : List ℕ) (f : Frame) (t : List ℕ) (x : Notes) (at : ℕ) (c : Content) (k : 28 ≤ u8 t at) (noted : Prepared t x) where
-  pub can-look : (d : ℕ) → whole d t at → Opens t x at
-  unfolding whole
-  can-look zero w = absurd w
-  can-look (suc d) w = opens t x noted (suc d) at w k
-
-  pub slot-within : (d : ℕ) → whole d t at → at + 2 ≤ length t
-  unfolding whole
-  slot-within zero w = absurd w
-  slot-within (suc d) w = omega (arith, w .there, held-size (u8 t at) k (w .high))
-
-  module _ (from : BitPlace) (framed : Framed b f from) where
-    held : (d : ℕ) → whole d t at → Held (d - 1) t f from (insideOf t x at f from c)
-    unfolding whole
-    held zero w = absurd w
-    held (suc d) w = let e : suc d - 1 ≡ d = omega arith in rw e (inside-whole b f d t x at c from w k framed noted)
-
-    placed : (p : BitPlace) → Placed f from p → Framed b f p
-    placed p h = record { whole = framed .whole; begun = h .begun; within = h .within; ends = framed .ends; small = framed .small }
-
-    pub members-held : (d : ℕ) → whole d t at → (p : BitPlace) (v at′ n : ℕ) → insideOf t x at f from c ≡ Members p v at′ n
-        → wholeMembers (whole (d - 1) t) (stoodAt (d - 1) t) at′ n × Framed b f p
-    unfolding Held
-    members-held d w p v at′ n e = let h : HeldMembers (d - 1) t f from p at′ n = rw (e) at (held d w) in (h .classes, placed p (h .place))
-
-    pub elements-held : (d : ℕ) → whole d t at → (p : BitPlace) (v at′ n : ℕ) → insideOf t x at f from c ≡ Elements p v at′ n
-        → whole (d - 1) t at′ × Framed b f p
-    unfolding Held
-    elements-held d w p v at′ n e = let h : HeldElements (d - 1) t f from p at′ = rw (e) at (held d w) in (h .class, placed p (h .place))
-
-  module _ (s : Full) (room : 4 ≤ s .room) (told : c ≡ slotAt (s .slots) (slotReadAt t at)) (framed : Framed b f (s .place)) where
-    opened-read : (d : ℕ) → whole d t at → read (envOf b u f) (classAt d t at) s ≡ opened (envOf b u f) (u8 t at) (d - 1) t (insideOf t x at f (s .place) c) s
-    unfolding whole
-    opened-read zero w = absurd w
-    opened-read (suc d) w = let e : suc d - 1 ≡ d = omega arith in rw e (inside-read b u f d t x at c s w k room told framed noted)
-
-    pub members-read : (d : ℕ) → whole d t at → (p : BitPlace) (v at′ n : ℕ) → insideOf t x at f (s .place) c ≡ Members p v at′ n
-        → read (envOf b u f) (classAt d t at) s ≡ (listed (entry (u8 t at) p 0 v) p ⨾ readMembers (envOf b u f) (membersAt (stoodAt (d - 1) t) at′ n)) s
-    unfolding opened
-    members-read d w p v at′ n e = opened-read d w ∙ rw (e) refl
-
-    pub elements-read : (d : ℕ) → whole d t at → (p : BitPlace) (v at′ n : ℕ) → insideOf t x at f (s .place) c ≡ Elements p v at′ n
-        → read (envOf b u f) (classAt d t at) s ≡ (listed (entry (u8 t at) p 0 v) p ⨾ times n (read (envOf b u f) (classAt (d - 1) t at′))) s
-    unfolding opened
-    elements-read d w p v at′ n e = opened-read d w ∙ rw (e) refl
-
-    pub refused-read : (d : ℕ) → whole d t at → (why : Refusal) → insideOf t x at f (s .place) c ≡ Refused why
-        → read (envOf b u f) (classAt d t at) s ≡ refuse why s
-    unfolding opened
-    refused-read d w why e = opened-read d w ∙ rw (e) refl
+  pub elements-closed : {o : Inside} {p : BitPlace} {v at′ n : ℕ} {ws₁ ys : List ℕ} {r : Field}
+      → o ≡ insideOf t x at f (st .place) c → o ≡ Elements p v at′ n → ws₁ ≡ words (entry (u8 t at) p 0 v ∷ []) ++ drop 4 ws
+      → FieldReads (elementsRead (d - 1) t at′ n (envOf b u f)) (openedState p st) l r (lent 4 ws₁) ys → Closed this ws₁ ys r
+  unfolding opened
+  elements-closed look e = closed _ (opened-read ∙ rw (sym look ∙ e) refl)

@@ -5,9 +5,10 @@ use native.Mathlib.Omega.{arith}
 use mathlib.Core.List.{List}
 use lib.ListN.{length}
 use Rattle.rules.specs.Class.{bitArray, boolean, unsignedInt, signedInt, float, noMember, member}
-use Rattle.rules.specs.Record.{Shape, bitField, lebField, signedLebField, zeroString, text, blob, textOf, blobOf, members, elements, elementsOf, option?, options, u8}
+use Rattle.rules.specs.Record.{Shape, bitField, lebField, signedLebField, zeroString, text, blob, textOf, blobOf, u8}
+use Rattle.rules.specs.Record.{members, elements, elementsOf, option?, options}
 use Rattle.facts.proofs.Cases.{_▷_, below}
-use Rattle.classes.specs.Trees.{Stood, shapes, shapeOf, recordSize, classIn, classAt, stoodAt, membersAt, whole, Whole, wholeIn, wholeMembers}
+use Rattle.classes.specs.Trees.{Stood, shapes, shapeOf, recordSize, classIn, classAt, stoodAt, membersAt, whole, wholeIn, wholeMembers}
 
 module _ (t : List ℕ) (p : ℕ) where
   pub depth-some : (d : ℕ) → whole d t p → d ≡ suc (d - 1)
@@ -64,7 +65,10 @@ Leafy options = ⊥
 
 leafy : (k : ℕ) → k < 28 → Leafy (shapeOf k)
 unfolding shapeOf shapes
-leafy = below (λ k. Leafy (shapeOf k)) 28 (tt ▷ tt ▷ tt ▷ tt ▷ tt ▷ tt ▷ tt ▷ tt ▷ tt ▷ tt ▷ tt ▷ tt ▷ tt ▷ tt ▷ tt ▷ tt ▷ tt ▷ tt ▷ tt ▷ tt ▷ tt ▷ tt ▷ tt ▷ tt ▷ tt ▷ tt ▷ tt ▷ tt ▷ tt)
+leafy = below (λ k. Leafy (shapeOf k)) 28 (
+    tt ▷ tt ▷ tt ▷ tt ▷ tt ▷ tt ▷ tt ▷ tt ▷ tt ▷ tt ▷ tt ▷ tt ▷ tt ▷ tt ▷ tt ▷ tt ▷  -- none
+    tt ▷ tt ▷ tt ▷ tt ▷ tt ▷ tt ▷ tt ▷ tt ▷ tt ▷ tt ▷ tt ▷ tt ▷ tt
+    )
 
 module _ (f f′ : ℕ → Stood) (t : List ℕ) (p : ℕ) where
   leaf-in : (k : Shape) → Leafy k → classIn f t p k ≡ classIn f′ t p k

@@ -1,8 +1,10 @@
 -- One turn of a walk: no room, a leaf or a field that holds others, which stops the walk or goes on; and the walk's start and end.
 use mathlib.Core.Path.{_≡_, refl, ap, sym, _∙_}
+use mathlib.Core.Logic.{⊎-elim, _⊎_}
 use mathlib.Core.List.{List, [], _∷_, append-nil}
 use Prim.Native.Nat.{ℕ, zero, suc, _+_, _-_, _≤_, _<_}
 use native.Mathlib.Omega.{arith}
+use borrow.Rule.Slice.PartMut.{same-len-mid}
 use lib.ListN.{length, set, getD, length-set}
 use Rattle.rules.specs.declared.Entry.{Entry}
 use Rattle.rules.specs.declared.Stop.{Stop}
@@ -13,10 +15,11 @@ use Rattle.rules.specs.declared.Refusal.the-variants.{ListFull}
 use Rattle.rules.specs.Limits.{slotCount}
 use Rattle.rules.specs.Verdict.{stopAt}
 use Rattle.rules.specs.Slots.{Slots, slotAt, setSlot}
-use Rattle.rules.specs.Class.{Class, fixed, leb128, signedLeb128, string, staticString, staticBlob, dynamicString, dynamicBlob, structure, staticArray, dynamicArray, flagged, optional, variant}
+use Rattle.rules.specs.Class.{Class, fixed, leb128, signedLeb128, string, staticString, staticBlob, dynamicString, dynamicBlob}
+use Rattle.rules.specs.Class.{structure, staticArray, dynamicArray, flagged, optional, variant}
 use Rattle.rules.specs.Step.{State as Full, Out, stop, go, Step, onto, after, _⨾_, pass, refuse}
 use Rattle.rules.specs.Field.{Env, read, readFixed, readMembers, times}
-use Rattle.classes.specs.Trees.{Stood, membersAt}
+use Rattle.classes.specs.Trees.{Stood, stoodAt, classAt, membersAt}
 use Rattle.finding.specs.declared.Frame.{Frame}
 use Rattle.listing.specs.declared.State.{State}
 use Rattle.leaves.specs.declared.Leaf.{Leaf}
@@ -31,15 +34,42 @@ use Rattle.fields.specs.Reads.{LeafReads, FieldReads, stoppedField}
 use Rattle.fields.proofs.Standing.{First, no-member}
 use Rattle.laws.proofs.Between.{read-between}
 
--- what a walk's loop keeps: m is what is left of it
-pub record Walked (b : List ℕ) (f : Frame) (o : Out) (m : Step) (ws₀ ws : List ℕ) (used : ℕ) (st : State) (l : Slots) : Type 0 where
-  pub framed : Framed b f (st .place)
-  pub many : length l ≡ slotCount
-  pub part : Part o m ws₀ ws used st l
+-- a call of the cycle: it reads `all`, from `came` and `given` on, and lists into `list`
+pub record Call : Type 0 where
+  pub stream : List ℕ
+  pub uuid : List ℕ
+  pub frame : Frame
+  pub all : Step
+  pub came : State
+  pub given : Slots
+  pub list : List ℕ
 
-pub walk-start : (b : List ℕ) (f : Frame) (m : Step) (ws : List ℕ) (st : State) (l : Slots) → Framed b f (st .place) → length l ≡ slotCount
-    → Walked b f (m (full st l (length ws))) m ws ws 0 st l
-walk-start b f m ws st l h n = record { framed = h; many = n; part = part-start m ws st l }
+abbrev pub call : List ℕ → List ℕ → Frame → (Env → Step) → State → Slots → List ℕ → Call
+call b u f m st l ws = record { stream = b; uuid = u; frame = f; all = m (envOf b u f); came = st; given = l; list = ws }
+
+abbrev pub env : Call → Env
+env w = envOf (w .stream) (w .uuid) (w .frame)
+
+-- what the three functions read: the class at a byte, n classes from a byte on, and the class at a byte n times
+abbrev pub classRead : ℕ → List ℕ → ℕ → Env → Step
+classRead d t at e = read e (classAt d t at)
+
+abbrev pub membersRead : ℕ → List ℕ → ℕ → ℕ → Env → Step
+membersRead d t at n e = readMembers e (membersAt (stoodAt d t) at n)
+
+abbrev pub elementsRead : ℕ → List ℕ → ℕ → ℕ → Env → Step
+elementsRead d t at n e = times n (read e (classAt d t at))
+
+-- what a walk's loop keeps: m is what is left of it
+pub record Walked (w : Call) (m : Step) (ws : List ℕ) (used : ℕ) (st : State) (l : Slots) : Type 0 where
+  pub framed : Framed (w .stream) (w .frame) (st .place)
+  pub given-many : length (w .given) ≡ slotCount
+  pub many : length l ≡ slotCount
+  pub part : Part (w .all (full (w .came) (w .given) (length (w .list)))) m (w .list) ws used st l
+
+pub walk-start : (w : Call) → Framed (w .stream) (w .frame) (w .came .place) → length (w .given) ≡ slotCount
+    → Walked w (w .all) (w .list) 0 (w .came) (w .given)
+walk-start w h n = record { framed = h; given-many = n; many = n; part = part-start (w .all) (w .list) (w .came) (w .given) }
 
 -- 40 comes before all else of a field
 pub read-full : (e : Env) (c : Class) (s : Full) → s .room < 4 → read e c s ≡ refuse ListFull s
@@ -72,12 +102,21 @@ refused-part m g p v came l₀ e = record {
   kept = λ w h. refl;
 }
 
+-- a list keeps its length
+pub did-length : {o : Out} {came st : State} {went : Went} {n : ℕ} {l : Slots} {ws ys : List ℕ} → Did o came went n st l ws ys
+    → length ys ≡ length ws
+did-length {st = st} {l = l} did = part-length {m = pass} {st = st} {l = l}
+    record { listed = did .listed; list = did .list; counted = did .counted; room = did .room; rest = refl }
+
 -- a field that went on ends within the bound
 still-framed : (b u : List ℕ) (f : Frame) (c : Class) (l : Slots) {st st′ : State} {l′ : Slots} {n : ℕ} {ws ys : List ℕ} {went : Went}
-    → Framed b f (st .place) → went ≡ On → Did (read (envOf b u f) c (full st l (length ws))) st went n st′ l′ ws ys → Framed b f (st′ .place)
+    → Framed b f (st .place) → went ≡ On → Did (read (envOf b u f) c (full st l (length ws))) st went n st′ l′ ws ys
+    → Framed b f (st′ .place)
 unfolding outOf
 still-framed b u f c l {st} {st′} {l′} {n} {ws} h on did =
-    let between = read-between (envOf b u f) c (full st l (length ws)) (did .listed) (full st′ l′ (length ws - n)) (h .begun) (h .within) (did .out ∙ rw (on) refl) in
+    let before = full st l (length ws) in
+    let behind = full st′ l′ (length ws - n) in
+    let between = read-between (envOf b u f) c before (did .listed) behind (h .begun) (h .within) (did .out ∙ rw (on) refl) in
     record { whole = h .whole; begun = omega (arith, between .0, h .begun); within = between .1; ends = h .ends; small = h .small }
 
 -- elements from the front
@@ -86,68 +125,75 @@ unfolding times
 more-times zero m h = absurd (omega arith)
 more-times (suc n) m h = let e : suc n - 1 ≡ n = omega arith in rw e refl
 
--- what is left of a walk is its first class, and then the rest
-pub member-turn : (b u : List ℕ) (f : Frame) (g : ℕ → Type 0) (h : ℕ → Stood) (at n : ℕ) (c : Class) {o : Out} {ws₀ ws : List ℕ} {used : ℕ} {st : State} {l : Slots}
-    → First g h at n → (h at) .class ≡ c → Walked b f o (readMembers (envOf b u f) (membersAt h at n)) ws₀ ws used st l
-    → Walked b f o (read (envOf b u f) c ⨾ readMembers (envOf b u f) (membersAt h ((h at) .next) (n - 1))) ws₀ ws used st l
+-- one turn: c is its class, and g is left behind it
+pub record Turn (w : Call) (c : Class) (g : Step) (ws : List ℕ) (used : ℕ) (st : State) (l : Slots) : Type 0 where
+  pub walked : Walked w (read (env w) c ⨾ g) ws used st l
+
+pub member-turn : {w : Call} {p : ℕ → Type 0} {h : ℕ → Stood} {at n : ℕ} {ws : List ℕ} {used : ℕ} {st : State} {l : Slots}
+    → First p h at n → Walked w (readMembers (env w) (membersAt h at n)) ws used st l
+    → Turn w ((h at) .class) (readMembers (env w) (membersAt h ((h at) .next) (n - 1))) ws used st l
 unfolding readMembers
-member-turn b u f g h at n c first e w = rw (first .classes, e) at w
+member-turn first w = record { walked = rw (first .classes) at w }
 
-pub element-turn : (b u : List ℕ) (f : Frame) (n : ℕ) (c c′ : Class) {o : Out} {ws₀ ws : List ℕ} {used : ℕ} {st : State} {l : Slots}
-    → 0 < n → c ≡ c′ → Walked b f o (times n (read (envOf b u f) c)) ws₀ ws used st l
-    → Walked b f o (read (envOf b u f) c′ ⨾ times (n - 1) (read (envOf b u f) c)) ws₀ ws used st l
-element-turn b u f n c c′ h e w = rw (ap (λ x. read (envOf b u f) x ⨾ times (n - 1) (read (envOf b u f) c)) (sym e)) (rw (more-times n (read (envOf b u f) c) h) at w)
+pub element-turn : {w : Call} (c : Class) {n : ℕ} {ws : List ℕ} {used : ℕ} {st : State} {l : Slots}
+    → 0 < n → Walked w (times n (read (env w) c)) ws used st l → Turn w c (times (n - 1) (read (env w) c)) ws used st l
+element-turn c h w = record { walked = rw (more-times _ _ h) at w }
 
--- one turn: the walk is M from `came` and l₀ on, c is the class of the turn, and g is left behind it
-module _ (b u : List ℕ) (f : Frame) (c : Class) (g M : Step) (came : State) (l₀ : Slots) (n₀ : length l₀ ≡ slotCount)
-    {ws₀ ws : List ℕ} {used : ℕ} {st : State} {l : Slots}
-    (w : Walked b f (M (full came l₀ (length ws₀))) (read (envOf b u f) c ⨾ g) ws₀ ws used st l) where
-  stopped-reads : {ws′ : List ℕ} (v : Stop) (k : ℕ) → Did (M (full came l₀ (length ws₀))) came (Stopped v) k came l₀ ws₀ ws′
-      → FieldReads M came l₀ (stoppedField v k came l₀) ws₀ ws′
-  stopped-reads v k did = record { did = did; kept = λ x h. refl; many = n₀ }
+-- what the class of a turn did to the walk: n words are listed, and the walk stopped or goes on
+pub record Turned (w : Call) (g : Step) (ws : List ℕ) (used : ℕ) (ys : List ℕ) (went : Went) (n : ℕ) (st : State) (l : Slots) : Type 0 where
+  pub room : used + n ≤ length (w .list)
+  pub same : length (merged used ws ys) ≡ length (w .list)
+  pub stops : (v : Stop) → went ≡ Stopped v
+      → FieldReads (w .all) (w .came) (w .given) (stoppedField v (used + n) (w .came) (w .given)) (w .list) (merged used ws ys)
+  pub goes : went ≡ On → Walked w g (merged used ws ys) (used + n) st l
 
-  pub turn-full : length ws - used < 4 → FieldReads M came l₀ (stoppedField (stopAt ListFull (st .place)) used came l₀) ws₀ ws
+module _ {w : Call} {c : Class} {g : Step} {ws : List ℕ} {used : ℕ} {st : State} {l : Slots} (turn : Turn w c g ws used st l) where
+  stopped-reads : {ws′ : List ℕ} (v : Stop) (k : ℕ)
+      → Did (w .all (full (w .came) (w .given) (length (w .list)))) (w .came) (Stopped v) k (w .came) (w .given) (w .list) ws′
+      → FieldReads (w .all) (w .came) (w .given) (stoppedField v k (w .came) (w .given)) (w .list) ws′
+  stopped-reads v k did = record { did = did; kept = λ x h. refl; many = turn .walked .given-many }
+
+  pub turn-full : length ws - used < 4
+      → FieldReads (w .all) (w .came) (w .given) (stoppedField (stopAt ListFull (st .place)) used (w .came) (w .given)) (w .list) ws
   unfolding refuse
-  turn-full h = stopped-reads _ used (refused-part (read (envOf b u f) c) g (w .part) _ came l₀ (read-full (envOf b u f) c _ (omega (arith, part-length (w .part)))))
+  turn-full h =
+      let p = turn .walked .part in
+      stopped-reads _ used (refused-part (read (env w) c) g p _ (w .came) (w .given) (read-full (env w) c _ (omega (arith, part-length p))))
 
-  module _ {i : ℕ} {x : Content} {r : Leaf} {ys : List ℕ} (did : LeafReads (read (envOf b u f) c) i x st r (lent used ws) ys) (s : slotAt l i ≡ x) where
-    pub leaf-room : used + r .used ≤ length ws₀
-    leaf-room = back-room (read (envOf b u f) c) (w .part) (did .at l (w .many) s)
+  turn-did : {went : Went} {n : ℕ} {st′ : State} {l′ : Slots} {ys : List ℕ} → length l′ ≡ slotCount
+      → Did (read (env w) c (full st l (length (lent used ws)))) st went n st′ l′ (lent used ws) ys → Turned w g ws used ys went n st′ l′
+  turn-did {ys = ys} many did =
+      let p = turn .walked .part in
+      record {
+        room = back-room (read (env w) c) p did;
+        same = same-len-mid used (length ws - used) ws ys (did-length did) ∙ part-length p;
+        stops = λ v off. stopped-reads v _ (part-stop (read (env w) c) g p did v (w .came) (w .given) off);
+        goes = λ on. record {
+          framed = still-framed (w .stream) (w .uuid) (w .frame) c l (turn .walked .framed) on did;
+          given-many = turn .walked .given-many;
+          many = many;
+          part = part-step (read (env w) c) g p did on;
+        };
+      }
 
-    pub leaf-stops : (v : Stop) → r .went ≡ Stopped v → FieldReads M came l₀ (stoppedField v (used + r .used) came l₀) ws₀ (merged used ws ys)
-    leaf-stops v off = stopped-reads v _ (part-stop (read (envOf b u f) c) g (w .part) (did .at l (w .many) s) v came l₀ off)
+  pub leaf-turned : {c′ : Class} {i : ℕ} {x : Content} {r : Leaf} {ys : List ℕ} → c ≡ c′
+      → LeafReads (read (env w) c′) i x st r (lent used ws) ys → slotAt l i ≡ x
+      → Turned w g ws used ys (r .went) (r .used) (r .state) (setSlot l (r .slot) (r .content))
+  unfolding setSlot
+  leaf-turned e did s = turn-did (rw (length-set) (turn .walked .many)) (rw (e) (did .at l (turn .walked .many) s))
 
-    pub leaf-goes : r .went ≡ On
-        → Walked b f (M (full came l₀ (length ws₀))) g ws₀ (merged used ws ys) (used + r .used) (r .state) (setSlot l (r .slot) (r .content))
-    unfolding setSlot
-    leaf-goes on = record {
-      framed = still-framed b u f c l (w .framed) on (did .at l (w .many) s);
-      many = rw (length-set) (w .many);
-      part = part-step (read (envOf b u f) c) g (w .part) (did .at l (w .many) s) on;
-    }
-
-  module _ {r : Field} {ys : List ℕ} (did : FieldReads (read (envOf b u f) c) st l r (lent used ws) ys) where
-    pub field-room : used + r .used ≤ length ws₀
-    field-room = back-room (read (envOf b u f) c) (w .part) (did .did)
-
-    pub field-stops : (v : Stop) → r .went ≡ Stopped v → FieldReads M came l₀ (stoppedField v (used + r .used) came l₀) ws₀ (merged used ws ys)
-    field-stops v off = stopped-reads v _ (part-stop (read (envOf b u f) c) g (w .part) (did .did) v came l₀ off)
-
-    pub field-goes : r .went ≡ On → Walked b f (M (full came l₀ (length ws₀))) g ws₀ (merged used ws ys) (used + r .used) (r .state) (r .slots)
-    field-goes on = record {
-      framed = still-framed b u f c l (w .framed) on (did .did);
-      many = did .many;
-      part = part-step (read (envOf b u f) c) g (w .part) (did .did) on;
-    }
+  pub field-turned : {r : Field} {ys : List ℕ} → FieldReads (read (env w) c) st l r (lent used ws) ys
+      → Turned w g ws used ys (r .went) (r .used) (r .state) (r .slots)
+  field-turned did = turn-did (did .many) (did .did)
 
 -- nothing is left of the walk
-pub walk-end : (b : List ℕ) (f : Frame) (M m : Step) (came : State) (l₀ : Slots) {ws₀ ws : List ℕ} {used : ℕ} {st : State} {l : Slots}
-    → Walked b f (M (full came l₀ (length ws₀))) m ws₀ ws used st l → ((s : Full) → m s ≡ go [] s)
-    → FieldReads M came l₀ (record { went = On; used = used; state = st; slots = l }) ws₀ ws
-walk-end b f M m came l₀ w e = record {
-  did = part-end (w .part) came e;
-  kept = λ v h. let z : _≡_ {A = ℕ} 0 1 = cc in absurd (omega arith);
-  many = w .many;
+pub walk-end : {w : Call} {m : Step} {ws : List ℕ} {used : ℕ} {st : State} {l : Slots} → Walked w m ws used st l
+    → ((s : Full) → m s ≡ go [] s)
+    → FieldReads (w .all) (w .came) (w .given) (record { went = On; used = used; state = st; slots = l }) (w .list) ws
+walk-end {w} h e = record {
+  did = part-end (h .part) (w .came) e;
+  kept = λ v off. let z : _≡_ {A = ℕ} 0 1 = cc in absurd (omega arith);
+  many = h .many;
 }
 
 -- slots past the sixty-four are none
@@ -168,6 +214,11 @@ get-past (y ∷ l) (suc i) x h = get-past l i x (omega arith)
 pub no-content : (l : Slots) (i : ℕ) → length l ≡ slotCount → slotCount ≤ i → slotAt l i ≡ Unset
 unfolding slotAt
 no-content l i n h = ap (λ x. x .content) (get-past l i _ (omega arith))
+
+-- the content of the slot that a field reads: nothing is there past the sixty-four
+pub content-met : (l : Slots) {i j : ℕ} {x : Content} {A B : Type 0} → length l ≡ slotCount → i ≡ j → (A → x ≡ slotAt l i)
+    → (B → (slotCount ≤ i) × (x ≡ Unset)) → A ⊎ B → slotAt l j ≡ x
+content-met l {i} n e a b h = ap (slotAt l) (sym e) ∙ ⊎-elim (λ y. sym (a y)) (λ y. no-content l i n (b y .0) ∙ sym (b y .1)) h
 
 -- a walk of no classes
 pub members-end : (e : Env) (h : ℕ → Stood) (at n : ℕ) → n ≤ 0 → (s : Full) → readMembers e (membersAt h at n) s ≡ go [] s

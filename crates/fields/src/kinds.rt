@@ -65,7 +65,7 @@ pub fn leaf_slot(table: &[u8], at: usize) -> usize
     wide(table[at + 1])
 }
 
-// The leaf at a byte, where there is room for its entry. `content` is what the slot holds that it reads.
+// The leaf at a byte, where there is room for its entry. `content` is what the slot holds that it reads, unset where it reads none.
 pub fn read_leaf(
     table: &[u8],
     at: usize,
@@ -113,7 +113,7 @@ pub fn read_leaf(
     }
 }
 
-// Kinds 16 to 20: length, order and align stand in each of their records.
+// Kinds 16 to 20: width, order and align, as an exponent of 2, stand first in each of their records.
 fn read_bits(
     table: &[u8],
     at: usize,

@@ -1,5 +1,8 @@
-// Fields that hold fields, kinds 28 to 32. Three functions call each other, the depth left falling; both walks take leaves directly, and
-// change their own slots: no leaf has the slots in its signature.
+// Fields that hold fields, kinds 28 to 32. `read_field` lists a field's own entry and hands what is inside to a walk, one depth less; a walk
+// reads leaves itself and hands a field that holds others back to `read_field`. The slots go by value through these calls alone: a leaf says
+// which slot it sets and the walk sets it, since to copy all sixty-four costs more than most leaves.
+//
+// What stopped hands back state and slots as they came, whatever was read inside it; only the list keeps what was listed.
 use crate::Field;
 use crate::kinds::leaf_slot;
 use crate::kinds::read_leaf;
@@ -33,7 +36,7 @@ ghost use Rattle.fields.specs.Reads.{FieldReads, stoppedField, openedSta
 // Kinds from here on hold fields.
 const FIRST_THAT_HOLDS: u8 = 28;
 
-// A field that holds fields, where there is room for its entry.
+// The field of the class at a byte, which holds fields, where there is room for its entry. `left` depths are left, its own among them.
 pub fn read_field(
     table: &[u8],
     sizes: &[u16],
@@ -90,7 +93,7 @@ pub fn read_field(
             );
             let went = r.went;
             match went {
-                Went::Stopped(stop) => stopped(stop, 4 + r.used, st, slots),
+                Went::Stopped(stop) => stopped(stop, 4 + r.used, st, slots), // not `next`
                 Went::On => {
                     let state = r.state;
                     let changed = r.slots;
@@ -142,7 +145,8 @@ pub fn read_field(
     }
 }
 
-// So many classes one behind the other, from a byte of the table on.
+// The fields of `count` classes that stand one behind the other, from a byte of the table on. No room (40) comes before all else of a field,
+// so the walks test for it before they look at the class.
 pub fn walk_members(
     table: &[u8],
     sizes: &[u16],
@@ -176,7 +180,7 @@ pub fn walk_members(
             let place = state.place;
             return stopped(
                 Stop {
-                    why: Refusal::ListFull,
+                    why: Refusal::ListFull, // 40, at the member's place
                     place,
                 },
                 used,
@@ -205,11 +209,11 @@ pub fn walk_members(
             let went = r.went;
             match went {
                 Went::Stopped(stop) => {
-                    return stopped(stop, used, st, given);
+                    return stopped(stop, used, st, given); // not `slots`
                 }
                 Went::On => {}
             }
-            next = next + size_at(sizes, next);
+            next = next + size_at(sizes, next); // behind the leaf's record
             todo = todo - 1;
             let changed = r.state;
             state = changed;
@@ -256,7 +260,7 @@ pub fn walk_members(
     }
 }
 
-// The class at a byte of the table, so many times.
+// `count` fields of the one class at a byte of the table.
 fn walk_elements(
     table: &[u8],
     sizes: &[u16],
@@ -366,7 +370,7 @@ fn walk_elements(
     }
 }
 
-// The field's own entry, and the state at its place.
+// The entry of a field that holds fields: it has no bits of its own. Gives the state at the field's place.
 fn enter(kind: u64, place: BitPlace, value: u64, st: State, list: &mut [u64]) -> State
     requires { ⌜ 4 ≤ length (now list) ⌝ }
     ensures { λ r. ⌜ r ≡ openedState place st ⌝ }
@@ -393,7 +397,7 @@ fn enter(kind: u64, place: BitPlace, value: u64, st: State, list: &mut [u64]) ->
     }
 }
 
-// A field that stopped hands back state and slots as they came.
+// What stopped: state and slots are those that came.
 fn stopped(stop: Stop, used: usize, st: State, slots: [Slot; 64]) -> Field
     ensures { λ r. ⌜ r ≡ stoppedField stop used st slots ⌝ }
 {

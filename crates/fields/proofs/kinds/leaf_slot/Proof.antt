@@ -6,16 +6,15 @@ use Rattle.fields.proofs.kinds.leaf_slot.Reads as reads
 use Rattle.fields.proofs.kinds.leaf_slot.Lts as lts
 use Rattle.bytes.proofs.wide.Reads as wide-reads
 use native.Mathlib.Omega.{arith}
-use Rattle.rules.specs.Record.{u8}
-use Rattle.classes.specs.Trees.{recordSize, shapeOf, shapes}
-use mathlib.Core.Path.{_∙_, refl}
+use mathlib.Core.Path.{refl}
 use borrow.Author.Tests.{lt-ltb, le-ltb}
+use Rattle.rules.specs.Record.{u8}
 use Rattle.fields.specs.Reads.{leafSlot}
 use Rattle.fields.proofs.ByKind.{slot-there}
 use Rattle.fields.proofs.Standing.{stands-within}
 
 shared-slice-read-if1 : tie.Need-shared-slice-read-if1
-shared-slice-read-if1 c = stands-within (c .before .before .args .table .now) (c .before .before .args .at) 1 (c .before .before .pre .0)
+shared-slice-read-if1 c = stands-within _ _ _ (c .before .before .pre .0)
 
 returns : tie.Need-returns
 unfolding leafSlot u8
@@ -23,11 +22,15 @@ returns c = rw (lt-ltb _ _ (c .if1 .taken), leafSlot) refl
 
 add-wide : tie.Need-add-wide
 unfolding u8
-add-wide c = omega (arith, slot-there (c .before .before .before .args .table .now) (c .before .before .before .args .at) (c .before .before .before .pre .0) (c .before .before .before .pre .1) (c .if1 .left), c .before .before .before .good .0)
+add-wide c =
+    let s = c .before .before .before in
+    omega (arith, slot-there _ _ (s .pre .0) (s .pre .1) (c .if1 .left), s .good .0)
 
 shared-slice-read-wide : tie.Need-shared-slice-read-wide
 unfolding u8
-shared-slice-read-wide c = omega (arith, slot-there (c .before .before .before .before .args .table .now) (c .before .before .before .before .args .at) (c .before .before .before .before .pre .0) (c .before .before .before .before .pre .1) (c .before .if1 .left), c .before .before .before .before .good .0)
+shared-slice-read-wide c =
+    let s = c .before .before .before .before in
+    omega (arith, slot-there _ _ (s .pre .0) (s .pre .1) (c .before .if1 .left), s .good .0)
 
 wide-requires : tie.Need-wide-requires
 wide-requires c κs = search needs
