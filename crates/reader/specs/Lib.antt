@@ -1,0 +1,5 @@
+pub mod Ready
+pub mod Ran
+pub mod Event
+pub mod Pieces
+pub mod Answer

@@ -1,0 +1,180 @@
+// Reading a stream by a table, and all that it takes. In order: root, a root that is there is read; event, one event; events, those of a
+// packet; packet, one packet; packets, those of a stream; answer, the numbers of the result.
+use answer::answer;
+use answer::refused;
+use classes::Found;
+use listing::State;
+use listing::Went;
+use lookups::find_trace_class;
+use lookups::root_place;
+use lookups::uuid_place;
+use notes::prepare;
+use packets::read_packets;
+use rules::BitPlace;
+use rules::Checked;
+use rules::Refusal;
+use rules::Result;
+use rules::Stop;
+use table::check;
+ghost use mathlib.Core.Path.{_≡_};
+ghost use Prim.Native.Nat.{_≤_};
+ghost use lib.ListN.{length};
+ghost use Rattle.rules.specs.declared.Checked.the-variants.{Accepted};
+ghost use Rattle.rules.specs.Limits.{streamLimit};
+ghost use Rattle.rules.specs.Place.{byteLength, bitPlace};
+ghost use Rattle.rules.specs.Parse.{checked};
+ghost use Rattle.rules.specs.Read.{readAll, readStream, resultOf, listAfter};
+ghost use Rattle.classes.specs.Notes.{notes};
+ghost use Rattle.classes.specs.Fragments.{askedAt};
+ghost use Rattle.reader.specs.Ready.{Ready};
+ghost use Rattle.rules.specs.Verdict.{stopAt};
+ghost use Rattle.rules.specs.declared.Refusal.the-variants.{StreamSize};
+ghost use Rattle.reader.specs.Answer.{Answers, refusedWith};
+
+mod answer;
+mod event;
+mod events;
+mod packet;
+mod packets;
+mod root;
+
+// "stream empty or over 16,777,216 bytes" (21)
+const STREAM_LIMIT: usize = 16777216;
+
+// "20: table refused"
+const TABLE_REFUSED: u8 = 20;
+
+// What a part of a reading did that hands no slots on: how it went, the words that it listed, and the state behind it.
+pub struct Ran {
+    pub went: Went,
+    pub used: usize,
+    pub state: State,
+}
+
+// What a packet's events ask of their stream class: where it stands, its id, whether it has a clock, and two of its roots.
+pub struct Asking {
+    pub class: usize,
+    pub id: u64,
+    pub timed: bool,
+    pub header: Found,
+    pub common: Found,
+}
+
+// Reads a stream by a table: lists its entries, and answers how it went. For every table, stream and list the rules' own answer.
+pub fn read(table: &[u8], stream: &[u8], list: &mut [u64]) -> Result
+    ensures { λ r. ⌜
+        (r ≡ resultOf (readAll (now (table .entry)) (now (stream .entry)) (length (now (list .entry)))))
+        × (now (list .exit) ≡ listAfter (readAll (now (table .entry)) (now (stream .entry)) (length (now (list .entry)))) (now (list .entry)))
+        ⌝ }
+{
+    match check(table) {
+        Checked::Refused(number, byte) => Result {
+            number: TABLE_REFUSED,
+            entries: 0,
+            place: byte.0 as u64,
+            first: number as u64,
+            second: 0,
+        },
+        Checked::Accepted(length) => read_stream(table, stream, list),
+    }
+}
+
+// By an accepted table: 21, and then the packets.
+fn read_stream(table: &[u8], stream: &[u8], list: &mut [u64]) -> Result
+    requires { ⌜ checked (now table) ≡ Accepted (byteLength (length (now table))) ⌝ }
+    ensures { λ r. ⌜
+        Answers (readStream (askedAt (now (table .entry))) (now (stream .entry)) (length (now (list .entry)))) r (now (list .entry)) (now (list .exit))
+        ⌝ }
+{
+    if stream.len() == 0 {
+        return bad_size();
+    }
+    if STREAM_LIMIT < stream.len() {
+        return bad_size();
+    }
+    let mut sizes = no_sizes();
+    let mut aligns = no_aligns();
+    prepare(table, &mut sizes, &mut aligns);
+    read_prepared(table, &sizes, &aligns, stream, list)
+}
+
+// The table's notes are made: the trace class's UUID and header are looked up, and the packets read.
+fn read_prepared(
+    table: &[u8],
+    sizes: &[u16],
+    aligns: &[u8],
+    stream: &[u8],
+    list: &mut [u64],
+) -> Result
+    requires { ⌜ Ready (now table) (notes (now sizes) (now aligns)) ⌝ }
+    requires { ⌜ (1 ≤ length (now stream)) × (length (now stream) ≤ streamLimit) ⌝ }
+    ensures { λ r. ⌜
+        Answers (readStream (askedAt (now (table .entry))) (now (stream .entry)) (length (now (list .entry)))) r (now (list .entry)) (now (list .exit))
+        ⌝ }
+{
+    let index = [0u32; 0];
+    let none = &table[0..0];
+    match find_trace_class(table, sizes) {
+        Found::Nothing => answer(read_packets(
+            table,
+            sizes,
+            aligns,
+            &index,
+            none,
+            Found::Nothing,
+            stream,
+            list,
+        )),
+        Found::At(trace) => {
+            let header = root_place(table, sizes, trace, 0);
+            match uuid_place(table, trace) {
+                Found::Nothing => answer(read_packets(
+                    table,
+                    sizes,
+                    aligns,
+                    &index,
+                    none,
+                    header,
+                    stream,
+                    list,
+                )),
+                Found::At(at) => answer(read_packets(
+                    table,
+                    sizes,
+                    aligns,
+                    &index,
+                    &table[at..at + 16],
+                    header,
+                    stream,
+                    list,
+                )),
+            }
+        }
+    }
+}
+
+// Room for the notes of the longest table.
+fn no_sizes() -> [u16; 65536]
+    ensures { λ r. ⌜ 65536 ≡ length r ⌝ }
+{
+    [0; 65536]
+}
+
+fn no_aligns() -> [u8; 65536]
+    ensures { λ r. ⌜ 65536 ≡ length r ⌝ }
+{
+    [0; 65536]
+}
+
+fn bad_size() -> Result
+    ensures { λ r. ⌜ r ≡ refusedWith (stopAt StreamSize (bitPlace 0)) 0 ⌝ }
+{
+    let place = BitPlace(0);
+    refused(
+        Stop {
+            why: Refusal::StreamSize,
+            place,
+        },
+        0,
+    )
+}
