@@ -10,15 +10,13 @@ use Rattle.rules.specs.declared.Stop.{Stop}
 use Rattle.rules.specs.declared.Refusal.{Refusal}
 use Rattle.rules.specs.Limits.{slotCount}
 use Rattle.rules.specs.Verdict.{stopAt}
-use Rattle.rules.specs.Slots.{Slots}
+use Rattle.rules.specs.Slots.{Slots, slotAt}
 use Rattle.rules.specs.Entry.{entry, words}
 use Rattle.rules.specs.declared.Content.{Content}
 use Rattle.rules.specs.Record.{u8}
-use Rattle.rules.specs.Slots.{slotAt}
-use Rattle.rules.specs.Step.{State as Full, Step, onto, after, _⨾_, refuse, listed}
-use Rattle.rules.specs.Field.{read, readMembers, times}
+use Rattle.rules.specs.Step.{State as Full, Step, after, _⨾_, refuse, listed}
 use Rattle.facts.proofs.Cases.{_▷_, below}
-use Rattle.classes.specs.Trees.{shapeOf, shapes, recordSize, whole, wholeMembers, classAt, stoodAt, membersAt}
+use Rattle.classes.specs.Trees.{shapeOf, shapes, recordSize, whole, wholeMembers, stoodAt}
 use Rattle.classes.specs.Notes.{Notes, Prepared}
 use Rattle.inside.specs.declared.look.Inside.{Inside}
 use Rattle.inside.specs.declared.look.Inside.the-variants.{Members, Elements, Refused}
@@ -31,13 +29,13 @@ use Rattle.finding.specs.declared.Frame.{Frame}
 use Rattle.finding.specs.Framed.{Framed, envOf}
 use Rattle.listing.specs.declared.State.{State}
 use Rattle.listing.specs.declared.Went.the-variants.{On, Stopped}
-use Rattle.listing.specs.Did.{Did, full}
+use Rattle.listing.specs.Did.{full}
 use Rattle.listing.proofs.Roles.{went-no-further}
 use Rattle.listing.proofs.Parts.{Part, part-last-on, part-last-stopped, part-length, back-room, lent, merged}
 use Rattle.fields.specs.declared.Field.{Field}
-use Rattle.fields.specs.Reads.{FieldReads, stoppedField, openedState}
+use Rattle.fields.specs.Reads.{FieldReads, openedState}
 use Rattle.fields.proofs.Standing.{depth-some}
-use Rattle.fields.proofs.Turns.{Call, call, classRead, membersRead, elementsRead, did-length}
+use Rattle.fields.proofs.Turns.{Call, call, outcome, CallReads, stoppedCall, classRead, membersRead, elementsRead, did-length}
 
 -- kinds 28 to 32 have a byte or more behind their kind
 held-size : (k : ℕ) → 28 ≤ k → k ≤ 32 → 2 ≤ recordSize (shapeOf k)
@@ -69,11 +67,8 @@ pub record Holder (b u : List ℕ) (f : Frame) (t : List ℕ) (x : Notes) (d at 
 pub record Closed (w : Call) (ws₁ ys : List ℕ) (r : Field) : Type 0 where
   pub fits : 4 + r .used < 2 ^ 60
   pub same : length (merged 4 ws₁ ys) ≡ length (w .list)
-  pub stops : (v : Stop) → r .went ≡ Stopped v
-      → FieldReads (w .all) (w .came) (w .given) (stoppedField v (4 + r .used) (w .came) (w .given)) (w .list) (merged 4 ws₁ ys)
-  pub goes : r .went ≡ On
-      → FieldReads (w .all) (w .came) (w .given) (record { went = On; used = 4 + r .used; state = r .state; slots = r .slots }) (w .list)
-      (merged 4 ws₁ ys)
+  pub stops : (v : Stop) → r .went ≡ Stopped v → CallReads w (stoppedCall w v (4 + r .used)) (merged 4 ws₁ ys)
+  pub goes : r .went ≡ On → CallReads w (record { went = On; used = 4 + r .used; state = r .state; slots = r .slots }) (merged 4 ws₁ ys)
 
 module _ {b u : List ℕ} {f : Frame} {t : List ℕ} {x : Notes} {d at : ℕ} {c : Content} {st : State} {l : Slots} {ws : List ℕ}
     (h : Holder b u f t x d at c st l ws) where
@@ -104,18 +99,18 @@ module _ {b u : List ℕ} {f : Frame} {t : List ℕ} {x : Notes} {d at : ℕ} {c
       let q : HeldElements (d - 1) t f (st .place) p at′ = rw (sym look ∙ e) at held in
       (q .class, placed p (q .place))
 
-  abbrev M : Step
-  M = classRead d t at (envOf b u f)
+  abbrev this : Call
+  this = call b u f (classRead d t at) st l ws
 
   abbrev s : Full
   s = full st l (length ws)
 
-  opened-read : M s ≡ opened (envOf b u f) (u8 t at) (d - 1) t (insideOf t x at f (st .place) c) s
+  opened-read : outcome this ≡ opened (envOf b u f) (u8 t at) (d - 1) t (insideOf t x at f (st .place) c) s
   opened-read = ap (λ (e : ℕ). classRead e t at (envOf b u f) s) (depth-some t at d (h .stands))
       ∙ inside-read b u f (d - 1) t x at c s deep (h .holds) (h .room) (sym (h .told)) (h .framed) (h .noted)
 
   pub refused-reads : {o : Inside} {why : Refusal} → o ≡ insideOf t x at f (st .place) c → o ≡ Refused why
-      → FieldReads M st l (stoppedField (stopAt why (st .place)) 0 st l) ws ws
+      → CallReads this (stoppedCall this (stopAt why (st .place)) 0) ws
   unfolding refuse opened
   refused-reads look e = record {
     did = went-no-further _ st _ _ ws (opened-read ∙ rw (sym look ∙ e) refl);
@@ -123,13 +118,10 @@ module _ {b u : List ℕ} {f : Frame} {t : List ℕ} {x : Notes} {d at : ℕ} {c
     many = h .many;
   }
 
-  abbrev this : Call
-  this = call b u f (classRead d t at) st l ws
-
   -- the field is its entry, and then m
-  module _ {p : BitPlace} (v : ℕ) {m : Step} {ws₁ ys : List ℕ} {r : Field} (o : M s ≡ (listed (entry (u8 t at) p 0 v) p ⨾ m) s)
+  module _ {p : BitPlace} (v : ℕ) {m : Step} {ws₁ ys : List ℕ} {r : Field} (o : outcome this ≡ (listed (entry (u8 t at) p 0 v) p ⨾ m) s)
       (e : ws₁ ≡ words (entry (u8 t at) p 0 v ∷ []) ++ drop 4 ws) (did : FieldReads m (openedState p st) l r (lent 4 ws₁) ys) where
-    entry-part : Part (M s) m ws ws₁ 4 (openedState p st) l
+    entry-part : Part (outcome this) m ws ws₁ 4 (openedState p st) l
     unfolding _⨾_ after listed
     entry-part = record { listed = entry (u8 t at) p 0 v ∷ []; list = e; counted = refl; room = h .room; rest = o }
 

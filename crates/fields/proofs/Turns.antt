@@ -1,4 +1,5 @@
--- One turn of a walk: no room, a leaf or a field that holds others, which stops the walk or goes on; and the walk's start and end.
+-- A walk, turn by turn: no room, or a leaf or a field that holds others, which stops the walk or goes on.
+-- In order: calls of the cycle; what a walk keeps; one turn; the walk's end; slots past the sixty-four.
 use mathlib.Core.Path.{_≡_, refl, ap, sym, _∙_}
 use mathlib.Core.Logic.{⊎-elim, _⊎_}
 use mathlib.Core.List.{List, [], _∷_, append-nil}
@@ -6,7 +7,6 @@ use Prim.Native.Nat.{ℕ, zero, suc, _+_, _-_, _≤_, _<_}
 use native.Mathlib.Omega.{arith}
 use borrow.Rule.Slice.PartMut.{same-len-mid}
 use lib.ListN.{length, set, getD, length-set}
-use Rattle.rules.specs.declared.Entry.{Entry}
 use Rattle.rules.specs.declared.Stop.{Stop}
 use Rattle.rules.specs.declared.Content.{Content}
 use Rattle.rules.specs.declared.Content.the-variants.{Unset}
@@ -50,6 +50,15 @@ call b u f m st l ws = record { stream = b; uuid = u; frame = f; all = m (envOf 
 abbrev pub env : Call → Env
 env w = envOf (w .stream) (w .uuid) (w .frame)
 
+abbrev pub outcome : Call → Out
+outcome w = w .all (full (w .came) (w .given) (length (w .list)))
+
+abbrev pub CallReads : Call → Field → List ℕ → Type 0
+CallReads w r ws = FieldReads (w .all) (w .came) (w .given) r (w .list) ws
+
+abbrev pub stoppedCall : Call → Stop → ℕ → Field
+stoppedCall w v n = stoppedField v n (w .came) (w .given)
+
 -- what the three functions read: the class at a byte, n classes from a byte on, and the class at a byte n times
 abbrev pub classRead : ℕ → List ℕ → ℕ → Env → Step
 classRead d t at e = read e (classAt d t at)
@@ -65,14 +74,14 @@ pub record Walked (w : Call) (m : Step) (ws : List ℕ) (used : ℕ) (st : State
   pub framed : Framed (w .stream) (w .frame) (st .place)
   pub given-many : length (w .given) ≡ slotCount
   pub many : length l ≡ slotCount
-  pub part : Part (w .all (full (w .came) (w .given) (length (w .list)))) m (w .list) ws used st l
+  pub part : Part (outcome w) m (w .list) ws used st l
 
 pub walk-start : (w : Call) → Framed (w .stream) (w .frame) (w .came .place) → length (w .given) ≡ slotCount
     → Walked w (w .all) (w .list) 0 (w .came) (w .given)
 walk-start w h n = record { framed = h; given-many = n; many = n; part = part-start (w .all) (w .list) (w .came) (w .given) }
 
 -- 40 comes before all else of a field
-pub read-full : (e : Env) (c : Class) (s : Full) → s .room < 4 → read e c s ≡ refuse ListFull s
+read-full : (e : Env) (c : Class) (s : Full) → s .room < 4 → read e c s ≡ refuse ListFull s
 unfolding read readFixed
 read-full e (fixed k n o a i r) s h = no-room-first _ s h
 read-full e (leb128 i r) s h = no-room-first _ s h
@@ -120,7 +129,7 @@ still-framed b u f c l {st} {st′} {l′} {n} {ws} h on did =
     record { whole = h .whole; begun = omega (arith, between .0, h .begun); within = between .1; ends = h .ends; small = h .small }
 
 -- elements from the front
-pub more-times : (n : ℕ) (m : Step) → 0 < n → times n m ≡ (m ⨾ times (n - 1) m)
+more-times : (n : ℕ) (m : Step) → 0 < n → times n m ≡ (m ⨾ times (n - 1) m)
 unfolding times
 more-times zero m h = absurd (omega arith)
 more-times (suc n) m h = let e : suc n - 1 ≡ n = omega arith in rw e refl
@@ -143,22 +152,20 @@ element-turn c h w = record { walked = rw (more-times _ _ h) at w }
 pub record Turned (w : Call) (g : Step) (ws : List ℕ) (used : ℕ) (ys : List ℕ) (went : Went) (n : ℕ) (st : State) (l : Slots) : Type 0 where
   pub room : used + n ≤ length (w .list)
   pub same : length (merged used ws ys) ≡ length (w .list)
-  pub stops : (v : Stop) → went ≡ Stopped v
-      → FieldReads (w .all) (w .came) (w .given) (stoppedField v (used + n) (w .came) (w .given)) (w .list) (merged used ws ys)
+  pub stops : (v : Stop) → went ≡ Stopped v → CallReads w (stoppedCall w v (used + n)) (merged used ws ys)
   pub goes : went ≡ On → Walked w g (merged used ws ys) (used + n) st l
 
 module _ {w : Call} {c : Class} {g : Step} {ws : List ℕ} {used : ℕ} {st : State} {l : Slots} (turn : Turn w c g ws used st l) where
-  stopped-reads : {ws′ : List ℕ} (v : Stop) (k : ℕ)
-      → Did (w .all (full (w .came) (w .given) (length (w .list)))) (w .came) (Stopped v) k (w .came) (w .given) (w .list) ws′
-      → FieldReads (w .all) (w .came) (w .given) (stoppedField v k (w .came) (w .given)) (w .list) ws′
+  stopped-reads : {ws′ : List ℕ} (v : Stop) (k : ℕ) → Did (outcome w) (w .came) (Stopped v) k (w .came) (w .given) (w .list) ws′
+      → CallReads w (stoppedCall w v k) ws′
   stopped-reads v k did = record { did = did; kept = λ x h. refl; many = turn .walked .given-many }
 
-  pub turn-full : length ws - used < 4
-      → FieldReads (w .all) (w .came) (w .given) (stoppedField (stopAt ListFull (st .place)) used (w .came) (w .given)) (w .list) ws
+  pub turn-full : length ws - used < 4 → CallReads w (stoppedCall w (stopAt ListFull (st .place)) used) ws
   unfolding refuse
   turn-full h =
       let p = turn .walked .part in
-      stopped-reads _ used (refused-part (read (env w) c) g p _ (w .came) (w .given) (read-full (env w) c _ (omega (arith, part-length p))))
+      let no-room : length (w .list) - used < 4 = omega (arith, part-length p) in
+      stopped-reads _ used (refused-part (read (env w) c) g p _ (w .came) (w .given) (read-full (env w) c _ no-room))
 
   turn-did : {went : Went} {n : ℕ} {st′ : State} {l′ : Slots} {ys : List ℕ} → length l′ ≡ slotCount
       → Did (read (env w) c (full st l (length (lent used ws)))) st went n st′ l′ (lent used ws) ys → Turned w g ws used ys went n st′ l′
@@ -188,13 +195,22 @@ module _ {w : Call} {c : Class} {g : Step} {ws : List ℕ} {used : ℕ} {st : St
 
 -- nothing is left of the walk
 pub walk-end : {w : Call} {m : Step} {ws : List ℕ} {used : ℕ} {st : State} {l : Slots} → Walked w m ws used st l
-    → ((s : Full) → m s ≡ go [] s)
-    → FieldReads (w .all) (w .came) (w .given) (record { went = On; used = used; state = st; slots = l }) (w .list) ws
+    → ((s : Full) → m s ≡ go [] s) → CallReads w (record { went = On; used = used; state = st; slots = l }) ws
 walk-end {w} h e = record {
   did = part-end (h .part) (w .came) e;
   kept = λ v off. let z : _≡_ {A = ℕ} 0 1 = cc in absurd (omega arith);
   many = h .many;
 }
+
+-- a walk of no classes
+pub members-end : (e : Env) (h : ℕ → Stood) (at n : ℕ) → n ≤ 0 → (s : Full) → readMembers e (membersAt h at n) s ≡ go [] s
+unfolding readMembers pass
+members-end e h at n k s = rw (no-member h at n k) refl
+
+pub no-times : (n : ℕ) (m : Step) → n ≤ 0 → (s : Full) → times n m s ≡ go [] s
+unfolding times pass
+no-times zero m h s = refl
+no-times (suc n) m h s = absurd (omega arith)
 
 -- slots past the sixty-four are none
 set-past : (l : Slots) (i : ℕ) (x : Slot) → length l ≤ i → set l i x ≡ l
@@ -211,7 +227,7 @@ get-past [] i x h = refl
 get-past (y ∷ l) zero x h = absurd (omega arith)
 get-past (y ∷ l) (suc i) x h = get-past l i x (omega arith)
 
-pub no-content : (l : Slots) (i : ℕ) → length l ≡ slotCount → slotCount ≤ i → slotAt l i ≡ Unset
+no-content : (l : Slots) (i : ℕ) → length l ≡ slotCount → slotCount ≤ i → slotAt l i ≡ Unset
 unfolding slotAt
 no-content l i n h = ap (λ x. x .content) (get-past l i _ (omega arith))
 
@@ -219,13 +235,3 @@ no-content l i n h = ap (λ x. x .content) (get-past l i _ (omega arith))
 pub content-met : (l : Slots) {i j : ℕ} {x : Content} {A B : Type 0} → length l ≡ slotCount → i ≡ j → (A → x ≡ slotAt l i)
     → (B → (slotCount ≤ i) × (x ≡ Unset)) → A ⊎ B → slotAt l j ≡ x
 content-met l {i} n e a b h = ap (slotAt l) (sym e) ∙ ⊎-elim (λ y. sym (a y)) (λ y. no-content l i n (b y .0) ∙ sym (b y .1)) h
-
--- a walk of no classes
-pub members-end : (e : Env) (h : ℕ → Stood) (at n : ℕ) → n ≤ 0 → (s : Full) → readMembers e (membersAt h at n) s ≡ go [] s
-unfolding readMembers pass
-members-end e h at n k s = rw (no-member h at n k) refl
-
-pub no-times : (n : ℕ) (m : Step) → n ≤ 0 → (s : Full) → times n m s ≡ go [] s
-unfolding times pass
-no-times zero m h s = refl
-no-times (suc n) m h s = absurd (omega arith)
