@@ -22,7 +22,7 @@ use Rattle.laws.specs.Kept.{RootKeeps}
 use Rattle.listing.specs.declared.State.{State}
 use Rattle.listing.specs.declared.Went.the-variants.{On, Stopped}
 use Rattle.listing.specs.Did.{Did, full, outOf}
-use Rattle.listing.proofs.Checks.{check-stops, check-goes, room-first, no-room-first}
+use Rattle.listing.proofs.Checks.{room-first}
 use Rattle.listing.proofs.Roles.{went-no-further}
 use Rattle.listing.proofs.Parts.{Part, part-last-on, part-last-stopped, back-room, lent, merged}
 use Rattle.classes.specs.declared.Found.{Found}
@@ -38,24 +38,12 @@ use Rattle.reader.specs.declared.Asking.{Asking}
 use Rattle.reader.specs.Ready.{classOf, RootStands, Ready, OfStream}
 use Rattle.reader.specs.Ran.{EventDid, stoppedRan, lastState}
 use Rattle.reader.specs.Event.{partsOf, bodyOf, PartStands}
-use Rattle.reader.proofs.Rooted.{class-placed}
+use Rattle.reader.proofs.Marks.{check-stop, check-on, due-stop, change-on}
+use Rattle.reader.proofs.Looked.{root-class, root-stands}
 
 -- a step that stopped with nothing listed
 pub nothing-did : (M : Step) (st : State) (l : Slots) (ws : List ℕ) (v : Stop) → M (full st l (length ws)) ≡ stop [] v → EventDid M st l (stoppedRan v 0 st) ws ws
 nothing-did M st l ws v e = record { slots = l; kept = refl; did = went-no-further _ st l v ws e }
-
--- a change of the state, and then m
-pub changed : (f : Full → Full) (m : Step) (s : Full) → (change f ⨾ m) s ≡ m (f s)
-unfolding _⨾_ after change
-changed f m s = onto-nil (m (f s))
-
-passed : (t : Full → Bool) (r : Refusal) (m : Step) (s : Full) → t s ≡ false → (check t r ⨾ m) s ≡ m s
-unfolding _⨾_ after
-passed t r m s h = ap (λ o. after o m) (check-goes t r s h) ∙ onto-nil (m s)
-
-halted : (t : Full → Bool) (r : Refusal) (m : Step) (s : Full) → t s ≡ true → (check t r ⨾ m) s ≡ refuse r s
-unfolding _⨾_ after refuse
-halted t r m s h = ap (λ o. after o m) (check-stops t r s h)
 
 module _ (a : Asked) (c : StreamClass) (e : Env) (st : State) (l : Slots) (room : ℕ) where
   abbrev Back : Bool → Type 0
@@ -63,11 +51,11 @@ module _ (a : Asked) (c : StreamClass) (e : Env) (st : State) (l : Slots) (room 
 
   pub body-back : Back true → bodyOf a c e (full st l room) ≡ stop [] (stopAt ClockWentBack (st .place))
   unfolding bodyOf refuse
-  body-back h = halted _ ClockWentBack _ (full st l room) h
+  body-back h = check-stop _ ClockWentBack _ (full st l room) h
 
   pub body-full : Back false → room < 4 → bodyOf a c e (full st l room) ≡ stop [] (stopAt ListFull (st .place))
   unfolding bodyOf refuse withLast
-  body-full h k = passed _ ClockWentBack _ (full st l room) h ∙ changed _ _ (full st l room) ∙ no-room-first _ (full (lastState st) l room) k
+  body-full h k = check-on _ ClockWentBack _ (full st l room) h ∙ change-on _ _ (full st l room) ∙ due-stop _ (full (lastState st) l room) k
 
   -- with room, what the lookup finds decides
   looked : Back false → 4 ≤ room
@@ -75,7 +63,7 @@ module _ (a : Asked) (c : StreamClass) (e : Env) (st : State) (l : Slots) (room 
       ≡ withEvent (c .id) (st .said .event) (a .event (c .id) (st .said .event))
       (λ d. mark eventClassFound 0 (st .said .event) ⨾ partsOf e (c .common) (d .specific) (d .payload)) (full (lastState st) l room)
   unfolding bodyOf withLast
-  looked h k = passed _ ClockWentBack _ (full st l room) h ∙ changed _ _ (full st l room) ∙ room-first _ (full (lastState st) l room) k
+  looked h k = check-on _ ClockWentBack _ (full st l room) h ∙ change-on _ _ (full st l room) ∙ room-first _ (full (lastState st) l room) k
 
   pub body-unknown : Back false → 4 ≤ room → a .event (c .id) (st .said .event) ≡ none
       → bodyOf a c e (full st l room) ≡ stop [] (stopAt (EventClassUnknown (c .id) (st .said .event)) (st .place))
@@ -127,20 +115,13 @@ module _ (t : List ℕ) (x : Notes) (w : Asking) (j : ℕ) (ready : Ready t x) (
     pub event-stands : SizedFragment t (x .sizes) p
     event-stands = first-holds (SizedFragment t (x .sizes)) (isEvent t (w .id) j) (fragmentsOf t) p (found-some _ p e) (ready .noted .sized .each) .1
 
-    root-stands : (i : ℕ) → RootStands t (foundOf (rootPlace t p i))
-    root-stands i = by (rootPlace t p i) refl
-      where
-        by : (o : Option ℕ) → rootPlace t p i ≡ o → RootStands t (foundOf o)
-        by none h = unfold foundOf RootStands in tt
-        by (some q) h = unfold foundOf RootStands in event-stands .stands .roots i q h
-
     pub specific-stands : PartStands t (foundOf (rootPlace t p 0))
     unfolding eventClassAt
-    specific-stands = record { stands = root-stands 0; keeps = rw (class-placed t p 0) (ready .keeps .specific (Class .id) j (eventClassAt t p) event-found) }
+    specific-stands = record { stands = root-stands t p 0 (foundOf (rootPlace t p 0)) (event-stands .stands) refl; keeps = rw (root-class t p 0 (foundOf (rootPlace t p 0)) refl) (ready .keeps .specific (Class .id) j (eventClassAt t p) event-found) }
 
     pub payload-stands : PartStands t (foundOf (rootPlace t p 1))
     unfolding eventClassAt
-    payload-stands = record { stands = root-stands 1; keeps = rw (class-placed t p 1) (ready .keeps .payload (Class .id) j (eventClassAt t p) event-found) }
+    payload-stands = record { stands = root-stands t p 1 (foundOf (rootPlace t p 1)) (event-stands .stands) refl; keeps = rw (root-class t p 1 (foundOf (rootPlace t p 1)) refl) (ready .keeps .payload (Class .id) j (eventClassAt t p) event-found) }
 
   pub common-stands : PartStands t (w .common)
   common-stands = record { stands = of .commonStands; keeps = rw (of .common) (ready .keeps .common (w .id) Class (of .found)) }
@@ -156,7 +137,7 @@ module _ (t : List ℕ) (x : Notes) (w : Asking) (j : ℕ) (ready : Ready t x) (
       ∙ ap (λ m. (mark eventClassFound 0 (st .said .event) ⨾ m) (full (lastState st) l room)) same
     where
       same : partsOf e (Class .common) ((eventClassAt t p) .specific) ((eventClassAt t p) .payload) ≡ partsOf e (classOf t (w .common)) (classOf t specific) (classOf t payload)
-      same = unfold eventClassAt in rw (h, k, class-placed t p 0, class-placed t p 1, of .common) refl
+      same = unfold eventClassAt in rw (h, k, root-class t p 0 (foundOf (rootPlace t p 0)) refl, root-class t p 1 (foundOf (rootPlace t p 1)) refl, of .common) refl
 
   pub back-is : (st : State) (r b : Bool) → r ≡ (w .timed && ltb (st .clock .value) (st .last)) → r ≡ b
       → (Class .timed && ltb (st .clock .value) (st .last)) ≡ b

@@ -38,9 +38,8 @@ use Rattle.reader.specs.Ready.{classOf, Ready, OfStream}
 use Rattle.reader.specs.declared.Ran.{Ran}
 use Rattle.reader.specs.Ran.{EventDid, stoppedRan, startState}
 use Rattle.reader.specs.Event.{partsOf, bodyOf}
-use Rattle.reader.proofs.Steps.{part-same}
+use Rattle.reader.proofs.Marks.{part-same, change-on}
 use Rattle.reader.proofs.Parted.{Parted}
-use Rattle.reader.proofs.Bodies.{changed}
 
 -- steps in a row, however they are bracketed
 seq-same : (m g g′ : Step) (s : Full) → ((s : Full) → g s ≡ g′ s) → (m ⨾ g) s ≡ (m ⨾ g′) s
@@ -119,7 +118,7 @@ module _ (a : Asked) (c : StreamClass) (b u : List ℕ) (f : Frame) (n : ℕ) (s
   started = record {
     framed = framed;
     kept = unset-again l many;
-    part = part-same _ (behindStart a c (envOf b u f) st) listed-part (changed startEvent _ (full st l (length ws - 4)));
+    part = part-same _ (behindStart a c (envOf b u f) st) (change-on startEvent _ (full st l (length ws - 4))) listed-part;
   }
 
 -- the body, and then g

@@ -20,7 +20,7 @@ use Rattle.listing.specs.declared.State.{State}
 use Rattle.listing.specs.declared.Went.{Went}
 use Rattle.listing.specs.declared.Went.the-variants.{On, Stopped}
 use Rattle.listing.specs.Did.{Did, full, outOf}
-use Rattle.listing.proofs.Checks.{check-stops, check-goes, room-first, no-room-first}
+use Rattle.listing.proofs.Checks.{check-stops, check-goes, no-room-first}
 use Rattle.listing.proofs.Parts.{Part, part-last-on, part-last-stopped, back-room, lent, merged}
 use Rattle.reader.specs.declared.Ran.{Ran}
 use Rattle.reader.specs.Ran.{RanDid, stoppedRan}
@@ -38,9 +38,6 @@ check-on q r m s h = ap (λ o. after o m) (check-goes q r s h) ∙ onto-nil (m s
 pub due-stop : (m : Step) (s : Whole) → s .room < 4 → (due ⨾ m) s ≡ stop [] (stopAt ListFull (s .place))
 unfolding refuse
 due-stop m s h = no-room-first m s h
-
-pub due-on : (m : Step) (s : Whole) → 4 ≤ s .room → (due ⨾ m) s ≡ m s
-due-on m s h = room-first m s h
 
 -- the state behind an entry at the place
 abbrev pub less : Whole → Whole

@@ -26,25 +26,12 @@ use Rattle.laws.proofs.Law.{Any, FitRoot, law-root}
 use Rattle.laws.proofs.Triple.{Ok}
 use Rattle.laws.proofs.Between.{In, At, NoMore, Kept, Held, held-law}
 use Rattle.reader.specs.Pieces.{packetEnv, behindFound, behindHeader}
-use Rattle.reader.proofs.Marks.{due-stop, due-on, less}
+use Rattle.reader.proofs.Moving.{Onward, onward-onto, onward-after}
+use Rattle.listing.proofs.Checks.{room-first}
+use Rattle.reader.proofs.Marks.{due-stop, less}
 use Rattle.reader.proofs.Packeted.{contradicts, eventsOf, behindStart, content-full, content-lengths, content-clocks, content-marked, header-differs, header-full, header-unknown, header-marked, packet-full, packet-marked}
 use Rattle.reader.proofs.Running.{Lengths, lengths}
 use Rattle.reader.proofs.Fitted.{Positive, Fit}
-
--- what holds of the state where an outcome goes on
-abbrev pub Onward : (State → Type 0) → Out → Type 0
-Onward B (stop es v) = Unit {0}
-Onward B (go es s) = B s
-
-onward-onto : (B : State → Type 0) (es : List Entry) (o : Out) → Onward B o → Onward B (onto es o)
-unfolding onto
-onward-onto B es (stop fs v) h = tt
-onward-onto B es (go fs s) h = h
-
-onward-after : (A B : State → Type 0) (o : Out) (n : Step) → Onward A o → ((s : State) → A s → Onward B (n s)) → Onward B (after o n)
-unfolding after
-onward-after A B (stop es v) n h k = tt
-onward-after A B (go es s) n h k = onward-onto B es (n s) (k s h)
 
 -- no length is stated, or the place is behind the packet's start
 abbrev Moved : Env → ℕ → Said → Type 0
@@ -78,7 +65,7 @@ end-at to n s = by (ltb (s .room) 4) refl
   where
     by : (x : Bool) → ltb (s .room) 4 ≡ x → Onward (λ s. s .place ≡ to) (endPacket to n s)
     by true e = subst (Onward (λ s. s .place ≡ to)) (sym (due-stop _ s (ltb-true _ _ e))) tt
-    by false e = subst (Onward (λ s. s .place ≡ to)) (sym (due-on _ s (ltb-false _ _ e))) refl
+    by false e = subst (Onward (λ s. s .place ≡ to)) (sym (room-first _ s (ltb-false _ _ e))) refl
 
 events-at : (t : Asked) (c : StreamClass) (e : Env) (to : BitPlace) (left n : ℕ) (s : State) → Onward (λ s. s .place ≡ to) (readEvents t c e to n left s)
 unfolding readEvents _⨾_

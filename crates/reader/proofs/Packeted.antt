@@ -16,7 +16,8 @@ use Rattle.rules.specs.Step.{State as Whole, stop, Step, onto, _⨾_, refuse}
 use Rattle.rules.specs.Table.{StreamClass, Asked}
 use Rattle.rules.specs.Packet.{mark, readRoot, readEvents, readContent, readPacket, above, differs, withStream, startPacket}
 use Rattle.reader.specs.Pieces.{packetEnv, behindFound, behindHeader}
-use Rattle.reader.proofs.Marks.{check-stop, check-on, due-stop, due-on, mark-on, change-on, less}
+use Rattle.listing.proofs.Checks.{room-first}
+use Rattle.reader.proofs.Marks.{check-stop, check-on, due-stop, mark-on, change-on, less}
 
 -- 34, as the rules put it and with the stream's end for a place
 abbrev pub contradicts : ℕ → ℕ → BitPlace → BitPlace → ℕ → Bool
@@ -34,18 +35,18 @@ module _ (t : Asked) (c : StreamClass) (b : List ℕ) (p : BitPlace) (total cont
     pub content-lengths : contradicts total content p (s .place) (8 * length b) ≡ true
         → readContent t c b p total content s ≡ stop [] (stopAt LengthsContradict (s .place))
     unfolding readContent
-    content-lengths h = due-on _ s room ∙ check-stop _ LengthsContradict _ s h
+    content-lengths h = room-first _ s room ∙ check-stop _ LengthsContradict _ s h
 
     module _ (fine : contradicts total content p (s .place) (8 * length b) ≡ false) where
       pub content-clocks : above (s .clock) (s .said .ending) ≡ true → readContent t c b p total content s ≡ stop [] (stopAt ClocksContradict (s .place))
       unfolding readContent
-      content-clocks h = due-on _ s room ∙ check-on _ LengthsContradict _ s fine ∙ check-stop _ ClocksContradict _ s h
+      content-clocks h = room-first _ s room ∙ check-on _ LengthsContradict _ s fine ∙ check-stop _ ClocksContradict _ s h
 
       pub content-marked : above (s .clock) (s .said .ending) ≡ false
           → readContent t c b p total content s ≡ onto (entry lengthsSettled (s .place) total content ∷ []) (eventsOf (less s))
       unfolding readContent
       content-marked h =
-          due-on _ s room ∙ check-on _ LengthsContradict _ s fine ∙ check-on _ ClocksContradict _ s h ∙ mark-on lengthsSettled total content _ s
+          room-first _ s room ∙ check-on _ LengthsContradict _ s fine ∙ check-on _ ClocksContradict _ s h ∙ mark-on lengthsSettled total content _ s
 
 module _ (t : Asked) (b : List ℕ) (p : BitPlace) (i : Stated) (s : Whole) where
   pub header-differs : differs (s .said .stream) i ≡ true → behindHeader t b p i s ≡ stop [] (stopAt StreamClassChanged (s .place))
@@ -60,13 +61,13 @@ module _ (t : Asked) (b : List ℕ) (p : BitPlace) (i : Stated) (s : Whole) wher
     module _ (room : 4 ≤ s .room) where
       pub header-unknown : t .stream (s .said .stream) ≡ none → behindHeader t b p i s ≡ stop [] (stopAt (StreamClassUnknown (s .said .stream)) (s .place))
       unfolding behindHeader withStream refuse
-      header-unknown h = check-on _ StreamClassChanged _ s same ∙ due-on _ s room
+      header-unknown h = check-on _ StreamClassChanged _ s same ∙ room-first _ s room
           ∙ ap (λ x. withStream (s .said .stream) x (λ c. mark streamClassFound 0 (s .said .stream) ⨾ behindFound t b p c) s) h
 
       pub header-marked : (c : StreamClass) → t .stream (s .said .stream) ≡ some c
           → behindHeader t b p i s ≡ onto (entry streamClassFound (s .place) 0 (s .said .stream) ∷ []) (behindFound t b p c (less s))
       unfolding behindHeader withStream
-      header-marked c h = check-on _ StreamClassChanged _ s same ∙ due-on _ s room
+      header-marked c h = check-on _ StreamClassChanged _ s same ∙ room-first _ s room
           ∙ ap (λ x. withStream (s .said .stream) x (λ c. mark streamClassFound 0 (s .said .stream) ⨾ behindFound t b p c) s) h
           ∙ mark-on streamClassFound 0 (s .said .stream) _ s
 
@@ -80,4 +81,4 @@ module _ (t : Asked) (b : List ℕ) (k : ℕ) (i : Stated) (s : Whole) where
 
   pub packet-marked : 4 ≤ s .room → readPacket t b k i s ≡ onto (entry packetStarts (s .place) 0 k ∷ []) (behindStart (startPacket (less s)))
   unfolding readPacket behindHeader behindFound
-  packet-marked h = due-on _ s h ∙ mark-on packetStarts 0 k _ s ∙ ap (onto (entry packetStarts (s .place) 0 k ∷ [])) (change-on startPacket _ (less s))
+  packet-marked h = room-first _ s h ∙ mark-on packetStarts 0 k _ s ∙ ap (onto (entry packetStarts (s .place) 0 k ∷ [])) (change-on startPacket _ (less s))

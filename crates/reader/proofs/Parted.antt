@@ -46,9 +46,6 @@ module _ (b u : List ℕ) (f : Frame) (c : Option Class) (l : Slots) {st st′ :
       let p = root-between (envOf b u f) c (full st l (length ws)) (did .listed) (full st′ l′ (length ws - n)) (h .begun) (h .within) went-on in
       record { whole = h .whole; begun = omega (arith, p .0, h .begun); within = p .1; ends = h .ends; small = h .small }
 
-  pub root-onward : Framed b f (st .place) → st .place .0 ≤ st′ .place .0
-  root-onward h = root-between (envOf b u f) c (full st l (length ws)) (did .listed) (full st′ l′ (length ws - n)) (h .begun) (h .within) went-on .0
-
   pub root-kept : RootKeeps c → packetSlots l′ ≡ packetSlots l
   root-kept k = k (envOf b u f) (full st l (length ws)) (did .listed) (full st′ l′ (length ws - n)) went-on
 

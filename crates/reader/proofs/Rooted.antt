@@ -3,7 +3,6 @@ use mathlib.Core.Path.{_≡_, refl, sym, _∙_}
 use Prim.Native.Nat.{ℕ, _-_}
 use native.Mathlib.Omega.{arith}
 use mathlib.Core.List.{List, []}
-use mathlib.Core.Option.{none, some}
 use lib.ListN.{length}
 use Rattle.rules.specs.Limits.{slotCount, depthLimit}
 use Rattle.rules.specs.Slots.{Slots}
@@ -18,8 +17,6 @@ use Rattle.listing.specs.Did.{Did, full, outOf}
 use Rattle.classes.specs.declared.Found.{Found}
 use Rattle.classes.specs.declared.Found.the-variants.{At, Nothing}
 use Rattle.classes.specs.Trees.{stoodAt, classAt, membersAt, whole, wholeMembers}
-use Rattle.classes.specs.Fragments.{mapOption, rootPlace, rootClass}
-use Rattle.classes.specs.Sizes.{foundOf}
 use Rattle.fields.specs.declared.Field.{Field}
 use Rattle.fields.specs.Reads.{FieldReads}
 use Rattle.reader.specs.Ready.{classOf, RootStands}
@@ -55,12 +52,3 @@ module _ (t : List ℕ) (root : Found) where
     pub a-root : (p : ℕ) {r : Field} {ws ws′ : List ℕ} → root ≡ At p → FieldReads (readMembers e (membersAt (stoodAt depthLimit t) p 1)) st l r ws ws′
         → FieldReads (readRoot e (classOf t root)) st l r ws ws′
     a-root p {r} {ws} {ws′} h did = record { did = rw (root-reads p h (full st l (length ws))) at (did .did); kept = did .kept; many = did .many }
-
--- the class of the root that stands at a place
-pub class-placed : (t : List ℕ) (o i : ℕ) → classOf t (foundOf (rootPlace t o i)) ≡ rootClass t o i
-unfolding rootClass
-class-placed t o i = by (rootPlace t o i)
-  where
-    by : (x : _) → classOf t (foundOf x) ≡ mapOption (classAt depthLimit t) x
-    by none = unfold foundOf classOf mapOption in refl
-    by (some p) = unfold foundOf classOf mapOption in refl

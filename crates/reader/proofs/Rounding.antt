@@ -29,8 +29,7 @@ use Rattle.listing.proofs.Roles.{went-listing}
 use Rattle.listing.proofs.Parts.{Part, part-start, part-step, part-stop, part-last-on, part-length, back-room, lent, merged, lent-room}
 use Rattle.reader.specs.declared.Ran.{Ran}
 use Rattle.reader.specs.Ran.{RanDid, EventDid, stoppedRan, startState, atPlace}
-use Rattle.reader.proofs.Steps.{part-same}
-use Rattle.reader.proofs.Bodies.{changed}
+use Rattle.reader.proofs.Marks.{part-same, change-on}
 use Rattle.reader.proofs.Evented.{behindStart, event-full, event-starts, left-stops}
 use Rattle.reader.proofs.Moving.{event-moves, onward-out, Moved}
 
@@ -94,7 +93,7 @@ module _ (a : Asked) (c : StreamClass) (b u : List ℕ) (f : Frame) (to : BitPla
       behind : (l : Slots) → 4 ≤ room
           → readEvent a c e n (full st l room) ≡ onto (entry 4 (st .place) 0 n ∷ []) (behindStart a c e st (full (startState st) (packetSlots l) (room - 4)))
       behind l k = unfold _⨾_ after mark listed startEvent in
-          event-starts a c e n st l room k ∙ ap (onto (entry 4 (st .place) 0 n ∷ [])) (changed startEvent (behindStart a c e st) (full st l (room - 4)))
+          event-starts a c e n st l room k ∙ ap (onto (entry 4 (st .place) 0 n ∷ [])) (change-on startEvent (behindStart a c e st) (full st l (room - 4)))
 
       by : (x : Bool) → ltb room 4 ≡ x → readEvent a c e n (full st l room) ≡ readEvent a c e n (full st l′ room)
       by true k = event-full a c e n st l room (ltb-true room 4 k) ∙ sym (event-full a c e n st l′ room (ltb-true room 4 k))
@@ -110,7 +109,7 @@ module _ (a : Asked) (c : StreamClass) (b u : List ℕ) (f : Frame) (to : BitPla
       Rest = readEvents a c (envOf b u f) to (n + 1) (w .left - 1)
 
       turn : Part o (readEvent a c (envOf b u f) n ⨾ Rest) ws₀ ws used st (w .slots)
-      turn = part-same _ (readEvent a c (envOf b u f) n ⨾ Rest) (w .part) (again (w .left) (w .enough))
+      turn = part-same _ (readEvent a c (envOf b u f) n ⨾ Rest) (again (w .left) (w .enough)) (w .part)
         where
           again : (left : ℕ) → f .bound .0 ≤ st .place .0 + left
               → readEvents a c (envOf b u f) to n left (full st (w .slots) (length ws₀ - used))
@@ -152,7 +151,7 @@ module _ (a : Asked) (c : StreamClass) (b u : List ℕ) (f : Frame) (to : BitPla
     -- the events end
     module _ (reached : f .bound .0 ≤ st .place .0) where
       last : Part o (endPacket to n) ws₀ ws used st (w .slots)
-      last = part-same _ (endPacket to n) (w .part) (round-off a c (envOf b u f) to n (full st (w .slots) (length ws₀ - used)) (w .left) reached)
+      last = part-same _ (endPacket to n) (round-off a c (envOf b u f) to n (full st (w .slots) (length ws₀ - used)) (w .left) reached) (w .part)
 
       pub end-full : (came : State) → length ws - used < 4 → RanDid o came (stoppedRan (stopAt ListFull (st .place)) used came) ws₀ ws
       unfolding endPacket refuse onto outOf

@@ -22,7 +22,8 @@ use Rattle.reader.specs.Ran.{RanDid, stoppedRan}
 use Rattle.reader.specs.Pieces.{firstState, Starts, PacketDid}
 use Rattle.reader.proofs.Marks.{part-same}
 use Rattle.reader.proofs.Fitted.{Fit}
-use Rattle.reader.proofs.Onward.{Onward, Behind, packet-onward}
+use Rattle.reader.proofs.Moving.{Onward}
+use Rattle.reader.proofs.Onward.{Behind, packet-onward}
 
 module _ (t : Asked) (b : List ℕ) (k : ℕ) (i : Stated) where
   abbrev next : ℕ → Step

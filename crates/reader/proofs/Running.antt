@@ -39,20 +39,9 @@ use Rattle.fields.specs.Reads.{FieldReads}
 use Rattle.reader.specs.Ready.{classOf}
 use Rattle.reader.specs.Ran.{RanDid, stoppedRan}
 use Rattle.reader.specs.Pieces.{wholeFrame, packetEnv, behindFound, behindHeader, freshState, Lent, Starts}
+use Rattle.reader.proofs.Parted.{root-framed}
 use Rattle.reader.proofs.Marks.{refused-ran, marked-part, part-same, part-first, first-stopped}
 use Rattle.reader.proofs.Packeted.{contradicts, content-full, content-lengths, content-clocks, content-marked, header-differs, header-full, header-unknown, header-marked, packet-full, packet-marked}
-
--- A root that went on ends within the bound
-pub root-framed : (b u : List ℕ) (f : Frame) (c : Option Class) (l : Slots) {st st′ : State} {l′ : Slots} {n : ℕ} {ws ys : List ℕ} {went : Went}
-    → Framed b f (st .place) → went ≡ On → Did (readRoot (envOf b u f) c (full st l (length ws))) st went n st′ l′ ws ys → Framed b f (st′ .place)
-unfolding outOf readRoot pass
-root-framed b u f none l {st} {st′} {l′} {n} {ws} h on did =
-    let e : go [] (full st l (length ws)) ≡ go (did .listed) (full st′ l′ (length ws - n)) = did .out ∙ rw (on) refl in
-    let p : st .place ≡ st′ .place = ap (λ o. elim o [ stop es v ↦ st .place | go es s ↦ s .place ]) e in
-    rw (← p) h
-root-framed b u f (some c) l {st} {st′} {l′} {n} {ws} h on did =
-    let between = read-between (envOf b u f) c (full st l (length ws)) (did .listed) (full st′ l′ (length ws - n)) (h .begun) (h .within) (did .out ∙ rw (on) refl) in
-    record { whole = h .whole; begun = omega (arith, between .0, h .begun); within = between .1; ends = h .ends; small = h .small }
 
 -- where a packet starts, up to the stream's end
 pub start-framed : (b : List ℕ) (p : BitPlace) → length b ≤ streamLimit → Starts b p → Framed b (wholeFrame b p) p
@@ -161,7 +150,7 @@ module _ (t b : List ℕ) (p : BitPlace) (class : ℕ) (st : State) (l : Slots) 
   context = rw (v, e, k) at (d .did)
 
   pub context-framed : Framed b (wholeFrame b p) (st .place) → r .went ≡ On → Framed b (wholeFrame b p) (r .state .place)
-  context-framed h on = root-framed b ((askedAt t) .uuid) (wholeFrame b p) ((streamClassAt t class) .context) l h on context
+  context-framed h on = root-framed b ((askedAt t) .uuid) (wholeFrame b p) ((streamClassAt t class) .context) l on context h
 
   pub context-stopped : (w : Stop) → r .went ≡ Stopped w → RanDid Founded st (stoppedRan w (r .used) st) ws ys
   unfolding behindFound
@@ -188,7 +177,7 @@ module _ (t : List ℕ) (x : Notes) (u b : List ℕ) (h : Found) (given : Lent t
     module _ {r : Field} {ys : List ℕ} (d : FieldReads (readRoot (envOf b u f) (classOf t h)) begun none r (lent 4 ws₁) ys) where
       pub header-framed : Starts b (st .place) → r .went ≡ On → Framed b (wholeFrame b (st .place)) (r .state .place)
       unfolding freshState
-      header-framed q on = rw (e) at (root-framed b u f (classOf t h) none (rw (e, j) (start-framed b (st .place) (given .small) q)) on (d .did))
+      header-framed q on = rw (e) at (root-framed b u f (classOf t h) none on (d .did) (rw (e, j) (start-framed b (st .place) (given .small) q)))
 
       pub header-stopped : (l : Slots) (v : Stop) → r .went ≡ Stopped v
           → RanDid (readPacket (askedAt t) b k i (full st l (length ws))) st (stoppedRan v (4 + r .used) st) ws (merged 4 ws₁ ys)

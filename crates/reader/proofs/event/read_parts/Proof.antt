@@ -16,7 +16,7 @@ use Rattle.finding.specs.Framed.{envOf}
 use Rattle.listing.proofs.Parts.{part-length, merged}
 use Rattle.reader.specs.Ready.{classOf}
 use Rattle.reader.specs.Event.{partsOf}
-use Rattle.reader.proofs.Parted.{Parted, root-framed, first-stops, first-goes, root-room, root-stops, root-goes, last-room, last-stops, last-goes}
+use Rattle.reader.proofs.Parted.{Parted, first-stops, first-goes, root-room, root-stops, root-goes, last-room, last-stops, last-goes}
 
 read-root-requires : tie.Need-read-root-requires
 read-root-requires c κs = let p = c .before .before .before .before .before .before .before .pre in (p .0 .0 .stands, (p .1 .0, p .1 .1))
