@@ -106,10 +106,6 @@ module _ (t : List ℕ) (at k : ℕ) (e : u8 t at ≡ k) (w : whole 1 t at) wher
   unfolding whole
   record-there = rw (e) at (w .there)
 
-  pub record-parts : wholeIn (whole 0 t) (stoodAt 0 t) t at (shapeOf k)
-  unfolding whole
-  record-parts = rw (e) at (w .parts)
-
 -- kinds 26 and 27 have a byte behind their kind
 pub slot-there : (t : List ℕ) (at : ℕ) → whole 1 t at → u8 t at < 28 → 26 ≤ u8 t at → at + 2 ≤ length t
 unfolding shapeOf shapes recordSize

@@ -58,10 +58,6 @@ module _ (f : Frame) (from p : BitPlace) (e : p ≡ alignedAt f 8 from) where
   unfolding alignedAt alignFrom
   aligned-whole whole = rw (e) (omega (arith, aligning .is-least 8 (from .0 - f .start .0) (omega arith) .multiple))
 
-  pub aligned-near : f .start .0 ≤ from .0 → (from .0 ≤ p .0) × (p .0 < from .0 + 8)
-  unfolding alignedAt
-  aligned-near l = rw (e) (aligning .near (f .start .0) 8 (from .0) (omega arith) l)
-
   pub blob-past : (n : ℕ) → f .bound .0 < p .0 → Refused PastBound ≡ foundBlob f from n
   unfolding foundBlob
   blob-past n past = rw (← e) (sym (within-past f p 0 _ (omega arith)))

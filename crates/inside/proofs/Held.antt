@@ -1,4 +1,4 @@
--- What is told of a field can be read on: the classes that it holds stand whole, its place lies in the packet, and its counts are short.
+-- What is told of a field can be read on: the classes that it holds stand whole, and its place lies in the packet.
 use mathlib.Core.Path.{_≡_, refl}
 use Prim.Native.Nat.{ℕ, zero, suc, _+_, _^_, _≤_, _<_}
 use native.Mathlib.Omega.{arith}
@@ -15,7 +15,6 @@ use Rattle.rules.specs.declared.Refusal.{Refusal}
 use Rattle.rules.specs.Limits.{lengthLimit}
 use Rattle.rules.specs.Record.{u8, u16}
 use Rattle.rules.specs.Class.{Sign, Range, anyHolds}
-use Rattle.facts.specs.Bytes.{Bytes}
 use Rattle.places.proofs.Multiple.{align-near}
 use Rattle.finding.specs.declared.Frame.{Frame}
 use Rattle.finding.specs.Framed.{Framed}
@@ -31,10 +30,9 @@ use Rattle.inside.specs.declared.look.Inside.{Inside}
 use Rattle.inside.specs.declared.look.Inside.the-variants.{Members, Elements, Refused}
 use Rattle.inside.specs.Choice.{numberOf, byNumber, presentAt, byFlag, byRanges, optionalClass, optionalAt, optionFrom, variantIn}
 use Rattle.inside.specs.Inside.{within, standing, byLength, optionalInside, variantInside, bitsNoted, insideIn, insideOf}
-use Rattle.inside.specs.Held.{Placed, HeldMembers, HeldElements, Held, Short}
+use Rattle.inside.specs.Held.{Placed, HeldMembers, HeldElements, Held}
 use Rattle.inside.proofs.Holders.{five}
 use Rattle.inside.proofs.Opened.{variant-noted}
-use Rattle.bytes.proofs.Eight.{two}
 
 -- A place
 
@@ -47,10 +45,6 @@ unfolding alignedAt
 placed-aligned f from a l h =
     let n = align-near (f .start .0) (2 ^ a) (from .0) (pow-pos a) l in
     record { begun = omega (arith, n .0); within = h; onward = n .0 }
-
-u8-short : (t : List ℕ) → Bytes t → (i : ℕ) → u8 t i ≤ lengthLimit
-unfolding u8
-u8-short t bytes i = omega (arith, bytes i)
 
 -- What holds of all that may be told holds of what is told; P is that, and a refusal has it
 
@@ -145,33 +139,3 @@ module _ (b : List ℕ) (f : Frame) (d : ℕ) (t : List ℕ) (x : Notes) (at : �
 
       here : Placed f from from
       here = placed-here f from (framed .begun) (framed .within)
-
-  pub members-whole : {p : BitPlace} {v first n : ℕ} → whole (suc d) t at → 28 ≤ u8 t at → Framed b f from → Prepared t x
-      → insideOf t x at f from c ≡ Members p v first n → HeldMembers d t f from p first n
-  unfolding Held
-  members-whole w k framed ready e = rw e at (inside-whole w k framed ready)
-
-  pub elements-whole : {p : BitPlace} {v first n : ℕ} → whole (suc d) t at → 28 ≤ u8 t at → Framed b f from → Prepared t x
-      → insideOf t x at f from c ≡ Elements p v first n → HeldElements d t f from p first
-  unfolding Held
-  elements-whole w k framed ready e = rw e at (inside-whole w k framed ready)
-
-  -- of a table of bytes
-  pub inside-short : Bytes t → whole (suc d) t at → 28 ≤ u8 t at → Prepared t x → Short (insideOf t x at f from c)
-  unfolding whole insideOf insideIn wholeIn recordSize shapeOf shapes optionalAt Short
-  inside-short bytes w k ready =
-      five (Has Short)
-      (λ p l. standing-has Short (λ r. tt) f _ from _ (λ h. (byte (at + 1), byte (at + 1))))
-      (λ p l. standing-has Short (λ r. tt) f _ from _ (λ h. (word l, word l)))
-      (λ p l. length-has Short (λ r. tt) c _ (λ n u. standing-has Short (λ r. tt) f _ from _ (λ h. (u, u))))
-      (λ p l. optional-has Short (λ r. tt) from at (optionalClass t at) (omega arith, omega arith) (omega arith, omega arith) c
-      (signAt t (at + 3)) (rangesAt t (at + 3) (u8 t (at + 2))))
-      (λ p l. rw (variant-noted d t x at c ready (p .1))
-      (variant-has Short (λ r. tt) from (whole d t) (stoodAt d t) t at c (p .1) (λ class i u h. (omega (arith, byte (at + 2)), omega arith))))
-      (u8 t at) k (w .high) (w .parts) (w .there)
-    where
-      byte : (i : ℕ) → u8 t i ≤ lengthLimit
-      byte i = u8-short t bytes i
-
-      word : at + 4 ≤ length t → u16 t (at + 1) ≤ lengthLimit
-      word l = omega (arith, two t (at + 1) (omega arith), bytes (at + 1), bytes (at + 1 + 1))

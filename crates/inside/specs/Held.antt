@@ -2,7 +2,6 @@
 use Prim.Native.Nat.{ℕ, _≤_}
 use mathlib.Core.List.{List}
 use Rattle.rules.specs.declared.BitPlace.{BitPlace}
-use Rattle.rules.specs.Limits.{lengthLimit}
 use Rattle.finding.specs.declared.Frame.{Frame}
 use Rattle.classes.specs.Trees.{stoodAt, wholeMembers, whole}
 use Rattle.inside.specs.declared.look.Inside.{Inside}
@@ -26,9 +25,3 @@ unfoldable pub Held : ℕ → List ℕ → Frame → BitPlace → Inside → Typ
 Held d t f from (Members p v at n) = HeldMembers d t f from p at n
 Held d t f from (Elements p v at n) = HeldElements d t f from p at
 Held d t f from (Refused r) = Unit {0}
-
--- counts and values of 16 bits
-unfoldable pub Short : Inside → Type 0
-Short (Members p v at n) = (v ≤ lengthLimit) × (n ≤ lengthLimit)
-Short (Elements p v at n) = (v ≤ lengthLimit) × (n ≤ lengthLimit)
-Short (Refused r) = Unit {0}

@@ -254,13 +254,3 @@ module _ (e : Env) where
       → e .start .0 ≤ s .place .0 → s .place .0 ≤ e .bound .0 → read e c s ≡ go es s′
       → (s .place .0 ≤ s′ .place .0) × (s′ .place .0 ≤ e .bound .0)
   read-between c = went (read e c) (λ q. law-read e (from-law q) c (fits Any Any Any (λ n. tt) (λ n. tt) (λ n. tt) c))
-
-  pub members-between : (cs : Classes) (s : State) (es : List Entry) (s′ : State)
-      → e .start .0 ≤ s .place .0 → s .place .0 ≤ e .bound .0 → readMembers e cs s ≡ go es s′
-      → (s .place .0 ≤ s′ .place .0) × (s′ .place .0 ≤ e .bound .0)
-  members-between cs = went (readMembers e cs) (λ q. law-members e (from-law q) cs (fitMembers Any Any Any (λ n. tt) (λ n. tt) (λ n. tt) cs))
-
-  pub times-between : (n : ℕ) (c : Class) (s : State) (es : List Entry) (s′ : State)
-      → e .start .0 ≤ s .place .0 → s .place .0 ≤ e .bound .0 → times n (read e c) s ≡ go es s′
-      → (s .place .0 ≤ s′ .place .0) × (s′ .place .0 ≤ e .bound .0)
-  times-between n c = went (times n (read e c)) (λ q. law-times e (from-law q) n (law-read e (from-law q) c (fits Any Any Any (λ n. tt) (λ n. tt) (λ n. tt) c)))
