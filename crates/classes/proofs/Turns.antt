@@ -11,7 +11,7 @@ use Rattle.rules.specs.Limits.{depthLimit}
 use Rattle.rules.specs.Record.{u8}
 use Rattle.facts.proofs.Numbers.{lt-or-ge}
 use Rattle.classes.specs.declared.Found.the-variants.{At, Nothing}
-use Rattle.classes.specs.declared.roots.Opening.{Opening}
+use Rattle.classes.specs.declared.openings.Opening.{Opening}
 use Rattle.classes.specs.Trees.{nextAt, whole}
 use Rattle.classes.specs.Fragments.{rootHere, rootPlaces, behindRoots, rootPlace, behindFragment, Fragment}
 use Rattle.classes.specs.Sizes.{foundOf, SizedRoots, SizedFragment, numbered, Opens, behindRoot, SizedRoot}

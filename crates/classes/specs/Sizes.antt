@@ -10,7 +10,7 @@ use Rattle.rules.specs.Record.{u8}
 use Rattle.rules.specs.Limits.{tableLimit, depthLimit}
 use Rattle.classes.specs.declared.Found.{Found}
 use Rattle.classes.specs.declared.Found.the-variants.{At, Nothing}
-use Rattle.classes.specs.declared.roots.Opening.{Opening}
+use Rattle.classes.specs.declared.openings.Opening.{Opening}
 use Rattle.classes.specs.Trees.{nextAt}
 use Rattle.classes.specs.Fragments.{openingSize, rootsOf, rootHere, behindFragment, fragmentsOf, rootPlace, Fragment, All}
 

@@ -1,13 +1,13 @@
 // What an accepted class table gives a reading: where each class stands whole (specs/Trees), where the fragments and their roots do
 // (specs/Fragments), what is noted of them once (specs/Notes), and that these are the rules' own (proofs). Here are the types that code
-// shares with these definitions, and the bytes of a class record. In roots: where a fragment's roots stand.
+// shares with these definitions, and the bytes of a class record. In openings: where a fragment's roots stand.
 use offsets::Body;
 use records::bodies::body_of;
 ghost use mathlib.Core.Path.{_≡_};
 ghost use Prim.Native.Nat.{_≤_};
 ghost use Rattle.classes.specs.Trees.{shapeOf, recordSize};
 
-pub mod roots;
+pub mod openings;
 
 // Where something stands in the table; or there is none.
 pub enum Found {

@@ -3,10 +3,10 @@
 use bytes::size_at;
 use bytes::u64_at;
 use classes::Found;
-use classes::roots::PREAMBLE;
-use classes::roots::behind_root;
-use classes::roots::opening_of;
-use classes::roots::root_here;
+use classes::openings::PREAMBLE;
+use classes::openings::behind_root;
+use classes::openings::opening_of;
+use classes::openings::root_here;
 ghost use mathlib.Core.Path.{_≡_};
 ghost use Prim.Native.Nat.{_+_, _≤_, _<_};
 ghost use lib.ListN.{length};

@@ -1,8 +1,8 @@
 // Roots: they follow their fragment, "each once, in rising number, each followed by a structure" (The class table).
 //
-// In classes: the classes under a root.
+// In cycle: the classes under a root.
 use bytes::byte;
-use classes::check_class;
+use cycle::check_class;
 use offsets::Under;
 use offsets::Walk;
 use records::faults;
@@ -15,7 +15,7 @@ ghost use lib.ListN.{length, getD};
 ghost use Rattle.rules.specs.Limits.{tableLimit};
 ghost use Rattle.offsets.specs.Check.{rootHere, rootAt, stray as strayAt, rootsAt, rootsOf};
 
-mod classes;
+mod cycle;
 
 // Whether a whole record of the root n stands at `at`.
 fn root_here(table: &[u8], n: u8, at: usize) -> bool

@@ -8,9 +8,9 @@ use lib.ListN.{length, length-set}
 use Rattle.offsets.specs.Check.{classAt, optionsAt, latest}
 use Rattle.offsets.proofs.Sound.{option-fine}
 use Rattle.offsets.proofs.Walked.{options-stop, options-range, options-class, options-fine, options-none}
-use Rattle.roots.proofs.classes.check_options.Reads as reads
-use Rattle.roots.proofs.classes.+check_class+check_members+check_options.Lts-check_options as lts
-use Rattle.roots.proofs.classes.+check_class+check_members+check_options.Proof.Measures.{check-options-calls, check-options-at}
+use Rattle.roots.proofs.cycle.check_options.Reads as reads
+use Rattle.roots.proofs.cycle.+check_class+check_members+check_options.Lts-check_options as lts
+use Rattle.roots.proofs.cycle.+check_class+check_members+check_options.Proof.Measures.{check-options-calls, check-options-at}
 
 abbrev pub Inv-loop : lts.InvT-loop
 Inv-loop table under left at count done₀ n₀ next₀ done n next =

@@ -6,9 +6,9 @@ use borrow.Author.Needs.{needs}
 use Rattle.offsets.specs.Check.{latest, classFault}
 use Rattle.offsets.proofs.Descent.{class-bad, on-members, on-static, on-dynamic, on-optional-bad, on-optional, on-variant, on-leaf}
 use Rattle.offsets.proofs.Sound.{Sound, sound, at-most-32}
-use Rattle.roots.proofs.classes.check_class.Reads as reads
-use Rattle.roots.proofs.classes.+check_class+check_members+check_options.Lts-check_class as lts
-use Rattle.roots.proofs.classes.+check_class+check_members+check_options.Proof.Measures.{check-class-calls, check-class-at}
+use Rattle.roots.proofs.cycle.check_class.Reads as reads
+use Rattle.roots.proofs.cycle.+check_class+check_members+check_options.Lts-check_class as lts
+use Rattle.roots.proofs.cycle.+check_class+check_members+check_options.Proof.Measures.{check-class-calls, check-class-at}
 
 module _ (t : ℕ) (c : lts.Else1 (check-class-calls t) (check-class-at t) reads.Post) where
   fine : (let a = c .before .before .before .args in classFault (a .under) (a .left) (a .table .now) (a .at)) ≡ 0

@@ -3,15 +3,15 @@
 use Prim.Native.Nat.{ℕ, _+_, _<_}
 use borrow.Fn.Kinds.{In}
 use borrow.Fn.PlainCycle.{Measures, is, falls, and}
-use Rattle.roots.proofs.classes.check_class.Reads as check-class
-use Rattle.roots.proofs.classes.check_class.Kinds as check-class-kinds
-use Rattle.roots.proofs.classes.+check_class+check_members+check_options.Lts-check_class as check-class-lts
-use Rattle.roots.proofs.classes.check_members.Reads as check-members
-use Rattle.roots.proofs.classes.check_members.Kinds as check-members-kinds
-use Rattle.roots.proofs.classes.+check_class+check_members+check_options.Lts-check_members as check-members-lts
-use Rattle.roots.proofs.classes.check_options.Reads as check-options
-use Rattle.roots.proofs.classes.check_options.Kinds as check-options-kinds
-use Rattle.roots.proofs.classes.+check_class+check_members+check_options.Lts-check_options as check-options-lts
+use Rattle.roots.proofs.cycle.check_class.Reads as check-class
+use Rattle.roots.proofs.cycle.check_class.Kinds as check-class-kinds
+use Rattle.roots.proofs.cycle.+check_class+check_members+check_options.Lts-check_class as check-class-lts
+use Rattle.roots.proofs.cycle.check_members.Reads as check-members
+use Rattle.roots.proofs.cycle.check_members.Kinds as check-members-kinds
+use Rattle.roots.proofs.cycle.+check_class+check_members+check_options.Lts-check_members as check-members-lts
+use Rattle.roots.proofs.cycle.check_options.Reads as check-options
+use Rattle.roots.proofs.cycle.check_options.Kinds as check-options-kinds
+use Rattle.roots.proofs.cycle.+check_class+check_members+check_options.Lts-check_options as check-options-lts
 use Rattle.records.proofs.bodies.mark_of.Reads as mark-of-reads
 use Rattle.bytes.proofs.byte.Reads as byte-reads
 use Rattle.ranges.proofs.check_ranges.Reads as check-ranges-reads

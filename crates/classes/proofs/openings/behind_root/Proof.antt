@@ -1,7 +1,7 @@
 -- Behind the root's class if the root is there, else at the same byte.
 use borrow.Author.Needs.{needs}
-use Rattle.classes.proofs.roots.behind_root.Statement.{statement}
-use Rattle.classes.proofs.roots.behind_root.Tie as tie
+use Rattle.classes.proofs.openings.behind_root.Statement.{statement}
+use Rattle.classes.proofs.openings.behind_root.Tie as tie
 use mathlib.Core.Path.{sym, _∙_}
 use native.Mathlib.Omega.{arith}
 use Rattle.classes.specs.Sizes.{behindRoot}

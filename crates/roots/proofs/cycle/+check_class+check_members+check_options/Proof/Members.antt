@@ -5,9 +5,9 @@ use native.Mathlib.Omega.{arith}
 use borrow.Author.Needs.{needs}
 use Rattle.offsets.specs.Check.{classAt, membersAt}
 use Rattle.offsets.proofs.Walked.{members-bad, members-fine, members-none}
-use Rattle.roots.proofs.classes.check_members.Reads as reads
-use Rattle.roots.proofs.classes.+check_class+check_members+check_options.Lts-check_members as lts
-use Rattle.roots.proofs.classes.+check_class+check_members+check_options.Proof.Measures.{check-members-calls, check-members-at}
+use Rattle.roots.proofs.cycle.check_members.Reads as reads
+use Rattle.roots.proofs.cycle.+check_class+check_members+check_options.Lts-check_members as lts
+use Rattle.roots.proofs.cycle.+check_class+check_members+check_options.Proof.Measures.{check-members-calls, check-members-at}
 
 abbrev pub Inv-loop : lts.InvT-loop
 Inv-loop table under left at count next₀ todo₀ next todo =

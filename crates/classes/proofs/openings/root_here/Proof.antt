@@ -1,7 +1,7 @@
 -- Test by test, as the definition goes.
 use borrow.Author.Needs.{needs}
-use Rattle.classes.proofs.roots.root_here.Statement.{statement}
-use Rattle.classes.proofs.roots.root_here.Tie as tie
+use Rattle.classes.proofs.openings.root_here.Statement.{statement}
+use Rattle.classes.proofs.openings.root_here.Tie as tie
 use borrow.Author.Tests.{eq-eqb, ne-eqb, le-ltb, lt-ltb}
 use Rattle.rules.specs.Record.{u8}
 use Rattle.classes.specs.Fragments.{rootHere}

@@ -1,6 +1,6 @@
 -- By the kind, the last arm's being 5.
-use Rattle.classes.proofs.roots.opening_of.Statement.{statement}
-use Rattle.classes.proofs.roots.opening_of.Tie as tie
+use Rattle.classes.proofs.openings.opening_of.Statement.{statement}
+use Rattle.classes.proofs.openings.opening_of.Tie as tie
 use mathlib.Core.Path.{_≡_}
 use native.Mathlib.Omega.{arith}
 use Rattle.classes.specs.Fragments.{openingSize, rootsOf}

@@ -1,16 +1,16 @@
 -- A class, its members and its options, each by the others with less depth left.
-use Rattle.roots.proofs.classes.+check_class+check_members+check_options.{statement}
-use Rattle.roots.proofs.classes.+check_class+check_members+check_options.Tie.{close}
-use Rattle.roots.proofs.classes.check_class.Reads as check-class
-use Rattle.roots.proofs.classes.+check_class+check_members+check_options.Lts-check_class as check-class-lts
-use Rattle.roots.proofs.classes.check_members.Reads as check-members
-use Rattle.roots.proofs.classes.+check_class+check_members+check_options.Lts-check_members as check-members-lts
-use Rattle.roots.proofs.classes.check_options.Reads as check-options
-use Rattle.roots.proofs.classes.+check_class+check_members+check_options.Lts-check_options as check-options-lts
-use Rattle.roots.proofs.classes.+check_class+check_members+check_options.Proof.Measures.{μ-check-class, μ-check-members, μ-check-options, check-class-at, check-members-at, check-options-at, check-class-calls, check-members-calls, check-options-calls}
-use Rattle.roots.proofs.classes.+check_class+check_members+check_options.Proof.Class as class
-use Rattle.roots.proofs.classes.+check_class+check_members+check_options.Proof.Members as members
-use Rattle.roots.proofs.classes.+check_class+check_members+check_options.Proof.Options as options
+use Rattle.roots.proofs.cycle.+check_class+check_members+check_options.{statement}
+use Rattle.roots.proofs.cycle.+check_class+check_members+check_options.Tie.{close}
+use Rattle.roots.proofs.cycle.check_class.Reads as check-class
+use Rattle.roots.proofs.cycle.+check_class+check_members+check_options.Lts-check_class as check-class-lts
+use Rattle.roots.proofs.cycle.check_members.Reads as check-members
+use Rattle.roots.proofs.cycle.+check_class+check_members+check_options.Lts-check_members as check-members-lts
+use Rattle.roots.proofs.cycle.check_options.Reads as check-options
+use Rattle.roots.proofs.cycle.+check_class+check_members+check_options.Lts-check_options as check-options-lts
+use Rattle.roots.proofs.cycle.+check_class+check_members+check_options.Proof.Measures.{μ-check-class, μ-check-members, μ-check-options, check-class-at, check-members-at, check-options-at, check-class-calls, check-members-calls, check-options-calls}
+use Rattle.roots.proofs.cycle.+check_class+check_members+check_options.Proof.Class as class
+use Rattle.roots.proofs.cycle.+check_class+check_members+check_options.Proof.Members as members
+use Rattle.roots.proofs.cycle.+check_class+check_members+check_options.Proof.Options as options
 mod Measures
 mod Class
 mod Members

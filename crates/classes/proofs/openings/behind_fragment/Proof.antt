@@ -1,6 +1,6 @@
 -- The invariant: the byte behind the roots that are left is the one looked for. The measure: those left.
-use Rattle.classes.proofs.roots.behind_fragment.Statement.{statement}
-use Rattle.classes.proofs.roots.behind_fragment.Tie as tie
+use Rattle.classes.proofs.openings.behind_fragment.Statement.{statement}
+use Rattle.classes.proofs.openings.behind_fragment.Tie as tie
 use Prim.Native.Nat.{_+_, _*_, _≤_}
 use native.Mathlib.Omega.{arith}
 use Rattle.rules.specs.Record.{u8}
