@@ -1,14 +1,25 @@
-// The program. `ctf check TABLE` says in one line whether a class table is sound: `accepted: N bytes`, or
-// `refused N at byte B:` and what is wrong, in words. What cannot be opened or read gets a line on standard error.
+// The program. `ctf check TABLE` says in one line whether a class table is sound: `accepted: N bytes`, or `refused N at byte B:` and what
+// is wrong, in words. `ctf read TABLE STREAM` prints a line an entry, then `accepted: N entries, B bits`, or `refused N at bit P:` and why,
+// in words, `; N entries`. What cannot be opened or read, or is too long, gets a line on standard error.
+//
+// In lines: what is printed. In words: the papers' numbers in words.
 use libc::STDERR_FILENO;
-use libc::STDOUT_FILENO;
-use rules::ByteLength;
-use rules::Checked;
+use lines::say_checked;
+use lines::say_entries;
+use lines::say_result;
 ghost use mathlib.Core.Path.{_≡_};
 ghost use Prim.Native.Nat.{_≤_};
 ghost use lib.ListN.{length};
 
+mod lines;
 mod words;
+
+const TABLE: usize = 2;
+
+const STREAM: usize = 3;
+
+// The bytes of the longest stream that there is room for.
+const STREAM_ROOM: usize = 65536;
 
 fn main() {
     let mut command = [0u8; 16];
@@ -17,34 +28,52 @@ fn main() {
         check_named();
         return;
     }
-    io::write_all(STDERR_FILENO, b"usage: ctf check TABLE\n");
+    if os::arg_count() == 4 && words::same(&command[..got], b"read") {
+        read_named();
+        return;
+    }
+    io::write_all(
+        STDERR_FILENO,
+        b"usage: ctf check TABLE\n       ctf read TABLE STREAM\n",
+    );
 }
 
-// Checks the table in the file that the second argument names.
 fn check_named() {
-    let mut path = io::buffer();
-    let got = os::arg(2, &mut path);
-    if os::errno() != 0 {
-        os::fail(b"the table's name");
-        return;
-    }
-    let file = os::open_read(&path[..got]);
-    if file < 0 {
-        os::fail(&path[..got]);
-        return;
-    }
-    check_file(file, &path[..got]);
-    libc::close(file);
-}
-
-fn check_file(file: i32, path: &[u8]) {
     let mut table = table_room();
-    let filled = fill(file, &mut table);
+    let filled = load(TABLE, &mut table);
     if filled.failed {
-        os::fail(path);
         return;
     }
     say_checked(table::check(&table[..filled.bytes]));
+}
+
+fn read_named() {
+    let mut table = table_room();
+    let by = load(TABLE, &mut table);
+    if by.failed {
+        return;
+    }
+    let mut stream = stream_room();
+    let filled = load(STREAM, &mut stream);
+    if filled.failed {
+        return;
+    }
+    if STREAM_ROOM < filled.bytes {
+        io::write_all(
+            STDERR_FILENO,
+            b"the stream has more than the 65,536 bytes that there is room for\n",
+        );
+        return;
+    }
+    read_loaded(&table[..by.bytes], &stream[..filled.bytes]);
+}
+
+fn read_loaded(table: &[u8], stream: &[u8]) {
+    let mut list = list_room();
+    let r = reader::read(table, stream, &mut list);
+    let entries = r.entries;
+    say_entries(&list, entries);
+    say_result(r);
 }
 
 // What a file put into the room that it was lent.
@@ -53,7 +82,39 @@ struct Filled {
     failed: bool,
 }
 
-// Reads until the room is full or the file ends. A read that fails is no end: a table that is cut short would get a false verdict.
+// Reads the file that an argument names into the room. Where that fails, it has said so.
+fn load(argument: usize, room: &mut [u8]) -> Filled
+    ensures { λ r. ⌜ r .bytes ≤ length (now (room .exit)) ⌝ }
+{
+    let mut path = io::buffer();
+    let got = os::arg(argument, &mut path);
+    if os::errno() != 0 {
+        os::fail(b"the file's name");
+        return nothing();
+    }
+    let file = os::open_read(&path[..got]);
+    if file < 0 {
+        os::fail(&path[..got]);
+        return nothing();
+    }
+    let filled = fill(file, room);
+    if filled.failed {
+        os::fail(&path[..got]);
+    }
+    libc::close(file);
+    filled
+}
+
+fn nothing() -> Filled
+    ensures { λ r. ⌜ r .bytes ≡ 0 ⌝ }
+{
+    Filled {
+        bytes: 0,
+        failed: true,
+    }
+}
+
+// Reads until the room is full or the file ends. A read that fails is no end: a file that is cut short would get a false verdict.
 fn fill(file: i32, room: &mut [u8]) -> Filled
     ensures { λ r. ⌜ r .bytes ≤ length (now (room .exit)) ⌝ }
 {
@@ -85,29 +146,16 @@ fn table_room() -> [u8; 65537]
     [0; 65537]
 }
 
-fn say_checked(checked: Checked) {
-    match checked {
-        Checked::Accepted(length) => {
-            say(b"accepted: ");
-            say_length(length);
-            say(b" bytes\n");
-        }
-        Checked::Refused(number, byte) => {
-            say(b"refused ");
-            io::print_decimal(STDOUT_FILENO, number as u64);
-            say(b" at byte ");
-            say_length(byte);
-            say(b": ");
-            words::say_fault(number);
-            say(b"\n");
-        }
-    }
+// One byte more than STREAM_ROOM, for the same reason.
+fn stream_room() -> [u8; 65537]
+    ensures { λ r. ⌜ 65537 ≡ length r ⌝ }
+{
+    [0; 65537]
 }
 
-fn say_length(length: ByteLength) {
-    io::print_decimal(STDOUT_FILENO, length.0 as u64);
-}
-
-fn say(words: &[u8]) {
-    io::write_all(STDOUT_FILENO, words);
+// Room for 131,072 entries.
+fn list_room() -> [u64; 524288]
+    ensures { λ r. ⌜ 524288 ≡ length r ⌝ }
+{
+    [0; 524288]
 }

@@ -1,8 +1,9 @@
 // The papers' numbers in words, and words compared.
-use crate::say;
+use crate::lines::say;
+use crate::lines::say_number;
 
 // What is wrong with a table, by the number that refuses it ("Refusing a table").
-pub(crate) fn say_fault(number: u8) {
+pub(crate) fn say_fault(number: u64) {
     match number {
         1 => say(b"the table is empty, or has more than 65,536 bytes"),
         2 => say(b"this kind of record is unknown"),
@@ -24,6 +25,78 @@ pub(crate) fn say_fault(number: u8) {
         14 => say(b"this class stands at depth 9"),
         15 => say(b"there are more than 512 clock, stream and event classes"),
         _ => say(b"no number of the paper"),
+    }
+}
+
+// Why a reading was refused, by its number ("Refusing a stream"), with the ids that it names.
+pub(crate) fn say_refusal(number: u8, first: u64, second: u64) {
+    match number {
+        20 => {
+            say(b"the table is refused by ");
+            say_number(first);
+            say(b", ");
+            say_fault(first);
+        }
+        21 => say(b"the stream is empty, or has more than 16,777,216 bytes"),
+        22 => say(b"alignment, bits or bytes go past the bound"),
+        23 => say(b"the byte order changes off a byte boundary"),
+        24 => say(b"a LEB128 number is too long or too large"),
+        25 => say(b"there is no zero byte before the bound"),
+        26 => say(b"a slot is read that no field has set"),
+        27 => say(b"a slot is read that is of the wrong sort"),
+        28 => say(b"a length is above 65,535"),
+        29 => say(b"the selector is in no option"),
+        30 => say(b"the magic number is wrong"),
+        31 => say(b"the UUID is wrong"),
+        32 => say(b"the stream class is not the first packet's"),
+        33 => {
+            say(b"the table has no stream class ");
+            say_number(first);
+        }
+        34 => say(b"the packet's lengths contradict each other, the stream or the context"),
+        35 => say(b"the packet's start clock is above its end clock"),
+        36 => say(b"the clock needs more than 64 bits"),
+        37 => {
+            say(b"the table has no event class ");
+            say_number(second);
+            say(b" in stream class ");
+            say_number(first);
+        }
+        38 => say(b"the event took no bits"),
+        39 => say(b"the clock is below the previous event's"),
+        40 => say(b"the list is full"),
+        _ => say(b"no number of the paper"),
+    }
+}
+
+// The word of an entry's kind, in a column of its own.
+pub(crate) fn say_kind(kind: u64) {
+    match kind {
+        1 => say(b"packet          "),
+        2 => say(b"stream-class    "),
+        3 => say(b"lengths         "),
+        4 => say(b"event           "),
+        5 => say(b"event-class     "),
+        6 => say(b"clock           "),
+        7 => say(b"packet-end      "),
+        16 => say(b"bit-array       "),
+        17 => say(b"boolean         "),
+        18 => say(b"unsigned        "),
+        19 => say(b"signed          "),
+        20 => say(b"float           "),
+        21 => say(b"leb128-unsigned "),
+        22 => say(b"leb128-signed   "),
+        23 => say(b"string          "),
+        24 => say(b"static-string   "),
+        25 => say(b"static-blob     "),
+        26 => say(b"dynamic-string  "),
+        27 => say(b"dynamic-blob    "),
+        28 => say(b"structure       "),
+        29 => say(b"static-array    "),
+        30 => say(b"dynamic-array   "),
+        31 => say(b"optional        "),
+        32 => say(b"variant         "),
+        _ => say(b"unknown         "),
     }
 }
 

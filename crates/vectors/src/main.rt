@@ -1,10 +1,11 @@
-// Reads a case file on standard input to its end, and prints the answers to each case: the line `NUMBER BYTE` of the table's check and an
-// empty line. A case is a head of three numbers of 32 bits, little-endian (the table's bytes, the stream's bytes, the list's words), then
-// the table and the stream.
+// Reads a case file on standard input to its end, and prints the answers to each case: the line `NUMBER BYTE` of the table's check, the
+// line `NUMBER ENTRIES PLACE ID ID` of the reading, a line `KIND PLACE BITS VALUE` an entry, and an empty line. A case is a head of three
+// numbers of 32 bits, little-endian (the table's bytes, the stream's bytes, the list's words), then the table and the stream.
 use libc::STDIN_FILENO;
 use libc::STDOUT_FILENO;
 use rules::ByteLength;
 use rules::Checked;
+use rules::Result;
 ghost use mathlib.Core.Path.{_≡_};
 ghost use lib.ListN.{length};
 
@@ -28,23 +29,47 @@ fn answer_case() -> bool {
     }
     let table_length = four(head[0], head[1], head[2], head[3]);
     let stream_length = four(head[4], head[5], head[6], head[7]);
+    let words = four(head[8], head[9], head[10], head[11]);
     let mut table = table_room();
     let mut stream = io::large_buffer();
-    answer(&mut table, table_length, &mut stream, stream_length)
+    let mut list = list_room();
+    answer(
+        &mut table,
+        table_length,
+        &mut stream,
+        stream_length,
+        &mut list,
+        words,
+    )
 }
 
 // Reads the table and the stream into the room that they have, and prints their answers.
-fn answer(table: &mut [u8], table_length: usize, stream: &mut [u8], stream_length: usize) -> bool {
+fn answer(
+    table: &mut [u8],
+    table_length: usize,
+    stream: &mut [u8],
+    stream_length: usize,
+    list: &mut [u64],
+    words: usize,
+) -> bool {
     if !fill(table, table_length) {
         return false;
     }
     if !fill(stream, stream_length) {
         return false;
     }
-    if table.len() < table_length {
+    if table.len() < table_length || stream.len() < stream_length || list.len() < words {
         return too_long();
     }
     say_checked(table::check(&table[..table_length]));
+    let r = reader::read(
+        &table[..table_length],
+        &stream[..stream_length],
+        &mut list[..words],
+    );
+    let entries = r.entries;
+    say_result(r);
+    say_entries(list, entries);
     say(b"\n");
     true
 }
@@ -66,6 +91,13 @@ fn table_room() -> [u8; 65537]
     [0; 65537]
 }
 
+// Room for the longest list of the shared cases.
+fn list_room() -> [u64; 8000]
+    ensures { λ r. ⌜ 8000 ≡ length r ⌝ }
+{
+    [0; 8000]
+}
+
 fn say_checked(checked: Checked) {
     match checked {
         Checked::Accepted(length) => say_line(0, length),
@@ -74,10 +106,39 @@ fn say_checked(checked: Checked) {
 }
 
 fn say_line(number: u8, byte: ByteLength) {
-    io::print_decimal(STDOUT_FILENO, number as u64);
-    say(b" ");
-    io::print_decimal(STDOUT_FILENO, byte.0 as u64);
-    say(b"\n");
+    say_number(number as u64, b" ");
+    say_number(byte.0 as u64, b"\n");
+}
+
+fn say_result(r: Result) {
+    say_number(r.number as u64, b" ");
+    say_number(r.entries as u64, b" ");
+    say_number(r.place, b" ");
+    say_number(r.first, b" ");
+    say_number(r.second, b"\n");
+}
+
+// A line for each of the entries that the list begins with.
+fn say_entries(list: &[u64], entries: usize) {
+    let mut left = entries;
+    let mut at = 0;
+    while left > 0 {
+        if list.len() - at < 4 {
+            return;
+        }
+        say_number(list[at], b" ");
+        say_number(list[at + 1], b" ");
+        say_number(list[at + 2], b" ");
+        say_number(list[at + 3], b"\n");
+        at += 4;
+        left -= 1;
+    }
+}
+
+// A number and what stands behind it.
+fn say_number(n: u64, behind: &[u8]) {
+    io::print_decimal(STDOUT_FILENO, n);
+    say(behind);
 }
 
 fn cut_short() -> bool {

@@ -1,4 +1,5 @@
--- The table's part is within its room.
+-- The parts that are lent are within their rooms.
+use borrow.Author.Needs.{needs}
 use borrow.Author.Needs.{needs}
 use Rattle.vectors.proofs.answer.Statement.{statement}
 use Rattle.vectors.proofs.answer.Tie as tie
@@ -49,6 +50,33 @@ check-requires c κs = search needs
 say-checked-requires : tie.Need-say-checked-requires
 say-checked-requires c κs = search needs
 
+slice-reshare-prefix-read : tie.Need-slice-reshare-prefix-read
+slice-reshare-prefix-read c = search needs
+
+slice-aggregate-read : tie.Need-slice-aggregate-read
+slice-aggregate-read c = search (needs, length-take-le)
+
+slice-reshare-prefix-read-2 : tie.Need-slice-reshare-prefix-read-2
+slice-reshare-prefix-read-2 c = search needs
+
+slice-aggregate-read-2 : tie.Need-slice-aggregate-read-2
+slice-aggregate-read-2 c = search (needs, length-take-le)
+
+slice-relend-prefix-read : tie.Need-slice-relend-prefix-read
+slice-relend-prefix-read c = search needs
+
+slice-aggregate-read-3 : tie.Need-slice-aggregate-read-3
+slice-aggregate-read-3 c = search (needs, length-take-le)
+
+read-requires : tie.Need-read-requires
+read-requires c κs = search needs
+
+say-result-requires : tie.Need-say-result-requires
+say-result-requires c κs = search needs
+
+say-entries-requires : tie.Need-say-entries-requires
+say-entries-requires c κs = search needs
+
 slice-aggregate-say : tie.Need-slice-aggregate-say
 slice-aggregate-say c = search needs
 
@@ -60,6 +88,9 @@ same-length-6 c = search needs
 
 same-length-7 : tie.Need-same-length-7
 same-length-7 c = search needs
+
+same-length-8 : tie.Need-same-length-8
+same-length-8 c = search needs
 
 returns-4 : tie.Need-returns-4
 returns-4 c = search needs
@@ -83,8 +114,18 @@ answer-spec =
     slice-aggregate-check
     check-requires
     say-checked-requires
+    slice-reshare-prefix-read
+    slice-aggregate-read
+    slice-reshare-prefix-read-2
+    slice-aggregate-read-2
+    slice-relend-prefix-read
+    slice-aggregate-read-3
+    read-requires
+    say-result-requires
+    say-entries-requires
     slice-aggregate-say
     say-requires
     same-length-6
     same-length-7
+    same-length-8
     returns-4)

@@ -1,20 +1,18 @@
--- What `fill` put into the room is a part of it.
+-- What was loaded is a part of the room.
 use borrow.Author.Needs.{needs}
-use Rattle.ctf.proofs.check_file.Statement.{statement}
-use Rattle.ctf.proofs.check_file.Tie as tie
+use borrow.Author.Needs.{needs}
+use Rattle.ctf.proofs.check_named.Statement.{statement}
+use Rattle.ctf.proofs.check_named.Tie as tie
 use lib.Seq.{length-take-le}
 
 table-room-requires : tie.Need-table-room-requires
 table-room-requires c κs = search needs
 
-slice-aggregate-fill : tie.Need-slice-aggregate-fill
-slice-aggregate-fill c = search needs
+slice-aggregate-load : tie.Need-slice-aggregate-load
+slice-aggregate-load c = search needs
 
-fill-requires : tie.Need-fill-requires
-fill-requires c κs = search needs
-
-fail-requires : tie.Need-fail-requires
-fail-requires c κs = search needs
+load-requires : tie.Need-load-requires
+load-requires c κs = search needs
 
 returns : tie.Need-returns
 returns c = search needs
@@ -34,14 +32,13 @@ say-checked-requires c κs = search needs
 returns-2 : tie.Need-returns-2
 returns-2 c = search needs
 
-pub check-file-spec : {M : Type 1} → statement M
-check-file-spec =
+pub check-named-spec : {M : Type 1} → statement M
+check-named-spec =
     tie.close
     (tie.spec
     table-room-requires
-    slice-aggregate-fill
-    fill-requires
-    fail-requires
+    slice-aggregate-load
+    load-requires
     returns
     array-share-prefix-table
     slice-aggregate-check

@@ -1,0 +1,99 @@
+-- Four words an entry, and never past the list.
+use borrow.Author.Needs.{needs}
+use Rattle.ctf.proofs.lines.say_entries.Statement.{statement}
+use Rattle.ctf.proofs.lines.say_entries.Tie as tie
+use lib.ListN.{length}
+use Prim.Native.Nat.{_≤_}
+
+abbrev Inv-loop : tie.InvT-loop
+Inv-loop list entries left₀ at₀ left at = at ≤ length list
+
+abbrev μ-loop : tie.MeasureT-loop
+μ-loop list entries left₀ at₀ left at = left
+
+loop-holds : tie.Need-loop-holds Inv-loop μ-loop
+loop-holds c = search needs
+
+sub-if1 : tie.Need-sub-if1 Inv-loop μ-loop
+sub-if1 c = search needs
+
+returns : tie.Need-returns Inv-loop μ-loop
+returns c = search needs
+
+mul-say-entry : tie.Need-mul-say-entry Inv-loop μ-loop
+mul-say-entry c = search needs
+
+shared-slice-read-say-entry : tie.Need-shared-slice-read-say-entry Inv-loop μ-loop
+shared-slice-read-say-entry c = search needs
+
+add-say-entry : tie.Need-add-say-entry Inv-loop μ-loop
+add-say-entry c = search needs
+
+mul-say-entry-2 : tie.Need-mul-say-entry-2 Inv-loop μ-loop
+mul-say-entry-2 c = search needs
+
+shared-slice-read-say-entry-2 : tie.Need-shared-slice-read-say-entry-2 Inv-loop μ-loop
+shared-slice-read-say-entry-2 c = search needs
+
+add-say-entry-2 : tie.Need-add-say-entry-2 Inv-loop μ-loop
+add-say-entry-2 c = search needs
+
+mul-say-entry-3 : tie.Need-mul-say-entry-3 Inv-loop μ-loop
+mul-say-entry-3 c = search needs
+
+shared-slice-read-say-entry-3 : tie.Need-shared-slice-read-say-entry-3 Inv-loop μ-loop
+shared-slice-read-say-entry-3 c = search needs
+
+add-say-entry-3 : tie.Need-add-say-entry-3 Inv-loop μ-loop
+add-say-entry-3 c = search needs
+
+mul-say-entry-4 : tie.Need-mul-say-entry-4 Inv-loop μ-loop
+mul-say-entry-4 c = search needs
+
+shared-slice-read-say-entry-4 : tie.Need-shared-slice-read-say-entry-4 Inv-loop μ-loop
+shared-slice-read-say-entry-4 c = search needs
+
+say-entry-requires : tie.Need-say-entry-requires Inv-loop μ-loop
+say-entry-requires c κs = search needs
+
+add-at : tie.Need-add-at Inv-loop μ-loop
+add-at c = search needs
+
+sub-left : tie.Need-sub-left Inv-loop μ-loop
+sub-left c = search needs
+
+loop-less : tie.Need-loop-less Inv-loop μ-loop
+loop-less c = search needs
+
+loop-again : tie.Need-loop-again Inv-loop μ-loop
+loop-again c = search needs
+
+returns-2 : tie.Need-returns-2 Inv-loop μ-loop
+returns-2 c = search needs
+
+pub say-entries-spec : {M : Type 1} → statement M
+say-entries-spec =
+    tie.close
+    (tie.spec
+    Inv-loop
+    μ-loop
+    loop-holds
+    sub-if1
+    returns
+    mul-say-entry
+    shared-slice-read-say-entry
+    add-say-entry
+    mul-say-entry-2
+    shared-slice-read-say-entry-2
+    add-say-entry-2
+    mul-say-entry-3
+    shared-slice-read-say-entry-3
+    add-say-entry-3
+    mul-say-entry-4
+    shared-slice-read-say-entry-4
+    say-entry-requires
+    add-at
+    sub-left
+    loop-less
+    loop-again
+    returns-2)
