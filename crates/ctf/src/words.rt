@@ -34,7 +34,7 @@ pub(crate) fn say_refusal(number: u8, first: u64, second: u64) {
         20 => {
             say(b"the table is refused by ");
             say_number(first);
-            say(b", ");
+            say(b": ");
             say_fault(first);
         }
         21 => say(b"the stream is empty, or has more than 16,777,216 bytes"),

@@ -1,11 +1,14 @@
-// Document 01's figures that the leaves can run ("Figures to check against"): what is read, and what comes out.
+// Document 01's figures ("Figures to check against"): what is read, and what comes out. In readings: those that are whole readings.
 use clock::Clock;
 use clock::Ticked;
 use libc::STDOUT_FILENO;
+use readings::say_readings;
 use rules::BitPlace;
 use rules::ByteLength;
 use rules::Leb;
 use rules::Order;
+
+mod readings;
 
 fn main() {
     say_bits(b"12 bits twice, little:", Order::Little);
@@ -31,6 +34,7 @@ fn main() {
     say(b"four bits 1000 signed:");
     say_integer(bits::sign_extend(8, 4));
     end_line();
+    say_readings();
 }
 
 // The figure's bytes, AB CD EF, as two numbers of 12 bits.
@@ -95,15 +99,15 @@ fn say_integer(word: u64) {
     io::print_decimal(STDOUT_FILENO, u64::MAX - word + 1);
 }
 
-fn say_number(number: u64) {
+pub(crate) fn say_number(number: u64) {
     say(b" ");
     io::print_decimal(STDOUT_FILENO, number);
 }
 
-fn end_line() {
+pub(crate) fn end_line() {
     say(b"\n");
 }
 
-fn say(words: &[u8]) {
+pub(crate) fn say(words: &[u8]) {
     io::write_all(STDOUT_FILENO, words);
 }
