@@ -1,10 +1,11 @@
--- Words written one by one into a lent slice are `written` when either runs out.
+-- Laws of words that a caller in C gets. In order: words written one by one into a lent slice, which are `written` when words or room run
+-- out; the answer in words, by what was answered.
 use mathlib.Core.Path.{_≡_, refl, sym, ap, _∙_}
 use Prim.Native.Nat.{ℕ, suc, _+_, _<_, _≤_}
 use native.Mathlib.Omega.{arith}
 use native.Mathlib.Numerals.{add-one}
 use native.Mathlib.Nat.{le-antisymm}
-use mathlib.Core.List.{List, [], _++_}
+use mathlib.Core.List.{List, _++_}
 use lib.ListN.{length, getD, take, drop, set, drop-of-length-le}
 use lib.Seq.{take-all, take-suc, length-take-le, drop-cons, append-snoc, set-at}
 use Rattle.rules.specs.declared.Checked.{Checked}
@@ -40,6 +41,6 @@ pub answered : (c d : Checked) (old : List ℕ) {r : ℕ} {out : List ℕ} → c
     → (r ≡ checkedNumber c) × (out ≡ written (checkedWords c) old)
 answered c d old e h = rw (e) h
 
--- so too of a reading's result
+-- and what is said of the reader's result is said of the rules'
 pub resulted : (x y : Result) (old : List ℕ) {out : List ℕ} → x ≡ y → out ≡ written (resultWords x) old → out ≡ written (resultWords y) old
 resulted x y old e h = rw (sym e) h
