@@ -1,0 +1,275 @@
+/* cases CASES ANSWERS: a host of the library. It asks the library each case of a case file, holds every word to the answers, and measures
+ * the stack that the library takes. The last two lines say what was found. Status 0: all agree, and the stack is below its limit; 1: not
+ * so; 2: a file could not be read.
+ *
+ * A case is three little-endian numbers of 32 bits, the table's bytes, the stream's bytes and the list's words, and then table and stream.
+ * Its answer is a line NUMBER BYTE, a line NUMBER ENTRIES PLACE ID ID, a line KIND PLACE BITS VALUE an entry, and an empty line. */
+#include "deep.h"
+#include "stack.h"
+#include "trevoskel.h"
+
+#include <inttypes.h>
+#include <stdio.h>
+#include <stdlib.h>
+#include <string.h>
+
+/* Rooms that a result is tried with: from no word to two words more than there are. */
+enum { ROOMS = TREVOSKEL_RESULT_WORDS + 3 };
+
+/* Words behind what is lent, which are to stay. */
+enum { BEHIND = 8 };
+
+enum { STACK_LIMIT = 1024 * 1024 };
+
+/* Words that are enough for the deepest tables' readings. */
+enum { DEEP_LIST = 128 };
+
+enum { DIFFERENCES_SHOWN = 10 };
+
+struct answered {
+    const uint8_t *table;
+    size_t table_bytes;
+    const uint8_t *stream;
+    size_t stream_bytes;
+    size_t list_words;
+    uint64_t checked[TREVOSKEL_CHECKED_WORDS];
+    uint64_t result[TREVOSKEL_RESULT_WORDS];
+    uint64_t *entries;
+    int differs;
+};
+
+struct cases {
+    struct answered *of;
+    size_t count;
+    uint64_t *list;
+    uint64_t *due;
+    size_t longest_list;
+    size_t differing;
+};
+
+static void fail(const char *name, const char *what)
+{
+    fprintf(stderr, "%s: %s\n", name, what);
+    exit(2);
+}
+
+static void *room_for(size_t count, size_t size)
+{
+    void *room = calloc(count, size);
+    if (room == NULL) fail("cases", "no memory");
+    return room;
+}
+
+/* A whole file, with a zero byte behind it. */
+static char *read_file(const char *name, size_t *bytes)
+{
+    FILE *file = fopen(name, "rb");
+    if (file == NULL || fseek(file, 0, SEEK_END) != 0) fail(name, "cannot be read");
+    long end = ftell(file);
+    if (end < 0 || fseek(file, 0, SEEK_SET) != 0) fail(name, "cannot be read");
+    char *text = room_for((size_t)end + 1, 1);
+    if (fread(text, 1, (size_t)end, file) != (size_t)end) fail(name, "cannot be read");
+    fclose(file);
+    *bytes = (size_t)end;
+    return text;
+}
+
+static size_t number_at(const uint8_t *from)
+{
+    return from[0] | (size_t)from[1] << 8 | (size_t)from[2] << 16 | (size_t)from[3] << 24;
+}
+
+/* Bytes in a room of just their length; none at all have no room. */
+static const uint8_t *own_room(const uint8_t *from, size_t bytes)
+{
+    if (bytes == 0) return NULL;
+    return memcpy(room_for(bytes, 1), from, bytes);
+}
+
+static void take_numbers(const char *name, const char **text, uint64_t *into, size_t count)
+{
+    for (size_t i = 0; i < count; i++) {
+        char *end;
+        into[i] = strtoull(*text, &end, 10);
+        if (end == *text || *end != (i + 1 < count ? ' ' : '\n')) fail(name, "is no file of answers");
+        *text = end + 1;
+    }
+}
+
+static void take_answer(const char *name, const char **text, struct answered *answered)
+{
+    take_numbers(name, text, answered->checked, TREVOSKEL_CHECKED_WORDS);
+    take_numbers(name, text, answered->result, TREVOSKEL_RESULT_WORDS);
+    uint64_t entries = answered->result[TREVOSKEL_RESULT_ENTRIES];
+    if (entries > answered->list_words / TREVOSKEL_ENTRY_WORDS) fail(name, "has more entries than the list has room for");
+    answered->entries = room_for(entries + 1, TREVOSKEL_ENTRY_WORDS * sizeof *answered->entries);
+    for (uint64_t i = 0; i < entries; i++)
+        take_numbers(name, text, answered->entries + i * TREVOSKEL_ENTRY_WORDS, TREVOSKEL_ENTRY_WORDS);
+    if (**text != '\n') fail(name, "is no file of answers");
+    ++*text;
+}
+
+static struct cases read_cases(const char *name, const char *answers_name)
+{
+    struct cases cases = {NULL, 0, NULL, NULL, 0, 0};
+    size_t bytes, answers_bytes, at = 0, room = 0;
+    uint8_t *data = (uint8_t *)read_file(name, &bytes);
+    char *answers = read_file(answers_name, &answers_bytes);
+    const char *text = answers;
+    while (at < bytes) {
+        if (cases.count == room) {
+            room = 2 * room + 1024;
+            cases.of = realloc(cases.of, room * sizeof *cases.of);
+            if (cases.of == NULL) fail("cases", "no memory");
+        }
+        struct answered *one = &cases.of[cases.count++];
+        if (bytes - at < 12) fail(name, "ends inside a case");
+        one->table_bytes = number_at(data + at);
+        one->stream_bytes = number_at(data + at + 4);
+        one->list_words = number_at(data + at + 8);
+        one->differs = 0;
+        at += 12;
+        if (bytes - at < one->table_bytes + one->stream_bytes) fail(name, "ends inside a case");
+        one->table = own_room(data + at, one->table_bytes);
+        at += one->table_bytes;
+        one->stream = own_room(data + at, one->stream_bytes);
+        at += one->stream_bytes;
+        take_answer(answers_name, &text, one);
+        if (cases.longest_list < one->list_words) cases.longest_list = one->list_words;
+    }
+    if (*text != 0) fail(answers_name, "has more answers than there are cases");
+    cases.list = room_for(cases.longest_list + BEHIND, sizeof *cases.list);
+    cases.due = room_for(cases.longest_list + BEHIND, sizeof *cases.due);
+    free(data);
+    free(answers);
+    return cases;
+}
+
+/* What a word holds before a call. */
+static uint64_t came(size_t i)
+{
+    return UINT64_C(0x9E3779B97F4A7C15) * (i + 1);
+}
+
+static void fill(uint64_t *words, size_t from, size_t count)
+{
+    for (size_t i = from; i < count; i++) words[i] = came(i);
+}
+
+/* Holds words to what is due. Of a case that differs, counted from 0, the first word that does so is shown. */
+static void hold(struct cases *cases, size_t number, const char *what, size_t room, const uint64_t *got, const uint64_t *due, size_t count)
+{
+    if (cases->of[number].differs || memcmp(got, due, count * sizeof *got) == 0) return;
+    size_t i = 0;
+    while (got[i] == due[i]) i++;
+    if (cases->differing < DIFFERENCES_SHOWN)
+        printf("case %zu, %s of %zu words: word %zu is %" PRIu64 ", and %" PRIu64 " is due\n", number, what, room, i, got[i], due[i]);
+    cases->of[number].differs = 1;
+    cases->differing++;
+}
+
+/* What a result of so much room is due to hold, with the words behind it. */
+static void due_result(uint64_t *due, const uint64_t *words, size_t count, size_t room)
+{
+    size_t written = room < count ? room : count;
+    memcpy(due, words, written * sizeof *due);
+    fill(due, written, ROOMS + BEHIND);
+}
+
+static void check_all(void *given)
+{
+    struct cases *cases = given;
+    uint64_t result[ROOMS + BEHIND], due[ROOMS + BEHIND];
+    for (size_t i = 0; i < cases->count; i++)
+        for (size_t room = 0; room < ROOMS; room++) {
+            const struct answered *one = &cases->of[i];
+            fill(result, 0, ROOMS + BEHIND);
+            uint64_t number = trevoskel_check(one->table, one->table_bytes, room == 0 ? NULL : result, room);
+            due_result(due, one->checked, TREVOSKEL_CHECKED_WORDS, room);
+            hold(cases, i, "the number of a check with a result", room, &number, one->checked, 1);
+            hold(cases, i, "a check's result", room, result, due, ROOMS + BEHIND);
+        }
+}
+
+static void read_all(void *given)
+{
+    struct cases *cases = given;
+    uint64_t result[ROOMS + BEHIND], due[ROOMS + BEHIND];
+    for (size_t i = 0; i < cases->count; i++) {
+        const struct answered *one = &cases->of[i];
+        size_t listed = one->result[TREVOSKEL_RESULT_ENTRIES] * TREVOSKEL_ENTRY_WORDS;
+        memcpy(cases->due, one->entries, listed * sizeof *cases->due);
+        fill(cases->due, listed, one->list_words + BEHIND);
+        for (size_t room = 0; room < ROOMS; room++) {
+            fill(result, 0, ROOMS + BEHIND);
+            fill(cases->list, 0, one->list_words + BEHIND);
+            uint64_t number = trevoskel_read(one->table, one->table_bytes, one->stream, one->stream_bytes,
+                                             one->list_words == 0 ? NULL : cases->list, one->list_words, room == 0 ? NULL : result, room);
+            due_result(due, one->result, TREVOSKEL_RESULT_WORDS, room);
+            hold(cases, i, "the number of a reading with a result", room, &number, one->result, 1);
+            hold(cases, i, "a reading's result", room, result, due, ROOMS + BEHIND);
+            hold(cases, i, "a list", one->list_words, cases->list, cases->due, one->list_words + BEHIND);
+        }
+    }
+}
+
+/* The deepest tables are checked or read. What they are made for is that they are accepted, so any other answer ends the program. */
+static void ask_deep(struct deep *deep, int reading, uint32_t due)
+{
+    static uint64_t list[DEEP_LIST], result[TREVOSKEL_RESULT_WORDS];
+    uint32_t number = reading ? trevoskel_read(deep->table, deep->table_bytes, deep->stream, deep->stream_bytes, list, DEEP_LIST,
+                                               result, TREVOSKEL_RESULT_WORDS)
+                              : trevoskel_check(deep->table, deep->table_bytes, result, TREVOSKEL_CHECKED_WORDS);
+    if (number == due) return;
+    printf("a table of depth 8 got %" PRIu32 ", and %" PRIu32 " is due\n", number, due);
+    exit(1);
+}
+
+static void ask_all_deep(int reading)
+{
+    static struct deep deep;
+    for (unsigned row = 0; row < DEEP_ROWS; row++) {
+        deep_make(&deep, 5, row, DEEP_AROUND, 18, 0);
+        ask_deep(&deep, reading, TREVOSKEL_ACCEPTED);
+    }
+    for (unsigned root = 0; root < DEEP_ROOTS; root++)
+        for (unsigned digit = 0; digit < DEEP_KINDS; digit++) {
+            for (unsigned leaf = DEEP_FIRST; leaf <= DEEP_LAST; leaf++) {
+                deep_make(&deep, root, deep_same(digit), DEEP_AROUND, leaf, 0);
+                ask_deep(&deep, reading, TREVOSKEL_ACCEPTED);
+            }
+            deep_make(&deep, root, deep_same(digit), DEEP_AROUND, 18, 1);
+            ask_deep(&deep, reading, TREVOSKEL_ACCEPTED);
+        }
+    deep_make(&deep, 5, 0, DEEP_AROUND + 1, 18, 0);
+    ask_deep(&deep, reading, reading ? TREVOSKEL_TABLE_REFUSED : TREVOSKEL_TOO_DEEP);
+}
+
+static void check_deep(void *given)
+{
+    (void)given;
+    ask_all_deep(0);
+}
+
+static void read_deep(void *given)
+{
+    (void)given;
+    ask_all_deep(1);
+}
+
+static size_t larger(size_t a, size_t b)
+{
+    return a < b ? b : a;
+}
+
+int main(int argc, char **argv)
+{
+    if (argc != 3) fail("usage", "cases CASES ANSWERS");
+    struct cases cases = read_cases(argv[1], argv[2]);
+    size_t check = larger(stack_taken(check_all, &cases), stack_taken(check_deep, NULL));
+    size_t reading = larger(stack_taken(read_all, &cases), stack_taken(read_deep, NULL));
+    int within = larger(check, reading) < STACK_LIMIT;
+    printf("%zu of %zu cases agree, each with results of 0 to %d words\n", cases.count - cases.differing, cases.count, ROOMS - 1);
+    printf("stack: a check takes up to %zu bytes, a reading up to %zu, %s\n", check, reading, within ? "below 1 MiB" : "NOT BELOW 1 MiB");
+    return cases.differing == 0 && within ? 0 : 1;
+}
