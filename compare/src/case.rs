@@ -1,0 +1,158 @@
+//! Case files and answers files.
+//!
+//! A case is a head of three little-endian 32-bit numbers (the table's bytes, the
+//! stream's bytes, the words of the list), then the table, then the stream. An
+//! answer is a line with the table's check, a line with the reading, a line for
+//! each entry and an empty line.
+
+use crate::reader::{self, Reading};
+use std::fmt::Write;
+
+/// The classes a short table lacks, its full table being that of the case before.
+#[derive(Clone, Debug, Default)]
+pub struct LeftOut {
+    pub streams: Vec<u64>,
+    /// Pairs of stream class id and event id.
+    pub events: Vec<(u64, u64)>,
+}
+
+#[derive(Clone, Debug, Default)]
+pub struct Case {
+    pub table: Vec<u8>,
+    pub stream: Vec<u8>,
+    pub words: usize,
+    pub left_out: Option<LeftOut>,
+}
+
+#[derive(Clone, Debug, PartialEq, Eq)]
+pub struct Answer {
+    pub check: (u64, u64),
+    pub reading: Reading,
+    pub entries: Vec<[u64; 4]>,
+}
+
+/// What lies in the list before a reading.
+pub const PATTERN: u64 = 0xa5a5_5a5a_c3c3_3c3c;
+
+impl Case {
+    pub fn new(table: Vec<u8>, stream: Vec<u8>, words: usize) -> Self {
+        Case { table, stream, words, left_out: None }
+    }
+
+    pub fn answer(&self) -> Answer {
+        let mut list = vec![PATTERN; self.words];
+        let reading = reader::read(&self.table, &self.stream, &mut list);
+        let entries = list.chunks_exact(4).take(reading.entries as usize);
+        Answer {
+            check: reader::check(&self.table),
+            reading,
+            entries: entries.map(|e| [e[0], e[1], e[2], e[3]]).collect(),
+        }
+    }
+
+    pub fn write(&self, file: &mut Vec<u8>) {
+        for number in [self.table.len(), self.stream.len(), self.words] {
+            file.extend((number as u32).to_le_bytes());
+        }
+        file.extend(&self.table);
+        file.extend(&self.stream);
+    }
+}
+
+pub fn write_file(cases: &[Case]) -> Vec<u8> {
+    let mut file = Vec::new();
+    cases.iter().for_each(|case| case.write(&mut file));
+    file
+}
+
+/// The next case of a file, which is moved on; `None` at its end or if it is cut.
+pub fn next_case(file: &mut &[u8]) -> Option<Case> {
+    let mut number = || {
+        let (head, rest) = file.split_first_chunk::<4>()?;
+        *file = rest;
+        Some(u32::from_le_bytes(*head) as usize)
+    };
+    let (table, stream, words) = (number()?, number()?, number()?);
+    let (table, rest) = file.split_at_checked(table)?;
+    let (stream, rest) = rest.split_at_checked(stream)?;
+    *file = rest;
+    Some(Case::new(table.to_vec(), stream.to_vec(), words))
+}
+
+impl Answer {
+    pub fn write(&self, text: &mut String) {
+        let Reading { number, entries, place, first, second } = self.reading;
+        let (refusal, byte) = self.check;
+        let _ = writeln!(text, "{refusal} {byte}\n{number} {entries} {place} {first} {second}");
+        for [kind, place, bits, value] in &self.entries {
+            let _ = writeln!(text, "{kind} {place} {bits} {value}");
+        }
+        text.push('\n');
+    }
+}
+
+/// The next answer of an answers file; `None` if there is none of the right form.
+pub fn next_answer<'a>(lines: &mut impl Iterator<Item = &'a str>) -> Option<Answer> {
+    let [refusal, byte] = numbers(lines.next()?)?;
+    let [number, entries, place, first, second] = numbers(lines.next()?)?;
+    let reading = Reading { number, entries, place, first, second };
+    let mut list = Vec::new();
+    loop {
+        let line = lines.next()?;
+        if line.is_empty() {
+            return Some(Answer { check: (refusal, byte), reading, entries: list });
+        }
+        list.push(numbers(line)?);
+    }
+}
+
+/// Exactly `N` decimal numbers with one blank between them.
+fn numbers<const N: usize>(line: &str) -> Option<[u64; N]> {
+    let mut numbers = [0; N];
+    let mut words = line.split(' ');
+    for number in &mut numbers {
+        *number = words.next()?.parse().ok()?;
+    }
+    words.next().is_none().then_some(numbers)
+}
+
+#[cfg(test)]
+mod tests {
+    use super::*;
+    use crate::records::{Records, NO_SLOT};
+
+    fn figure() -> Case {
+        let mut records = Records::new();
+        records.stream(0, 255).event(0, 0).root(5, 1).unsigned(8, NO_SLOT, 0);
+        Case::new(records.bytes, vec![42], 31)
+    }
+
+    #[test]
+    fn files_come_back() {
+        let cases = [figure(), Case::new(vec![], vec![], 0), Case::new(vec![1, 2], vec![3], 9)];
+        let file = write_file(&cases);
+        assert_eq!(file[..12], [40, 0, 0, 0, 1, 0, 0, 0, 31, 0, 0, 0]);
+        let mut rest = &file[..];
+        for case in &cases {
+            let back = next_case(&mut rest).unwrap();
+            assert_eq!(
+                (&back.table, &back.stream, back.words),
+                (&case.table, &case.stream, case.words)
+            );
+        }
+        assert!(rest.is_empty());
+        assert!(next_case(&mut &file[..20]).is_none());
+    }
+
+    #[test]
+    fn answers_come_back() {
+        let answer = figure().answer();
+        let mut text = String::new();
+        answer.write(&mut text);
+        let start = "0 40\n40 7 8 0 0\n1 0 0 0\n2 0 0 0\n3 0 8 8\n4 0 0 0\n5 0 0 0\n28 0 0 1\n18 0 8 42\n\n";
+        assert_eq!(text, start);
+        assert_eq!(next_answer(&mut text.lines()), Some(answer));
+        assert_eq!(next_answer(&mut "0 40\n1 2 3\n\n".lines()), None);
+        assert_eq!(next_answer(&mut "0 40\n40 0 0 0 0".lines()), None);
+    }
+}

@@ -1,0 +1,20 @@
+//! A second reader for CTF 2 data streams, and what is needed to compare
+//! another reader with it.
+
+pub mod bits;
+pub mod case;
+pub mod class;
+pub mod corners;
+pub mod damage;
+pub mod demand;
+pub mod edges;
+pub mod encode;
+pub mod generate;
+pub mod make_table;
+pub mod program;
+pub mod random;
+pub mod reader;
+pub mod records;
+pub mod shrink;
+pub mod table;
+pub mod trial;

@@ -1,0 +1,105 @@
+//! `compare answers`, `compare cases`, `compare run` and `compare soak`.
+
+use compare::case::{next_case, write_file};
+use compare::generate::generate;
+use compare::program::Program;
+use compare::trial::{try_cases, Tally};
+use std::io::{Read, Write};
+use std::process::ExitCode;
+use std::time::{Duration, Instant, SystemTime, UNIX_EPOCH};
+
+const USE: &str = "use:
+  compare answers < case file
+  compare cases SEED COUNT > case file
+  compare run [--each N] SEED COUNT PROGRAM [ARGS...]
+  compare soak SECONDS PROGRAM [ARGS...]";
+
+const BATCH: usize = 1000;
+
+fn main() -> ExitCode {
+    let args: Vec<String> = std::env::args().skip(1).collect();
+    let words: Vec<&str> = args.iter().map(String::as_str).collect();
+    let done = match words[..] {
+        ["answers"] => answers(),
+        ["cases", seed, count] => cases(seed, count),
+        ["run", "--each", each, seed, count, ref program @ ..] => run(each, seed, count, program),
+        ["run", seed, count, "--each", each, ref program @ ..] => run(each, seed, count, program),
+        ["run", seed, count, ref program @ ..] => run("0", seed, count, program),
+        ["soak", seconds, ref program @ ..] => soak(seconds, program),
+        _ => None,
+    };
+    done.unwrap_or_else(|| {
+        eprintln!("{USE}");
+        ExitCode::from(2)
+    })
+}
+
+fn program(words: &[&str]) -> Option<Program> {
+    let (name, args) = words.split_first()?;
+    Some(Program { name: name.to_string(), args: args.iter().map(|arg| arg.to_string()).collect() })
+}
+
+fn answers() -> Option<ExitCode> {
+    let mut file = Vec::new();
+    let mut output = std::io::stdout().lock();
+    if let Err(error) = std::io::stdin().lock().read_to_end(&mut file) {
+        eprintln!("the case file could not be read: {error}");
+        return Some(ExitCode::FAILURE);
+    }
+    let mut rest = &file[..];
+    let mut text = String::new();
+    while let Some(case) = next_case(&mut rest) {
+        text.clear();
+        case.answer().write(&mut text);
+        if output.write_all(text.as_bytes()).is_err() {
+            return Some(ExitCode::FAILURE);
+        }
+    }
+    if !rest.is_empty() {
+        eprintln!("the case file is cut");
+        return Some(ExitCode::FAILURE);
+    }
+    Some(ExitCode::SUCCESS)
+}
+
+fn cases(seed: &str, count: &str) -> Option<ExitCode> {
+    let file = write_file(&generate(seed.parse().ok()?, count.parse().ok()?));
+    let written = std::io::stdout().lock().write_all(&file);
+    Some(if written.is_ok() { ExitCode::SUCCESS } else { ExitCode::FAILURE })
+}
+
+fn run(each: &str, seed: &str, count: &str, words: &[&str]) -> Option<ExitCode> {
+    let program = program(words)?;
+    let (each, seed, count): (usize, u64, usize) =
+        (each.parse().ok()?, seed.parse().ok()?, count.parse().ok()?);
+    println!("seed {seed}");
+    let mut tally = Tally::default();
+    if !try_cases(&program, &generate(seed, count), &mut tally) {
+        return Some(ExitCode::FAILURE);
+    }
+    print!("{tally}");
+    let rare = tally.rarer_than(each);
+    if !rare.is_empty() {
+        println!("occurred fewer than {each} times: {rare:?}");
+        return Some(ExitCode::FAILURE);
+    }
+    Some(ExitCode::SUCCESS)
+}
+
+fn soak(seconds: &str, words: &[&str]) -> Option<ExitCode> {
+    let program = program(words)?;
+    let limit = Duration::from_secs(seconds.parse().ok()?);
+    let start = Instant::now();
+    let mut seed =
+        SystemTime::now().duration_since(UNIX_EPOCH).map_or(1, |now| now.as_nanos() as u64);
+    let mut tally = Tally::default();
+    while start.elapsed() < limit {
+        if !try_cases(&program, &generate(seed, BATCH), &mut tally) {
+            println!("seed {seed}, {BATCH} cases");
+            return Some(ExitCode::FAILURE);
+        }
+        seed = seed.wrapping_add(1);
+    }
+    print!("{tally}");
+    Some(ExitCode::SUCCESS)
+}

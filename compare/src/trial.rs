@@ -1,0 +1,130 @@
+//! Tries a program against this reader and tells what it found.
+
+use crate::case::{Answer, Case};
+use crate::demand::demand;
+use crate::generate::NUMBERS;
+use crate::program::{Program, Run};
+use crate::shrink::shrink;
+use std::collections::BTreeMap;
+use std::fmt;
+use std::time::Duration;
+
+/// The longest a program may take over all cases, over one case, and the longest shrinking.
+const ALL_CASES: Duration = Duration::from_secs(900);
+const ONE_CASE: Duration = Duration::from_secs(10);
+const SHRINKING: Duration = Duration::from_secs(60);
+
+/// What agreed so far.
+#[derive(Default)]
+pub struct Tally {
+    cases: usize,
+    numbers: BTreeMap<u64, usize>,
+    pairs_with: usize,
+    pairs_without: usize,
+}
+
+impl Tally {
+    fn count(&mut self, answer: &Answer) {
+        self.cases += 1;
+        *self.numbers.entry(answer.reading.number).or_default() += 1;
+        if answer.check.0 != 0 {
+            *self.numbers.entry(answer.check.0).or_default() += 1;
+        }
+    }
+
+    fn times(&self, number: u64) -> usize {
+        self.numbers.get(&number).copied().unwrap_or(0)
+    }
+
+    /// The numbers that occurred fewer than `each` times.
+    pub fn rarer_than(&self, each: usize) -> Vec<u64> {
+        let all = std::iter::once(0).chain(NUMBERS);
+        all.filter(|&number| self.times(number) < each).collect()
+    }
+}
+
+impl fmt::Display for Tally {
+    fn fmt(&self, f: &mut fmt::Formatter) -> fmt::Result {
+        writeln!(f, "{} cases agreed", self.cases)?;
+        for (index, number) in std::iter::once(0).chain(NUMBERS).enumerate() {
+            let end = if index % 8 == 7 { "\n" } else { "  " };
+            write!(f, "{number:>2}: {:<7}{end}", self.times(number))?;
+        }
+        writeln!(f)?;
+        let (with, without) = (self.pairs_with, self.pairs_without);
+        writeln!(f, "classes left out: {with} pairs where one was found, {without} where none was")
+    }
+}
+
+/// Runs the program over the cases; false, after a report, if something differs.
+pub fn try_cases(program: &Program, cases: &[Case], tally: &mut Tally) -> bool {
+    let Run { answers, fault } = program.run(cases, ALL_CASES);
+    for (index, (case, answer)) in cases.iter().zip(&answers).enumerate() {
+        if *answer != case.answer() {
+            println!("case {index} differs");
+            report(program, case);
+            return false;
+        }
+        tally.count(answer);
+        if let (Some(left_out), Some(before)) = (&case.left_out, index.checked_sub(1)) {
+            match demand(&answers[before], answer, left_out) {
+                Ok(true) => tally.pairs_with += 1,
+                Ok(false) => tally.pairs_without += 1,
+                Err(fault) => {
+                    println!("cases {before} and {index}, classes left out: {fault}\n{left_out:?}");
+                    print!("full\n{}short\n{}", shown(&cases[before]), shown(case));
+                    print!("full answer\n{}short answer\n{}", text(&answers[before]), text(answer));
+                    return false;
+                }
+            }
+        }
+    }
+    let Some(fault) = fault else { return true };
+    println!("{fault}; {} of {} answers came", answers.len(), cases.len());
+    // Answers may be lost in a buffer, so the case that ended it may be a later one.
+    let at_fault = cases[answers.len()..].iter().find(|case| differs(program, case));
+    if let Some(case) = at_fault {
+        report(program, case);
+    }
+    false
+}
+
+fn single(program: &Program, case: &Case) -> Result<Answer, String> {
+    let Run { mut answers, fault } = program.run(std::slice::from_ref(case), ONE_CASE);
+    match (answers.pop(), fault) {
+        (Some(answer), None) => Ok(answer),
+        (_, fault) => Err(fault.unwrap_or_default()),
+    }
+}
+
+fn differs(program: &Program, case: &Case) -> bool {
+    single(program, case) != Ok(case.answer())
+}
+
+/// Shrinks a case that differs and prints it with both answers.
+fn report(program: &Program, case: &Case) {
+    let small = match differs(program, case) {
+        true => shrink(case, SHRINKING, |candidate| differs(program, candidate)),
+        false => {
+            println!("it does not differ when run alone");
+            case.clone()
+        }
+    };
+    print!("{}", shown(&small));
+    print!("this reader\n{}", text(&small.answer()));
+    match single(program, &small) {
+        Ok(answer) => print!("the program\n{}", text(&answer)),
+        Err(fault) => println!("the program\n{fault}"),
+    }
+}
+
+fn text(answer: &Answer) -> String {
+    let mut text = String::new();
+    answer.write(&mut text);
+    text
+}
+
+fn shown(case: &Case) -> String {
+    let hex = |bytes: &[u8]| bytes.iter().map(|byte| format!("{byte:02x}")).collect::<String>();
+    format!("table {}\nstream {}\nroom {}\n", hex(&case.table), hex(&case.stream), case.words)
+}
