@@ -39,12 +39,12 @@ use Rattle.classes.proofs.Lookups.{found-some, found-none, first-holds, sixteen
 use Rattle.classes.proofs.Asked.{asked-at}
 use Rattle.laws.specs.Kept.{KeepsEvents}
 use Rattle.laws.proofs.Kept.{accepted-keeps}
-use Rattle.reader.specs.declared.Ran.{Ran}
-use Rattle.reader.specs.Ready.{classOf, RootStands, Ready}
-use Rattle.reader.specs.Ran.{RanDid}
-use Rattle.reader.specs.Pieces.{firstState, Lent}
+use Rattle.events.specs.declared.Ran.{Ran}
+use Rattle.events.specs.Ready.{classOf, RootStands, Ready}
+use Rattle.events.specs.Ran.{RanDid}
+use Rattle.packets.specs.Pieces.{firstState, Lent}
 use Rattle.reader.specs.Answer.{refusedWith, answerOf, Answers}
-use Rattle.reader.proofs.Looked.{root-class, root-stands}
+use Rattle.events.proofs.Looked.{root-class, root-stands}
 
 -- What the trace class lends
 

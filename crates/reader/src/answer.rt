@@ -1,5 +1,5 @@
 // What a reading answers: "Result: number (0 accepted), entries, place, two ids."
-use crate::Ran;
+use events::Ran;
 use listing::Went;
 use rules::BitPlace;
 use rules::Refusal;

@@ -1,0 +1,9 @@
+pub mod Marks
+pub mod Looked
+pub mod Rooted
+pub mod Unset
+pub mod Parted
+pub mod Bodies
+pub mod Evented
+pub mod Moving
+pub mod Rounding

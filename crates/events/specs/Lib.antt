@@ -1,0 +1,3 @@
+pub mod Ready
+pub mod Ran
+pub mod Event

@@ -1,0 +1,6 @@
+pub mod StreamClass
+pub mod Packeted
+pub mod Running
+pub mod Fitted
+pub mod Onward
+pub mod Rounds
