@@ -1,45 +1,42 @@
 -- An event behind its header: 39 and room, the lookup, and the other roots behind entry 5.
 use mathlib.Core.Path.{_≡_, refl, ap, sym, _∙_}
-use Prim.Native.Nat.{ℕ, _+_, _-_, _≤_, _<_}
-use native.Mathlib.Omega.{arith}
+use Prim.Native.Nat.{ℕ, _+_, _≤_, _<_}
 use mathlib.Core.List.{List, [], _∷_, _++_}
 use mathlib.Core.Bool.{Bool, true, false, _&&_}
-use mathlib.Core.Option.{Option, none, some}
+use mathlib.Core.Option.{none, some}
 use lib.ListN.{length, drop}
 use lib.Dec.{ltb}
 use Rattle.rules.specs.declared.Stop.{Stop}
-use Rattle.rules.specs.declared.Refusal.{Refusal}
 use Rattle.rules.specs.declared.Refusal.the-variants.{ClockWentBack, EventClassUnknown, ListFull}
 use Rattle.rules.specs.Verdict.{stopAt}
-use Rattle.rules.specs.Slots.{Slots, packetSlots}
+use Rattle.rules.specs.Slots.{Slots}
 use Rattle.rules.specs.Entry.{entry, words, eventClassFound}
-use Rattle.rules.specs.Step.{State as Full, Out, stop, go, Step, onto, after, _⨾_, refuse, check, due, listed, change, withLast}
+use Rattle.rules.specs.Step.{stop, Step, after, _⨾_, refuse, listed, withLast}
 use Rattle.rules.specs.Field.{Env}
 use Rattle.rules.specs.Table.{StreamClass, EventClass, Asked}
 use Rattle.rules.specs.Packet.{mark, withEvent}
-use Rattle.facts.proofs.Steps.{onto-nil}
-use Rattle.laws.specs.Kept.{RootKeeps}
 use Rattle.listing.specs.declared.State.{State}
 use Rattle.listing.specs.declared.Went.the-variants.{On, Stopped}
-use Rattle.listing.specs.Did.{Did, full, outOf}
+use Rattle.listing.specs.Did.{full}
 use Rattle.listing.proofs.Checks.{room-first}
 use Rattle.listing.proofs.Roles.{went-no-further}
 use Rattle.listing.proofs.Parts.{Part, part-last-on, part-last-stopped, back-room, lent, merged}
 use Rattle.classes.specs.declared.Found.{Found}
 use Rattle.classes.specs.declared.Found.the-variants.{At, Nothing}
-use Rattle.classes.specs.Trees.{whole}
-use Rattle.classes.specs.Fragments.{mapOption, rootPlace, rootClass, streamClassAt, eventClassAt, findEventAt, fragmentsOf, isEvent, askedAt}
-use Rattle.classes.specs.Sizes.{foundOf, SizedFragment, Sized}
+use Rattle.classes.specs.Fragments.{mapOption, rootPlace, streamClassAt, eventClassAt, findEventAt, fragmentsOf, isEvent, askedAt}
+use Rattle.classes.specs.Sizes.{foundOf, SizedFragment}
 use Rattle.classes.specs.Notes.{Notes}
 use Rattle.classes.proofs.Lookups.{found-some, found-none, first-holds}
-use Rattle.rules.specs.Limits.{depthLimit}
-use Rattle.events.specs.declared.Ran.{Ran}
+use Rattle.parts.specs.declared.Ran.{Ran}
 use Rattle.events.specs.declared.Asking.{Asking}
-use Rattle.events.specs.Ready.{classOf, RootStands, Ready, OfStream}
-use Rattle.events.specs.Ran.{EventDid, stoppedRan, lastState}
-use Rattle.events.specs.Event.{partsOf, bodyOf, PartStands}
-use Rattle.events.proofs.Marks.{check-stop, check-on, due-stop, change-on}
-use Rattle.events.proofs.Looked.{root-class, root-stands}
+use Rattle.parts.specs.Roots.{classOf}
+use Rattle.events.specs.Ready.{Ready, OfStream}
+use Rattle.parts.specs.Ran.{EventDid, stoppedRan}
+use Rattle.events.specs.Event.{lastState}
+use Rattle.parts.specs.Roots.{partsOf, PartStands}
+use Rattle.events.specs.Event.{bodyOf}
+use Rattle.parts.proofs.Marks.{check-stop, check-on, due-stop, change-on}
+use Rattle.parts.proofs.Looked.{root-class, root-stands}
 
 -- a step that stopped with nothing listed
 pub nothing-did : (M : Step) (st : State) (l : Slots) (ws : List ℕ) (v : Stop) → M (full st l (length ws)) ≡ stop [] v → EventDid M st l (stoppedRan v 0 st) ws ws

@@ -3,7 +3,7 @@ use mathlib.Core.Path.{_≡_, refl, ap, sym, _∙_}
 use Prim.Native.Nat.{ℕ, _+_, _-_, _≤_, _<_}
 use native.Mathlib.Omega.{arith}
 use mathlib.Core.List.{List, [], _∷_, _++_, append-nil}
-use mathlib.Core.Bool.{Bool, true, false, _&&_}
+use mathlib.Core.Bool.{_&&_}
 use lib.ListN.{length, drop, take, replicate, length-take}
 use lib.Seq.{take-at}
 use Rattle.rules.specs.declared.Content.the-variants.{Unset}
@@ -16,16 +16,16 @@ use Rattle.rules.specs.declared.Refusal.the-variants.{ClockWentBack, EventTookN
 use Rattle.rules.specs.Verdict.{stopAt}
 use Rattle.rules.specs.Slots.{Slots, packetSlots}
 use Rattle.rules.specs.Entry.{entry, words, eventStarts, eventClassFound}
-use Rattle.rules.specs.Step.{State as Full, Out, stop, go, Step, onto, after, _⨾_, pass, refuse, check, due, listed, change, withLast}
+use Rattle.rules.specs.Step.{State as Full, Out, stop, go, Step, onto, after, _⨾_, refuse, check, due, listed, change, withLast}
 use Rattle.rules.specs.Field.{Env}
 use Rattle.rules.specs.Table.{StreamClass, Asked}
 use Rattle.rules.specs.Packet.{mark, readRoot, withEvent, startEvent, readEvent}
-use Rattle.facts.proofs.Steps.{onto-nil, after-onto}
+use Rattle.facts.proofs.Steps.{after-onto}
 use Rattle.finding.specs.declared.Frame.{Frame}
 use Rattle.listing.specs.declared.State.{State}
 use Rattle.listing.specs.declared.Went.the-variants.{On, Stopped}
 use Rattle.finding.specs.Framed.{Framed, envOf}
-use Rattle.listing.specs.Did.{Did, full, outOf}
+use Rattle.listing.specs.Did.{full, outOf}
 use Rattle.listing.proofs.Checks.{check-stops, check-goes, room-first, no-room-first}
 use Rattle.listing.proofs.Parts.{Part, part-step, part-stop, back-room, lent, merged}
 use Rattle.laws.specs.Kept.{RootKeeps}
@@ -34,12 +34,15 @@ use Rattle.classes.specs.Notes.{Notes}
 use Rattle.fields.specs.declared.Field.{Field}
 use Rattle.fields.specs.Reads.{FieldReads}
 use Rattle.events.specs.declared.Asking.{Asking}
-use Rattle.events.specs.Ready.{classOf, Ready, OfStream}
-use Rattle.events.specs.declared.Ran.{Ran}
-use Rattle.events.specs.Ran.{EventDid, stoppedRan, startState}
-use Rattle.events.specs.Event.{partsOf, bodyOf}
-use Rattle.events.proofs.Marks.{part-same, change-on}
-use Rattle.events.proofs.Parted.{Parted}
+use Rattle.parts.specs.Roots.{classOf}
+use Rattle.events.specs.Ready.{Ready, OfStream}
+use Rattle.parts.specs.declared.Ran.{Ran}
+use Rattle.parts.specs.Ran.{EventDid, stoppedRan}
+use Rattle.events.specs.Event.{startState}
+use Rattle.parts.specs.Roots.{partsOf}
+use Rattle.events.specs.Event.{bodyOf}
+use Rattle.parts.proofs.Marks.{part-same, change-on}
+use Rattle.parts.proofs.Parted.{Parted}
 
 -- steps in a row, however they are bracketed
 seq-same : (m g g′ : Step) (s : Full) → ((s : Full) → g s ≡ g′ s) → (m ⨾ g) s ≡ (m ⨾ g′) s

@@ -1,8 +1,4 @@
-pub mod Marks
-pub mod Looked
-pub mod Rooted
 pub mod Unset
-pub mod Parted
 pub mod Bodies
 pub mod Evented
 pub mod Moving

@@ -2,7 +2,7 @@
 use mathlib.Core.Path.{_≡_, refl, subst}
 use Prim.Native.Nat.{ℕ, _+_, _≤_, _<_}
 use native.Mathlib.Omega.{arith}
-use mathlib.Core.List.{List, []}
+use mathlib.Core.List.{List}
 use mathlib.Core.Bool.{Bool, true, false}
 use mathlib.Core.Option.{Option, none, some}
 use mathlib.Core.Logic.{⊎-elim}
@@ -17,7 +17,7 @@ use Rattle.rules.specs.Step.{State, Out, stop, go, Step, onto, after, _⨾_, pa
 use Rattle.rules.specs.Field.{Env}
 use Rattle.rules.specs.Table.{StreamClass, EventClass, Asked}
 use Rattle.rules.specs.Packet.{mark, readRoot, withEvent, startEvent, readEvent}
-use Rattle.events.proofs.Parted.{root-between}
+use Rattle.parts.proofs.Parted.{root-between}
 
 -- what holds of the state where an outcome goes on
 abbrev pub Onward : (State → Type 0) → Out → Type 0

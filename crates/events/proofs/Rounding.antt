@@ -27,10 +27,11 @@ use Rattle.listing.specs.Did.{Did, full, outOf}
 use Rattle.listing.proofs.Checks.{room-first, no-room-first}
 use Rattle.listing.proofs.Roles.{went-listing}
 use Rattle.listing.proofs.Parts.{Part, part-start, part-step, part-stop, part-last-on, part-length, back-room, lent, merged, lent-room}
-use Rattle.events.specs.declared.Ran.{Ran}
-use Rattle.events.specs.Ran.{RanDid, EventDid, stoppedRan, startState, atPlace}
-use Rattle.events.proofs.Marks.{part-same, change-on}
-use Rattle.events.proofs.Evented.{behindStart, event-full, event-starts, left-stops}
+use Rattle.parts.specs.declared.Ran.{Ran}
+use Rattle.parts.specs.Ran.{RanDid, EventDid, stoppedRan}
+use Rattle.events.specs.Event.{startState, atPlace}
+use Rattle.parts.proofs.Marks.{part-same, change-on}
+use Rattle.events.proofs.Evented.{behindStart, event-full, event-starts}
 use Rattle.events.proofs.Moving.{event-moves, onward-out, Moved}
 
 module _ (a : Asked) (c : StreamClass) (b u : List ℕ) (f : Frame) (to : BitPlace) (o : Out) (given : Slots) where

@@ -1,14 +1,12 @@
 -- The slots of an event that starts, unset one after the other.
-use mathlib.Core.Path.{_≡_, refl, sym, ap, _∙_}
-use Prim.Native.Nat.{ℕ, zero, suc, _+_, _-_, _≤_, _<_}
+use mathlib.Core.Path.{_≡_}
+use Prim.Native.Nat.{ℕ, suc, _+_, _-_, _≤_, _<_}
 use native.Mathlib.Omega.{arith}
 use native.Mathlib.Numerals.{add-one}
-use mathlib.Core.List.{List, [], _∷_, _++_, append-nil}
-use lib.ListN.{length, set, take, drop, replicate, length-drop, drop-of-length-le}
+use mathlib.Core.List.{[], _++_, append-nil}
+use lib.ListN.{length, set, take, drop, replicate, drop-of-length-le}
 use lib.Seq.{sets, sets-eq}
 use Rattle.rules.specs.declared.Content.the-variants.{Unset}
-use Rattle.rules.specs.declared.Slot.{Slot}
-use Rattle.rules.specs.Limits.{slotCount, packetSlotCount}
 use Rattle.rules.specs.Slots.{Slots, slot, packetSlots}
 
 -- what is still to be unset, from i on

@@ -1,22 +1,15 @@
--- An event's steps behind its header, apart: 39 and the lookup; the other roots.
+-- An event's steps behind its header: 39 and the lookup, and then the other roots; and the states between its steps, as the code says them.
 use mathlib.Core.Bool.{_&&_}
-use mathlib.Core.List.{List}
-use mathlib.Core.Option.{Option}
-use Prim.Native.Nat.{ℕ}
 use lib.Dec.{ltb}
+use Rattle.rules.specs.declared.BitPlace.{BitPlace}
 use Rattle.rules.specs.declared.Refusal.the-variants.{ClockWentBack}
-use Rattle.rules.specs.Class.{Class}
 use Rattle.rules.specs.Entry.{eventClassFound}
 use Rattle.rules.specs.Step.{Step, _⨾_, check, due, change, withLast}
 use Rattle.rules.specs.Field.{Env}
 use Rattle.rules.specs.Table.{StreamClass, Asked}
-use Rattle.rules.specs.Packet.{mark, readRoot, withEvent}
-use Rattle.laws.specs.Kept.{RootKeeps}
-use Rattle.classes.specs.declared.Found.{Found}
-use Rattle.events.specs.Ready.{classOf, RootStands}
-
-unfoldable pub partsOf : Env → Option Class → Option Class → Option Class → Step
-partsOf e c d p = readRoot e c ⨾ readRoot e d ⨾ readRoot e p
+use Rattle.rules.specs.Packet.{mark, withEvent}
+use Rattle.listing.specs.declared.State.{State}
+use Rattle.parts.specs.Roots.{partsOf}
 
 unfoldable pub bodyOf : Asked → StreamClass → Env → Step
 bodyOf t c e =
@@ -26,10 +19,19 @@ bodyOf t c e =
     ⨾ λ s. withEvent (c .id) (s .said .event) (t .event (c .id) (s .said .event))
     (λ d. mark eventClassFound 0 (s .said .event) ⨾ partsOf e (c .common) (d .specific) (d .payload)) s
 
--- a root that was looked for stands whole, and reading it keeps slots 0 to 15
-pub record PartStands (t : List ℕ) (f : Found) : Type 0 where
-  pub stands : RootStands t f
-  pub keeps : RootKeeps (classOf t f)
+-- the state of an event that starts: its id is 0 until its header says one
+abbrev pub startState : State → State
+startState st = record {
+  place = st .place;
+  order = st .order;
+  clock = st .clock;
+  last = st .last;
+  said = record { stream = st .said .stream; total = st .said .total; content = st .said .content; ending = st .said .ending; event = 0 };
+}
 
-abbrev pub PartsStand : List ℕ → Found → Found → Found → Type 0
-PartsStand t c d p = PartStands t c × PartStands t d × PartStands t p
+abbrev pub lastState : State → State
+lastState st = record { place = st .place; order = st .order; clock = st .clock; last = st .clock .value; said = st .said }
+
+-- at a place
+abbrev pub atPlace : BitPlace → State → State
+atPlace p st = record { place = p; order = st .order; clock = st .clock; last = st .last; said = st .said }

@@ -1,27 +1,13 @@
--- What the steps of a reading rest on: an accepted table with its notes, roots that were found, and what a packet's events ask of their
--- stream class.
+-- What the steps of a reading rest on: an accepted table with its notes, and what a packet's events ask of their stream class.
 use Prim.Native.Nat.{ℕ}
 use mathlib.Core.Path.{_≡_}
 use mathlib.Core.List.{List}
-use mathlib.Core.Option.{Option, none, some}
-use Rattle.rules.specs.Limits.{depthLimit}
-use Rattle.rules.specs.Class.{Class}
+use mathlib.Core.Option.{some}
 use Rattle.laws.specs.Kept.{KeepsEvents}
-use Rattle.classes.specs.declared.Found.{Found}
-use Rattle.classes.specs.declared.Found.the-variants.{At, Nothing}
-use Rattle.classes.specs.Trees.{classAt, whole}
 use Rattle.classes.specs.Fragments.{streamClassAt, askedAt}
 use Rattle.classes.specs.Notes.{Notes, Prepared}
+use Rattle.parts.specs.Roots.{classOf, RootStands}
 use Rattle.events.specs.declared.Asking.{Asking}
-
--- the class of a root that was looked for
-unfoldable pub classOf : List ℕ → Found → Option Class
-classOf t Nothing = none
-classOf t (At p) = some (classAt depthLimit t p)
-
-unfoldable pub RootStands : List ℕ → Found → Type 0
-RootStands t Nothing = Unit {0}
-RootStands t (At p) = whole depthLimit t p
 
 -- a table that the check accepted, with its notes; its events keep the packet's slots
 pub record Ready (t : List ℕ) (x : Notes) : Type 0 where

@@ -1,9 +1,6 @@
 // One event, step by step as the paper lists them: "entry 4; event header; 39; entry 5 and the lookup of the id; common, specific,
 // payload; 38 if the place did not move". Its slots go in by value, and none come back.
 use crate::Asking;
-use crate::Ran;
-use crate::root::read_root;
-use crate::stopped;
 use classes::Found;
 use contradictions::went_back;
 use finding::Frame;
@@ -12,6 +9,10 @@ use listing::Went;
 use listing::entry::write;
 use lookups::find_event_class;
 use lookups::root_place;
+use parts::Ran;
+use parts::read_parts;
+use parts::root::read_root;
+use parts::stopped;
 use rules::Content;
 use rules::Entry;
 use rules::Refusal;
@@ -22,11 +23,11 @@ ghost use mathlib.Core.Path.{_≡_};
 ghost use Rattle.rules.specs.Slots.{packetSlots};
 ghost use Rattle.rules.specs.Packet.{readEvent};
 ghost use Rattle.finding.specs.Framed.{Framed, envOf};
-ghost use Rattle.classes.specs.Notes.{notes, Prepared};
+ghost use Rattle.classes.specs.Notes.{notes};
 ghost use Rattle.classes.specs.Fragments.{streamClassAt, askedAt};
-ghost use Rattle.events.specs.Ready.{classOf, Ready, OfStream};
-ghost use Rattle.events.specs.Ran.{EventDid, startState, lastState};
-ghost use Rattle.events.specs.Event.{partsOf, bodyOf, PartsStand};
+ghost use Rattle.parts.specs.Ran.{EventDid};
+ghost use Rattle.events.specs.Ready.{Ready, OfStream};
+ghost use Rattle.events.specs.Event.{bodyOf, startState, lastState};
 
 const EVENT_STARTS: u64 = 4;
 
@@ -234,101 +235,6 @@ fn read_body(
                         state,
                     }
                 }
-            }
-        }
-    }
-}
-
-// The roots behind the lookup: common, specific, payload.
-fn read_parts(
-    table: &[u8],
-    sizes: &[u16],
-    aligns: &[u8],
-    uuid: &[u8],
-    stream: &[u8],
-    frame: Frame,
-    common: Found,
-    specific: Found,
-    payload: Found,
-    st: State,
-    slots: [Slot; 64],
-    list: &mut [u64],
-) -> Ran
-    requires { ⌜ PartsStand (now table) common specific payload ⌝ }
-    requires { ⌜ Prepared (now table) (notes (now sizes) (now aligns)) ⌝ }
-    requires { ⌜ Framed (now stream) frame (st .place) ⌝ }
-    ensures { λ r. ⌜
-        EventDid
-        (partsOf (envOf (now (stream .entry)) (now (uuid .entry)) frame) (classOf (now (table .entry)) common) (classOf (now (table .entry)) specific) (classOf (now (table .entry)) payload))
-        st slots r (now (list .entry)) (now (list .exit))
-        ⌝ }
-{
-    let c = read_root(
-        table,
-        sizes,
-        aligns,
-        uuid,
-        stream,
-        frame,
-        common,
-        st,
-        slots,
-        list,
-    );
-    let went = c.went;
-    match went {
-        Went::Stopped(stop) => {
-            return stopped(stop, c.used, st);
-        }
-        Went::On => {}
-    }
-    let used = c.used;
-    let state = c.state;
-    let held = c.slots;
-    let s = read_root(
-        table,
-        sizes,
-        aligns,
-        uuid,
-        stream,
-        frame,
-        specific,
-        state,
-        held,
-        &mut list[used..],
-    );
-    let behind = used + s.used;
-    let went = s.went;
-    match went {
-        Went::Stopped(stop) => {
-            return stopped(stop, behind, st);
-        }
-        Went::On => {}
-    }
-    let state = s.state;
-    let held = s.slots;
-    let p = read_root(
-        table,
-        sizes,
-        aligns,
-        uuid,
-        stream,
-        frame,
-        payload,
-        state,
-        held,
-        &mut list[behind..],
-    );
-    let all = behind + p.used;
-    let went = p.went;
-    match went {
-        Went::Stopped(stop) => stopped(stop, all, st),
-        Went::On => {
-            let state = p.state;
-            Ran {
-                went: Went::On,
-                used: all,
-                state,
             }
         }
     }

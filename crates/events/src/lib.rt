@@ -1,11 +1,13 @@
-// A packet's events: "While the place is below the content's end". Then "entry 7; the place becomes P plus total". In order: root, a root
-// that is there is read; event, one event.
+// A packet's events: "While the place is below the content's end". Then "entry 7; the place becomes P plus total". In order: event,
+// one event.
 use classes::Found;
 use event::read_event;
 use finding::Frame;
 use listing::State;
 use listing::Went;
 use listing::entry::write;
+use parts::Ran;
+use parts::stopped;
 use rules::BitPlace;
 use rules::Entry;
 use rules::Refusal;
@@ -19,20 +21,13 @@ ghost use Rattle.finding.specs.Framed.{Framed, envOf};
 ghost use Rattle.listing.specs.Did.{full};
 ghost use Rattle.classes.specs.Notes.{notes};
 ghost use Rattle.classes.specs.Fragments.{streamClassAt, askedAt};
+ghost use Rattle.parts.specs.Ran.{RanDid};
 ghost use Rattle.events.specs.Ready.{Ready, OfStream};
-ghost use Rattle.events.specs.Ran.{RanDid, stoppedRan, atPlace};
+ghost use Rattle.events.specs.Event.{atPlace};
 
-pub mod event;
-pub mod root;
+mod event;
 
 const PACKET_ENDS: u64 = 7;
-
-// What a part of a reading did that hands no slots on: how it went, the words that it listed, and the state behind it.
-pub struct Ran {
-    pub went: Went,
-    pub used: usize,
-    pub state: State,
-}
 
 // What a packet's events ask of their stream class: where it stands, its id, whether it has a clock, and two of its roots.
 pub struct Asking {
@@ -139,16 +134,5 @@ fn ended(to: BitPlace, st: State) -> State
         clock,
         last: st.last,
         said,
-    }
-}
-
-// What stopped hands back the state as it came.
-pub fn stopped(stop: Stop, used: usize, st: State) -> Ran
-    ensures { λ r. ⌜ r ≡ stoppedRan stop used st ⌝ }
-{
-    Ran {
-        went: Went::Stopped(stop),
-        used,
-        state: st,
     }
 }

@@ -1,4 +1,3 @@
-pub mod StreamClass
 pub mod Packeted
 pub mod Running
 pub mod Fitted

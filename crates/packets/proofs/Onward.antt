@@ -1,7 +1,7 @@
 -- A packet that goes on has taken a byte or more, and ends at a whole byte of the stream: where a length is stated, the place has moved,
 -- and the content reaches it (34); where none is, the packet runs to the stream's end.
 use mathlib.Core.Path.{_≡_, refl, sym, ap, _∙_, subst}
-use mathlib.Core.Logic.{_⊎_, inl, inr}
+use mathlib.Core.Logic.{inl, inr}
 use mathlib.Core.List.{List, [], _∷_}
 use mathlib.Core.Bool.{Bool, true, false}
 use mathlib.Core.Option.{Option, none, some}
@@ -13,12 +13,10 @@ use borrow.Author.Tests.{ltb-true, ltb-false}
 use Rattle.rules.specs.declared.BitPlace.{BitPlace}
 use Rattle.rules.specs.declared.Stated.{Stated}
 use Rattle.rules.specs.declared.Stated.the-variants.{Missing}
-use Rattle.rules.specs.declared.Said.{Said}
-use Rattle.rules.specs.declared.Entry.{Entry}
 use Rattle.rules.specs.Place.{further}
 use Rattle.rules.specs.Class.{Class}
 use Rattle.rules.specs.Entry.{entry, packetStarts, streamClassFound, lengthsSettled}
-use Rattle.rules.specs.Step.{State, Out, stop, go, Step, onto, after, _⨾_, listed}
+use Rattle.rules.specs.Step.{State, Out, stop, go, after, _⨾_, listed}
 use Rattle.rules.specs.Field.{Env}
 use Rattle.rules.specs.Table.{StreamClass, Asked}
 use Rattle.rules.specs.Packet.{readRoot, readEvent, readEvents, endPacket, readContent, readPacket, above, differs, orElse, startPacket, nothingSaid}
@@ -28,12 +26,14 @@ use Rattle.laws.proofs.Triple.{Ok}
 use Rattle.laws.proofs.Between.{In, At, NoMore, Held, held-law}
 use Rattle.laws.proofs.Moved.{moved-kept}
 use Rattle.contradictions.specs.Lengths.{contradicts}
-use Rattle.packets.specs.Pieces.{packetEnv, behindFound, behindHeader}
+use Rattle.contents.specs.Pieces.{packetEnv, behindFound}
+use Rattle.packets.specs.Pieces.{behindHeader}
 use Rattle.events.proofs.Moving.{Onward, onward-onto, onward-after}
 use Rattle.listing.proofs.Checks.{room-first}
-use Rattle.events.proofs.Marks.{due-stop, less}
-use Rattle.packets.proofs.Packeted.{eventsOf, behindStart, content-full, content-lengths, content-clocks, content-marked, header-differs, header-full, header-unknown, header-marked, packet-full, packet-marked}
-use Rattle.packets.proofs.Running.{Lengths, lengths}
+use Rattle.parts.proofs.Marks.{due-stop, less}
+use Rattle.contents.proofs.Lengths.{eventsOf, content-full, content-lengths, content-clocks, content-marked}
+use Rattle.packets.proofs.Packeted.{behindStart, header-differs, header-full, header-unknown, header-marked, packet-full, packet-marked}
+use Rattle.contents.proofs.Lengths.{Lengths, lengths}
 use Rattle.packets.proofs.Fitted.{Positive, Fit}
 
 -- within the frame, and moved where a length is stated

@@ -1,49 +1,21 @@
 -- A packet's steps: where each stops, and what is left behind each entry. First of the rules' states, then of the code's.
 use mathlib.Core.Path.{_≡_, ap, _∙_}
 use mathlib.Core.List.{List, [], _∷_}
-use mathlib.Core.Bool.{Bool, true, false, not, _||_}
+use mathlib.Core.Bool.{true, false}
 use mathlib.Core.Option.{none, some}
-use Prim.Native.Nat.{ℕ, _+_, _-_, _*_, _%_, _≤_, _<_}
-use lib.ListN.{length}
-use lib.Dec.{ltb, eqb}
+use Prim.Native.Nat.{ℕ, _≤_, _<_}
 use Rattle.rules.specs.declared.BitPlace.{BitPlace}
 use Rattle.rules.specs.declared.Stated.{Stated}
-use Rattle.rules.specs.declared.Refusal.the-variants.{ListFull, StreamClassChanged, StreamClassUnknown, LengthsContradict, ClocksContradict}
+use Rattle.rules.specs.declared.Refusal.the-variants.{ListFull, StreamClassChanged, StreamClassUnknown}
 use Rattle.rules.specs.Verdict.{stopAt}
-use Rattle.rules.specs.Place.{further}
-use Rattle.rules.specs.Entry.{entry, packetStarts, streamClassFound, lengthsSettled}
+use Rattle.rules.specs.Entry.{entry, packetStarts, streamClassFound}
 use Rattle.rules.specs.Step.{State as Whole, stop, Step, onto, _⨾_, refuse}
 use Rattle.rules.specs.Table.{StreamClass, Asked}
-use Rattle.rules.specs.Packet.{mark, readRoot, readEvents, readContent, readPacket, above, differs, withStream, startPacket}
-use Rattle.contradictions.specs.Lengths.{contradicts}
-use Rattle.packets.specs.Pieces.{packetEnv, behindFound, behindHeader}
+use Rattle.rules.specs.Packet.{mark, readRoot, readPacket, differs, withStream, startPacket}
+use Rattle.contents.specs.Pieces.{packetEnv, behindFound}
+use Rattle.packets.specs.Pieces.{behindHeader}
 use Rattle.listing.proofs.Checks.{room-first}
-use Rattle.events.proofs.Marks.{check-stop, check-on, due-stop, mark-on, change-on, less}
-
-module _ (t : Asked) (c : StreamClass) (b : List ℕ) (p : BitPlace) (total content : ℕ) (s : Whole) where
-  abbrev pub eventsOf : Step
-  eventsOf = readEvents t c (record { bytes = b; start = p; bound = further p content; uuid = t .uuid }) (further p total) 0 (p .0 + content - s .place .0)
-
-  pub content-full : s .room < 4 → readContent t c b p total content s ≡ stop [] (stopAt ListFull (s .place))
-  unfolding readContent
-  content-full h = due-stop _ s h
-
-  module _ (room : 4 ≤ s .room) where
-    pub content-lengths : contradicts total content p (s .place) (8 * length b) ≡ true
-        → readContent t c b p total content s ≡ stop [] (stopAt LengthsContradict (s .place))
-    unfolding readContent
-    content-lengths h = room-first _ s room ∙ check-stop _ LengthsContradict _ s h
-
-    module _ (fine : contradicts total content p (s .place) (8 * length b) ≡ false) where
-      pub content-clocks : above (s .clock) (s .said .ending) ≡ true → readContent t c b p total content s ≡ stop [] (stopAt ClocksContradict (s .place))
-      unfolding readContent
-      content-clocks h = room-first _ s room ∙ check-on _ LengthsContradict _ s fine ∙ check-stop _ ClocksContradict _ s h
-
-      pub content-marked : above (s .clock) (s .said .ending) ≡ false
-          → readContent t c b p total content s ≡ onto (entry lengthsSettled (s .place) total content ∷ []) (eventsOf (less s))
-      unfolding readContent
-      content-marked h =
-          room-first _ s room ∙ check-on _ LengthsContradict _ s fine ∙ check-on _ ClocksContradict _ s h ∙ mark-on lengthsSettled total content _ s
+use Rattle.parts.proofs.Marks.{check-stop, check-on, due-stop, mark-on, change-on, less}
 
 module _ (t : Asked) (b : List ℕ) (p : BitPlace) (i : Stated) (s : Whole) where
   pub header-differs : differs (s .said .stream) i ≡ true → behindHeader t b p i s ≡ stop [] (stopAt StreamClassChanged (s .place))

@@ -17,10 +17,10 @@ use Rattle.listing.specs.declared.State.{State}
 use Rattle.listing.specs.declared.Went.the-variants.{On, Stopped}
 use Rattle.listing.specs.Did.{full, outOf}
 use Rattle.listing.proofs.Parts.{Part, part-start, part-step, part-stop, part-end, back-room, lent, merged}
-use Rattle.events.specs.declared.Ran.{Ran}
-use Rattle.events.specs.Ran.{RanDid, stoppedRan}
+use Rattle.parts.specs.declared.Ran.{Ran}
+use Rattle.parts.specs.Ran.{RanDid, stoppedRan}
 use Rattle.packets.specs.Pieces.{firstState, Starts, PacketDid}
-use Rattle.events.proofs.Marks.{part-same}
+use Rattle.parts.proofs.Marks.{part-same}
 use Rattle.packets.proofs.Fitted.{Fit}
 use Rattle.events.proofs.Moving.{Onward}
 use Rattle.packets.proofs.Onward.{Behind, packet-onward}

@@ -1,7 +1,7 @@
--- A packet's steps apart: what comes behind its header, and behind the lookup of its stream class; and the lent things that it goes by.
+-- A packet's steps apart: what comes behind its header; the states in which packets start; and the lent things that they go by.
 use mathlib.Core.Path.{_≡_}
 use mathlib.Core.List.{List}
-use Prim.Native.Nat.{ℕ, _-_, _*_, _%_, _≤_}
+use Prim.Native.Nat.{ℕ, _*_, _%_, _≤_}
 use lib.ListN.{length}
 use Rattle.rules.specs.declared.BitPlace.{BitPlace}
 use Rattle.rules.specs.declared.LastOrder.the-variants.{Nothing}
@@ -12,32 +12,18 @@ use Rattle.rules.specs.Place.{bitPlace}
 use Rattle.rules.specs.Entry.{streamClassFound}
 use Rattle.rules.specs.Slots.{Slots}
 use Rattle.rules.specs.Step.{Step, _⨾_, check, due}
-use Rattle.rules.specs.Field.{Env}
-use Rattle.rules.specs.Table.{StreamClass, Asked}
-use Rattle.rules.specs.Packet.{mark, readRoot, differs, withStream, orElse, nothingSaid, readContent}
+use Rattle.rules.specs.Table.{Asked}
+use Rattle.rules.specs.Packet.{mark, differs, withStream, nothingSaid}
 use Rattle.listing.specs.declared.State.{State}
-use Rattle.finding.specs.declared.Frame.{Frame}
 use Rattle.listing.specs.Did.{full}
 use Rattle.classes.specs.declared.Found.{Found}
 use Rattle.classes.specs.Fragments.{askedAt}
 use Rattle.classes.specs.Notes.{Notes}
-use Rattle.events.specs.declared.Ran.{Ran}
-use Rattle.events.specs.Ready.{classOf, RootStands, Ready}
-use Rattle.events.specs.Ran.{RanDid}
-
--- "The bound is the stream's end until the packet's lengths are known"
-abbrev pub wholeFrame : List ℕ → BitPlace → Frame
-wholeFrame b p = record { start = p; bound = bitPlace (8 * length b) }
-
-abbrev pub packetEnv : Asked → List ℕ → BitPlace → Env
-packetEnv t b p = record { bytes = b; start = p; bound = bitPlace (8 * length b); uuid = t .uuid }
-
--- behind the lookup and entry 2: the context, and what comes behind the lengths
-unfoldable pub behindFound : Asked → List ℕ → BitPlace → StreamClass → Step
-behindFound t b p c =
-    readRoot (packetEnv t b p) (c .context)
-    ⨾ λ s. let rest = 8 * length b - p .0 in
-    readContent t c b p (orElse (s .said .total) (s .said .content) rest) (orElse (s .said .content) (s .said .total) rest) s
+use Rattle.parts.specs.declared.Ran.{Ran}
+use Rattle.parts.specs.Ran.{RanDid}
+use Rattle.parts.specs.Roots.{classOf, RootStands}
+use Rattle.events.specs.Ready.{Ready}
+use Rattle.contents.specs.Pieces.{behindFound}
 
 -- behind the header: 32, the lookup and the rest
 unfoldable pub behindHeader : Asked → List ℕ → BitPlace → Stated → Step
@@ -59,12 +45,6 @@ pub record Lent (t : List ℕ) (x : Notes) (u : List ℕ) (h : Found) (b : List 
   pub ready : Ready t x
   pub stands : RootStands t h
   pub header : classOf t h ≡ (askedAt t) .header
-  pub uuid : u ≡ (askedAt t) .uuid
-  pub small : length b ≤ streamLimit
-
--- the same behind the header
-pub record Within (t : List ℕ) (x : Notes) (u : List ℕ) (b : List ℕ) : Type 0 where
-  pub ready : Ready t x
   pub uuid : u ≡ (askedAt t) .uuid
   pub small : length b ≤ streamLimit
 

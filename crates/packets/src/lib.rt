@@ -1,12 +1,12 @@
-// The packets of a stream: "Continue while bytes remain." In order: of_stream, a packet whose stream class is known; packet, one packet.
+// The packets of a stream: "Continue while bytes remain." In order: packet, one packet.
 use classes::Found;
 use clock::Clock;
-use events::Ran;
-use events::stopped;
 use listing::State;
 use listing::Went;
 use packet::nothing_said;
 use packet::read_packet;
+use parts::Ran;
+use parts::stopped;
 use rules::BitPlace;
 use rules::LastOrder;
 use rules::Stated;
@@ -17,10 +17,9 @@ ghost use Rattle.rules.specs.Read.{begin};
 ghost use Rattle.rules.specs.Packet.{readPackets};
 ghost use Rattle.classes.specs.Notes.{notes};
 ghost use Rattle.classes.specs.Fragments.{askedAt};
-ghost use Rattle.events.specs.Ran.{RanDid};
+ghost use Rattle.parts.specs.Ran.{RanDid};
 ghost use Rattle.packets.specs.Pieces.{firstState, Lent};
 
-mod of_stream;
 mod packet;
 
 // All packets, from the stream's start.

@@ -1,17 +1,17 @@
 // One packet, step by step as the paper lists them: "entry 1; header if any; stream class id must equal the first packet's (32); entry 2
 // and the lookup (33)"; then what its stream class says.
-use crate::of_stream::read_of_stream;
-use crate::of_stream::whole_frame;
 use classes::Found;
 use clock::Clock;
+use contents::read_of_stream;
+use contents::whole_frame;
 use contradictions::differs;
-use events::Ran;
-use events::root::read_root;
-use events::stopped;
 use listing::State;
 use listing::Went;
 use listing::entry::write;
 use lookups::find_stream_class;
+use parts::Ran;
+use parts::root::read_root;
+use parts::stopped;
 use rules::BitPlace;
 use rules::Content;
 use rules::Entry;
@@ -29,8 +29,9 @@ ghost use Rattle.finding.specs.Framed.{Framed};
 ghost use Rattle.listing.specs.Did.{full};
 ghost use Rattle.classes.specs.Notes.{notes};
 ghost use Rattle.classes.specs.Fragments.{askedAt};
-ghost use Rattle.events.specs.Ran.{RanDid};
-ghost use Rattle.packets.specs.Pieces.{wholeFrame, behindHeader, freshState, Lent, Within, Starts, PacketDid};
+ghost use Rattle.parts.specs.Ran.{RanDid};
+ghost use Rattle.contents.specs.Pieces.{wholeFrame, Within};
+ghost use Rattle.packets.specs.Pieces.{behindHeader, freshState, Lent, Starts, PacketDid};
 
 const PACKET_STARTS: u64 = 1;
 

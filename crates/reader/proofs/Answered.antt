@@ -22,7 +22,7 @@ use Rattle.rules.specs.Verdict.{stopAt, numberOf, placeOf, firstOf, secondOf}
 use Rattle.rules.specs.Entry.{words}
 use Rattle.rules.specs.Record.{u8}
 use Rattle.rules.specs.Step.{State as Whole, stop, go}
-use Rattle.rules.specs.Table.{Table, Asked, asked}
+use Rattle.rules.specs.Table.{Table, Asked}
 use Rattle.rules.specs.Parse.{Parsed, bad, good, parse, byteOf, checkedOf, checked}
 use Rattle.rules.specs.Packet.{readPackets}
 use Rattle.rules.specs.Read.{resultOf, listAfter, ended, begin, readStream, readParsed, readAll}
@@ -39,12 +39,14 @@ use Rattle.classes.proofs.Lookups.{found-some, found-none, first-holds, sixteen
 use Rattle.classes.proofs.Asked.{asked-at}
 use Rattle.laws.specs.Kept.{KeepsEvents}
 use Rattle.laws.proofs.Kept.{accepted-keeps}
-use Rattle.events.specs.declared.Ran.{Ran}
-use Rattle.events.specs.Ready.{classOf, RootStands, Ready}
-use Rattle.events.specs.Ran.{RanDid}
+use Rattle.parts.specs.declared.Ran.{Ran}
+use Rattle.parts.specs.Roots.{classOf, RootStands}
+use Rattle.events.specs.Ready.{Ready}
+use Rattle.parts.specs.Ran.{RanDid}
 use Rattle.packets.specs.Pieces.{firstState, Lent}
-use Rattle.reader.specs.Answer.{refusedWith, answerOf, Answers}
-use Rattle.events.proofs.Looked.{root-class, root-stands}
+use Rattle.answers.specs.Answer.{refusedWith, answerOf}
+use Rattle.reader.specs.Answers.{Answers}
+use Rattle.parts.proofs.Looked.{root-class, root-stands}
 
 -- What the trace class lends
 

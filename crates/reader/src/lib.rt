@@ -1,7 +1,6 @@
-// Reading a stream by a table: its check (20), the stream's size (21), its notes, and the packets. In order: answer, the numbers of the
-// result.
-use answer::answer;
-use answer::refused;
+// Reading a stream by a table: its check (20), the stream's size (21), its notes, and the packets.
+use answers::answer;
+use answers::refused;
 use classes::Found;
 use lookups::find_trace_class;
 use lookups::root_place;
@@ -27,9 +26,8 @@ ghost use Rattle.classes.specs.Fragments.{askedAt};
 ghost use Rattle.events.specs.Ready.{Ready};
 ghost use Rattle.rules.specs.Verdict.{stopAt};
 ghost use Rattle.rules.specs.declared.Refusal.the-variants.{StreamSize};
-ghost use Rattle.reader.specs.Answer.{Answers, refusedWith};
-
-mod answer;
+ghost use Rattle.answers.specs.Answer.{refusedWith};
+ghost use Rattle.reader.specs.Answers.{Answers};
 
 // "stream empty or over 16,777,216 bytes" (21)
 const STREAM_LIMIT: usize = 16777216;

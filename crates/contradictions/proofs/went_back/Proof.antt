@@ -1,10 +1,9 @@
 -- By whether there is a clock.
-use borrow.Author.Needs.{needs}
 use Rattle.contradictions.proofs.went_back.Statement.{statement}
 use Rattle.contradictions.proofs.went_back.Tie as tie
 use Rattle.contradictions.proofs.went_back.Reads as reads
 use Rattle.contradictions.proofs.went_back.Lts as lts
-use mathlib.Core.Path.{_≡_, refl}
+use mathlib.Core.Path.{refl}
 
 returns : tie.Need-returns
 returns c = rw (c .if1 .taken) refl

@@ -4,12 +4,12 @@ use Rattle.events.proofs.read_events.Reads as reads
 use Rattle.events.proofs.read_events.Lts as lts
 use Rattle.listing.proofs.entry.write.Reads as write-reads
 use Rattle.events.proofs.event.read_event.Reads as read-event-reads
-use Rattle.events.proofs.stopped.Reads as stopped-reads
+use Rattle.parts.proofs.stopped.Reads as stopped-reads
 use Rattle.events.proofs.ended.Reads as ended-reads
 use borrow.Author.Needs.{needs}
-use mathlib.Core.Path.{_≡_, refl, ap, sym, _∙_}
+use mathlib.Core.Path.{_∙_}
 use native.Mathlib.Omega.{arith}
-use Prim.Native.Nat.{_-_, _+_}
+use Prim.Native.Nat.{_-_}
 use lib.ListN.{length}
 use borrow.Rule.Slice.PartMut.{same-len-mid}
 use Rattle.rules.specs.Packet.{readEvents}

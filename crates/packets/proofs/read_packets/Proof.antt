@@ -3,7 +3,7 @@ use Rattle.packets.proofs.read_packets.Statement.{statement}
 use Rattle.packets.proofs.read_packets.Tie as tie
 use Rattle.packets.proofs.read_packets.Reads as reads
 use Rattle.packets.proofs.read_packets.Lts as lts
-use Rattle.events.proofs.stopped.Reads as stopped-reads
+use Rattle.parts.proofs.stopped.Reads as stopped-reads
 use Rattle.packets.proofs.packet.read_packet.Reads as read-packet-reads
 use Rattle.packets.proofs.first_state.Reads as first-state-reads
 use borrow.Author.Needs.{needs}

@@ -3,7 +3,7 @@ use Rattle.events.proofs.event.event_slots.Tie as tie
 use Rattle.events.proofs.event.event_slots.Reads as reads
 use Rattle.events.proofs.event.event_slots.Lts as lts
 use borrow.Author.Needs.{needs}
-use mathlib.Core.Path.{_≡_, refl, sym, ap, _∙_}
+use mathlib.Core.Path.{_≡_, sym, _∙_}
 use native.Mathlib.Omega.{arith}
 use Prim.Native.Nat.{_-_, _≤_}
 use Rattle.rules.specs.Slots.{packetSlots}

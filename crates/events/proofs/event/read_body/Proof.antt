@@ -6,14 +6,14 @@ use Rattle.events.proofs.event.read_body.Lts as lts
 use Rattle.listing.proofs.entry.write.Reads as write-reads
 use Rattle.lookups.proofs.find_event_class.Reads as find-event-class-reads
 use Rattle.lookups.proofs.root_place.Reads as root-place-reads
-use Rattle.events.proofs.event.read_parts.Reads as read-parts-reads
+use Rattle.parts.proofs.read_parts.Reads as read-parts-reads
 use Rattle.events.proofs.event.settled.Reads as settled-reads
-use Rattle.events.proofs.stopped.Reads as stopped-reads
+use Rattle.parts.proofs.stopped.Reads as stopped-reads
 use Rattle.contradictions.proofs.went_back.Reads as went-back-reads
-use mathlib.Core.Path.{_≡_, refl, ap, sym, _∙_}
+use mathlib.Core.Path.{refl, ap, sym, _∙_}
 use mathlib.Core.List.{[]}
 use native.Mathlib.Omega.{arith}
-use Prim.Native.Nat.{_-_, _+_}
+use Prim.Native.Nat.{_-_}
 use lib.ListN.{length}
 use borrow.Rule.Slice.PartMut.{same-len-mid}
 use Rattle.rules.specs.declared.Refusal.the-variants.{EventClassUnknown}
@@ -23,9 +23,10 @@ use Rattle.rules.specs.Entry.{eventClassFound}
 use Rattle.finding.specs.Framed.{envOf}
 use Rattle.classes.specs.Notes.{notes}
 use Rattle.classes.specs.Fragments.{askedAt, streamClassAt}
-use Rattle.events.specs.Ready.{classOf}
-use Rattle.events.specs.Event.{bodyOf, partsOf}
-use Rattle.events.specs.Ran.{lastState}
+use Rattle.parts.specs.Roots.{classOf}
+use Rattle.parts.specs.Roots.{partsOf}
+use Rattle.events.specs.Event.{bodyOf}
+use Rattle.events.specs.Event.{lastState}
 use Rattle.events.proofs.Bodies.{nothing-did, body-back, body-full, body-unknown, behind-room, behind-on, behind-stops, event-unknown, event-stands, specific-stands, payload-stands, common-stands, found-parts, back-is}
 
 went-back-requires : tie.Need-went-back-requires

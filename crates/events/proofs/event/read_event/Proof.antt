@@ -7,21 +7,21 @@ use Rattle.listing.proofs.entry.write.Reads as write-reads
 use Rattle.events.proofs.event.event_slots.Reads as event-slots-reads
 use Rattle.events.proofs.event.fresh.Reads as fresh-reads
 use Rattle.events.proofs.event.read_body.Reads as read-body-reads
-use Rattle.events.proofs.stopped.Reads as stopped-reads
-use Rattle.events.proofs.root.read_root.Reads as read-root-reads
-use mathlib.Core.Path.{_≡_, refl, ap, sym, _∙_}
+use Rattle.parts.proofs.stopped.Reads as stopped-reads
+use Rattle.parts.proofs.root.read_root.Reads as read-root-reads
+use mathlib.Core.Path.{_∙_}
 use native.Mathlib.Omega.{arith}
 use Prim.Native.Nat.{_-_, _+_}
 use lib.ListN.{length}
 use borrow.Rule.Slice.PartMut.{same-len-mid}
 use Rattle.rules.specs.Step.{_⨾_}
-use Rattle.rules.specs.Packet.{readEvent, readRoot}
+use Rattle.rules.specs.Packet.{readEvent}
 use Rattle.finding.specs.Framed.{envOf}
 use Rattle.listing.proofs.Parts.{part-length, merged}
 use Rattle.classes.specs.Notes.{notes}
 use Rattle.classes.specs.Fragments.{askedAt, streamClassAt}
 use Rattle.events.specs.Event.{bodyOf}
-use Rattle.events.proofs.Parted.{Parted, root-room, root-stops, root-goes}
+use Rattle.parts.proofs.Parted.{root-room, root-stops, root-goes}
 use Rattle.events.proofs.Bodies.{nothing-did}
 use Rattle.events.proofs.Evented.{moved, header-kept, header-read, behindStart, event-full, started, body-room, body-stops, body-goes, body-kept, left-stops, left-goes, not-moved, has-moved}
 

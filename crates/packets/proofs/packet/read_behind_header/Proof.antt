@@ -6,15 +6,15 @@ use Rattle.packets.proofs.packet.read_behind_header.Reads as reads
 use Rattle.packets.proofs.packet.read_behind_header.Lts as lts
 use Rattle.listing.proofs.entry.write.Reads as write-reads
 use Rattle.lookups.proofs.find_stream_class.Reads as find-stream-class-reads
-use Rattle.events.proofs.stopped.Reads as stopped-reads
+use Rattle.parts.proofs.stopped.Reads as stopped-reads
 use Rattle.contradictions.proofs.differs.Reads as differs-reads
-use Rattle.packets.proofs.of_stream.read_of_stream.Reads as read-of-stream-reads
+use Rattle.contents.proofs.read_of_stream.Reads as read-of-stream-reads
 use mathlib.Core.Path.{sym, _∙_}
 use native.Mathlib.Omega.{arith}
 use lib.ListN.{length}
 use Prim.Native.Nat.{_-_}
 use borrow.Rule.Slice.PartMut.{same-len-mid}
-use Rattle.events.proofs.Marks.{ran-room, ran-stopped, ran-on}
+use Rattle.parts.proofs.Marks.{ran-room, ran-stopped, ran-on}
 use Rattle.packets.proofs.Running.{header-ran-differs, header-ran-full, header-ran-unknown, header-part}
 
 differs-requires : tie.Need-differs-requires

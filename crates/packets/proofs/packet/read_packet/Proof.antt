@@ -5,12 +5,12 @@ use Rattle.packets.proofs.packet.read_packet.Tie as tie
 use Rattle.packets.proofs.packet.read_packet.Reads as reads
 use Rattle.packets.proofs.packet.read_packet.Lts as lts
 use Rattle.listing.proofs.entry.write.Reads as write-reads
-use Rattle.events.proofs.stopped.Reads as stopped-reads
+use Rattle.parts.proofs.stopped.Reads as stopped-reads
 use Rattle.packets.proofs.packet.fresh.Reads as fresh-reads
 use Rattle.packets.proofs.packet.no_slots.Reads as no-slots-reads
 use Rattle.packets.proofs.packet.read_behind_header.Reads as read-behind-header-reads
-use Rattle.packets.proofs.of_stream.whole_frame.Reads as whole-frame-reads
-use Rattle.events.proofs.root.read_root.Reads as read-root-reads
+use Rattle.contents.proofs.whole_frame.Reads as whole-frame-reads
+use Rattle.parts.proofs.root.read_root.Reads as read-root-reads
 use mathlib.Core.Path.{_∙_}
 use native.Mathlib.Omega.{arith}
 use lib.ListN.{length}
@@ -20,7 +20,7 @@ use Rattle.listing.proofs.Parts.{part-length, merged}
 use Rattle.classes.specs.Notes.{notes}
 use Rattle.rules.specs.Slots.{noSlots}
 use Rattle.packets.specs.Pieces.{freshState}
-use Rattle.events.proofs.Marks.{ran-room, ran-stopped, ran-on}
+use Rattle.parts.proofs.Marks.{ran-room, ran-stopped, ran-on}
 use Rattle.packets.proofs.Running.{start-framed, packet-ran-full, header-framed, header-stopped, header-room, behind-part}
 
 stopped-requires : tie.Need-stopped-requires
