@@ -25,7 +25,8 @@ pub record Lengths (b : List ℕ) (p total content q : ℕ) : Type 0 where
   pub inStream : p + total ≤ 8 * length b
   pub reach : q ≤ p + content
 
-pub lengths : (b : List ℕ) (p q : BitPlace) (total content : ℕ) → contradicts total content p q (8 * length b) ≡ false → Lengths b (p .0) total content (q .0)
+pub lengths : (b : List ℕ) (p q : BitPlace) (total content : ℕ) → contradicts total content p q (8 * length b) ≡ false
+    → Lengths b (p .0) total content (q .0)
 lengths b p q total content h =
     let x = or-false _ _ h in
     let y = or-false _ _ (x .0) in
@@ -47,7 +48,8 @@ module _ (t : Asked) (c : StreamClass) (b : List ℕ) (p : BitPlace) (total cont
     content-lengths h = room-first _ s room ∙ check-stop _ LengthsContradict _ s h
 
     module _ (fine : contradicts total content p (s .place) (8 * length b) ≡ false) where
-      pub content-clocks : above (s .clock) (s .said .ending) ≡ true → readContent t c b p total content s ≡ stop [] (stopAt ClocksContradict (s .place))
+      pub content-clocks : above (s .clock) (s .said .ending) ≡ true
+          → readContent t c b p total content s ≡ stop [] (stopAt ClocksContradict (s .place))
       unfolding readContent
       content-clocks h = room-first _ s room ∙ check-on _ LengthsContradict _ s fine ∙ check-stop _ ClocksContradict _ s h
 

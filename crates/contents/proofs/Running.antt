@@ -42,7 +42,8 @@ module _ (t b : List ℕ) (class : ℕ) (p : BitPlace) (total content : ℕ) (st
   content-ran-full h = refused-ran Contents st l ws _ (content-full (askedAt t) (streamClassAt t class) b p total content (full st l (length ws)) h)
 
   -- the stream's end as the code has it, and how its tests went
-  module _ (room : 4 ≤ length ws) (f : Frame) (e : f ≡ wholeFrame b p) (x : Bool) (k : x ≡ contradicts total content p (st .place) (f .bound .0)) where
+  module _ (room : 4 ≤ length ws) (f : Frame) (e : f ≡ wholeFrame b p) (x : Bool)
+      (k : x ≡ contradicts total content p (st .place) (f .bound .0)) where
     told : (y : Bool) → x ≡ y → contradicts total content p (st .place) (8 * length b) ≡ y
     told y h = ap (λ g. contradicts total content p (st .place) (g .bound .0)) (sym e) ∙ sym k ∙ h
 
@@ -85,7 +86,8 @@ abbrev pub contentOf : List ℕ → BitPlace → State → ℕ
 contentOf b p st = orElse (st .said .content) (st .said .total) (8 * length b - p .0)
 
 -- the context's root as the code has it
-module _ (t b : List ℕ) (p : BitPlace) (class : ℕ) (st : State) (l : Slots) (ws : List ℕ) (u : List ℕ) (v : u ≡ (askedAt t) .uuid) (f : Frame) (e : f ≡ wholeFrame b p)
+module _ (t b : List ℕ) (p : BitPlace) (class : ℕ) (st : State) (l : Slots) (ws : List ℕ) (u : List ℕ) (v : u ≡ (askedAt t) .uuid)
+    (f : Frame) (e : f ≡ wholeFrame b p)
     (x : Found) (k : classOf t x ≡ (streamClassAt t class) .context) {r : Field} {ys : List ℕ} (d : FieldReads (readRoot (envOf b u f) (classOf t x)) st l r ws ys) where
   abbrev Founded : Out
   Founded = behindFound (askedAt t) b p (streamClassAt t class) (full st l (length ws))

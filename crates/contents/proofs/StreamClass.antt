@@ -41,7 +41,8 @@ module _ (t s : List ℕ) (id class : ℕ) (h : Sized t s) (e : foundOf (findStr
   unfolding openingSize
   stream-there = rw (is-stream .0, openingSize) at (stream-sized .stands .there)
 
-  pub of-stream : (x y : Found) (timed : Bool) → timed ≡ not (eqb (u8 t (class + 9)) noClock) → x ≡ foundOf (rootPlace t class 1) → y ≡ foundOf (rootPlace t class 2)
+  pub of-stream : (x y : Found) (timed : Bool) → timed ≡ not (eqb (u8 t (class + 9)) noClock) → x ≡ foundOf (rootPlace t class 1)
+      → y ≡ foundOf (rootPlace t class 2)
       → OfStream t (record { class = class; id = id; timed = timed; header = x; common = y })
   unfolding askedAt mapOption streamClassAt
   of-stream x y timed w p q = record {

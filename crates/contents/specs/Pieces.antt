@@ -1,4 +1,4 @@
--- A packet behind the lookup of its stream class, and the lent things that it goes by.
+-- A packet behind the lookup of its stream class: its frame until its lengths are known, its steps, and the lent things that it goes by.
 use mathlib.Core.Path.{_≡_}
 use mathlib.Core.List.{List}
 use Prim.Native.Nat.{ℕ, _-_, _*_, _≤_}

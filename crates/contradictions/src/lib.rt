@@ -13,7 +13,7 @@ pub fn differs(id: u64, first: Stated) -> bool
     ensures { λ r. ⌜ r ≡ differsFrom id first ⌝ }
 {
     match first {
-        Stated::Missing => false,
+        Stated::Missing => false, // it is the first
         Stated::As(was) => id != was,
     }
 }
@@ -56,7 +56,7 @@ pub fn above(clock: u64, ending: Stated) -> bool
     ensures { λ r. ⌜ r ≡ aboveEnding clock ending ⌝ }
 {
     match ending {
-        Stated::Missing => false,
+        Stated::Missing => false, // no end is stated
         Stated::As(end) => end < clock,
     }
 }

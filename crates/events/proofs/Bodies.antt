@@ -39,7 +39,8 @@ use Rattle.parts.proofs.Marks.{check-stop, check-on, due-stop, change-on}
 use Rattle.parts.proofs.Looked.{root-class, root-stands}
 
 -- a step that stopped with nothing listed
-pub nothing-did : (M : Step) (st : State) (l : Slots) (ws : List ℕ) (v : Stop) → M (full st l (length ws)) ≡ stop [] v → EventDid M st l (stoppedRan v 0 st) ws ws
+pub nothing-did : (M : Step) (st : State) (l : Slots) (ws : List ℕ) (v : Stop) → M (full st l (length ws)) ≡ stop [] v
+    → EventDid M st l (stoppedRan v 0 st) ws ws
 nothing-did M st l ws v e = record { slots = l; kept = refl; did = went-no-further _ st l v ws e }
 
 module _ (a : Asked) (c : StreamClass) (e : Env) (st : State) (l : Slots) (room : ℕ) where
@@ -74,7 +75,8 @@ module _ (a : Asked) (c : StreamClass) (e : Env) (st : State) (l : Slots) (room 
   body-found d h k n = looked h k ∙ rw (n) refl
 
 -- entry 5 stands in front, and m, which keeps slots 0 to 15, is lent the rest
-module _ (k v : ℕ) (M m : Step) (st mid : State) (l : Slots) (ws ws₁ : List ℕ) (h : 4 ≤ length ws) (e : ws₁ ≡ words (entry k (mid .place) 0 v ∷ []) ++ drop 4 ws)
+module _ (k v : ℕ) (M m : Step) (st mid : State) (l : Slots) (ws ws₁ : List ℕ) (h : 4 ≤ length ws)
+    (e : ws₁ ≡ words (entry k (mid .place) 0 v ∷ []) ++ drop 4 ws)
     (o : M (full st l (length ws)) ≡ (mark k 0 v ⨾ m) (full mid l (length ws))) where
   entry-part : Part (M (full st l (length ws))) m ws ws₁ 4 mid l
   unfolding _⨾_ after mark listed
@@ -114,18 +116,25 @@ module _ (t : List ℕ) (x : Notes) (w : Asking) (j : ℕ) (ready : Ready t x) (
 
     pub specific-stands : PartStands t (foundOf (rootPlace t p 0))
     unfolding eventClassAt
-    specific-stands = record { stands = root-stands t p 0 (foundOf (rootPlace t p 0)) (event-stands .stands) refl; keeps = rw (root-class t p 0 (foundOf (rootPlace t p 0)) refl) (ready .keeps .specific (Class .id) j (eventClassAt t p) event-found) }
+    specific-stands = record {
+      stands = root-stands t p 0 (foundOf (rootPlace t p 0)) (event-stands .stands) refl;
+      keeps = rw (root-class t p 0 (foundOf (rootPlace t p 0)) refl) (ready .keeps .specific (Class .id) j (eventClassAt t p) event-found);
+    }
 
     pub payload-stands : PartStands t (foundOf (rootPlace t p 1))
     unfolding eventClassAt
-    payload-stands = record { stands = root-stands t p 1 (foundOf (rootPlace t p 1)) (event-stands .stands) refl; keeps = rw (root-class t p 1 (foundOf (rootPlace t p 1)) refl) (ready .keeps .payload (Class .id) j (eventClassAt t p) event-found) }
+    payload-stands = record {
+      stands = root-stands t p 1 (foundOf (rootPlace t p 1)) (event-stands .stands) refl;
+      keeps = rw (root-class t p 1 (foundOf (rootPlace t p 1)) refl) (ready .keeps .payload (Class .id) j (eventClassAt t p) event-found);
+    }
 
   pub common-stands : PartStands t (w .common)
   common-stands = record { stands = of .commonStands; keeps = rw (of .common) (ready .keeps .common (w .id) Class (of .found)) }
 
   -- the roots by the places that were found
   pub found-parts : (p : ℕ) → At p ≡ foundOf (findEventAt t (fragmentsOf t) (w .id) j) → (specific payload : Found)
-      → specific ≡ foundOf (rootPlace t p 0) → payload ≡ foundOf (rootPlace t p 1) → (e : Env) (st : State) (l : Slots) (room : ℕ) → st .said .event ≡ j
+      → specific ≡ foundOf (rootPlace t p 0) → payload ≡ foundOf (rootPlace t p 1) → (e : Env) (st : State) (l : Slots) (room : ℕ)
+      → st .said .event ≡ j
       → (Class .timed && ltb (st .clock .value) (st .last)) ≡ false → 4 ≤ room
       → bodyOf (askedAt t) Class e (full st l room)
       ≡ (mark eventClassFound 0 (st .said .event) ⨾ partsOf e (classOf t (w .common)) (classOf t specific) (classOf t payload)) (full (lastState st) l room)
@@ -133,7 +142,8 @@ module _ (t : List ℕ) (x : Notes) (w : Asking) (j : ℕ) (ready : Ready t x) (
       body-found (askedAt t) Class e st l room (eventClassAt t p) back some? (ap (λ i. (askedAt t) .event (Class .id) i) says ∙ event-found p found)
       ∙ ap (λ m. (mark eventClassFound 0 (st .said .event) ⨾ m) (full (lastState st) l room)) same
     where
-      same : partsOf e (Class .common) ((eventClassAt t p) .specific) ((eventClassAt t p) .payload) ≡ partsOf e (classOf t (w .common)) (classOf t specific) (classOf t payload)
+      same : partsOf e (Class .common) ((eventClassAt t p) .specific) ((eventClassAt t p) .payload)
+          ≡ partsOf e (classOf t (w .common)) (classOf t specific) (classOf t payload)
       same = unfold eventClassAt in rw (h, k, root-class t p 0 (foundOf (rootPlace t p 0)) refl, root-class t p 1 (foundOf (rootPlace t p 1)) refl, of .common) refl
 
   pub back-is : (st : State) (r b : Bool) → r ≡ (w .timed && ltb (st .clock .value) (st .last)) → r ≡ b

@@ -140,7 +140,8 @@ module _ (B g M : Step) (b : List ℕ) (f : Frame) (came : State) (l₀ : Slots)
   body-kept = did .kept ∙ w .kept
 
 -- what is left lists nothing: it stops, or the event is done
-module _ (m M : Step) (came : State) (l₀ : Slots) {ws₀ ws : List ℕ} {used : ℕ} {st : State} {l : Slots} (p : Part (M (full came l₀ (length ws₀))) m ws₀ ws used st l) where
+module _ (m M : Step) (came : State) (l₀ : Slots) {ws₀ ws : List ℕ} {used : ℕ} {st : State} {l : Slots}
+    (p : Part (M (full came l₀ (length ws₀))) m ws₀ ws used st l) where
   pub left-stops : (v : Stop) → m (full st l (length ws₀ - used)) ≡ stop [] v → EventDid M came l₀ (stoppedRan v used came) ws₀ ws
   unfolding onto outOf
   left-stops v e = record {

@@ -88,7 +88,8 @@ module _ (e : Env) (s₀ : State) where
       by true k = tt
       by false k = (apart (s .place .0) (s₀ .place .0) (eqb-false _ _ k) (h .0), h .2)
 
-  pub event-moves : (a : Asked) (c : StreamClass) (n : ℕ) → e .start .0 ≤ s₀ .place .0 → s₀ .place .0 ≤ e .bound .0 → Onward Moved (readEvent a c e n s₀)
+  pub event-moves : (a : Asked) (c : StreamClass) (n : ℕ) → e .start .0 ≤ s₀ .place .0 → s₀ .place .0 ≤ e .bound .0
+      → Onward Moved (readEvent a c e n s₀)
   unfolding readEvent due change mark listed startEvent withLast
   event-moves a c n h k =
       let q = s₀ .place .0 in

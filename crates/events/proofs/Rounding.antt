@@ -45,7 +45,8 @@ module _ (a : Asked) (c : StreamClass) (b u : List ℕ) (f : Frame) (to : BitPla
     pub few : n ≤ st .place .0
     pub part : Part o (readEvents a c (envOf b u f) to n left) ws₀ ws used st slots
 
-went-on : (o : Out) (es : List Entry) (went : Went) (st : State) (l : Slots) (room : ℕ) → o ≡ outOf es went st l room → went ≡ On → o ≡ go es (full st l room)
+went-on : (o : Out) (es : List Entry) (went : Went) (st : State) (l : Slots) (room : ℕ) → o ≡ outOf es went st l room → went ≡ On
+    → o ≡ go es (full st l room)
 unfolding outOf
 went-on o es went st l room e on = e ∙ rw (on) refl
 
@@ -105,7 +106,8 @@ module _ (a : Asked) (c : StreamClass) (b u : List ℕ) (f : Frame) (to : BitPla
 
   module _ (o : Out) (given : Slots) {ws₀ ws : List ℕ} {used : ℕ} {st : State} {n : ℕ} (w : Rounding a c b u f to o given ws₀ ws used st n) where
     -- one more event
-    module _ (below : st .place .0 < f .bound .0) {r : Ran} {ys : List ℕ} (did : EventDid (readEvent a c (envOf b u f) n) st given r (lent used ws) ys) where
+    module _ (below : st .place .0 < f .bound .0) {r : Ran} {ys : List ℕ}
+        (did : EventDid (readEvent a c (envOf b u f) n) st given r (lent used ws) ys) where
       abbrev Rest : Step
       Rest = readEvents a c (envOf b u f) to (n + 1) (w .left - 1)
 
@@ -169,7 +171,8 @@ module _ (a : Asked) (c : StreamClass) (b u : List ℕ) (f : Frame) (to : BitPla
         };
       }
 
-      pub end-listed : (came : State) (ys : List ℕ) → 4 ≤ length ws - used → ys ≡ words (entry packetEnds to (to .0 - st .place .0) n ∷ []) ++ drop 4 (lent used ws)
+      pub end-listed : (came : State) (ys : List ℕ) → 4 ≤ length ws - used
+          → ys ≡ words (entry packetEnds to (to .0 - st .place .0) n ∷ []) ++ drop 4 (lent used ws)
           → RanDid o came (record { went = On; used = used + 4; state = atPlace to st }) ws₀ (merged used ws ys)
       unfolding endPacket listed
       end-listed came ys h e =

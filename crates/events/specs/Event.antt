@@ -1,4 +1,4 @@
--- An event's steps behind its header: 39 and the lookup, and then the other roots; and the states between its steps, as the code says them.
+-- An event's steps behind its header, and the states between its steps as the code says them.
 use mathlib.Core.Bool.{_&&_}
 use lib.Dec.{ltb}
 use Rattle.rules.specs.declared.BitPlace.{BitPlace}
@@ -11,6 +11,7 @@ use Rattle.rules.specs.Packet.{mark, withEvent}
 use Rattle.listing.specs.declared.State.{State}
 use Rattle.parts.specs.Roots.{partsOf}
 
+-- behind the header: 39; the lookup (37); entry 5, and the other roots
 unfoldable pub bodyOf : Asked → StreamClass → Env → Step
 bodyOf t c e =
     check (λ s. c .timed && ltb (s .clock) (s .last)) ClockWentBack
@@ -29,9 +30,10 @@ startState st = record {
   said = record { stream = st .said .stream; total = st .said .total; content = st .said .content; ending = st .said .ending; event = 0 };
 }
 
+-- its clock is the one that the next event's is held to
 abbrev pub lastState : State → State
 lastState st = record { place = st .place; order = st .order; clock = st .clock; last = st .clock .value; said = st .said }
 
--- at a place
+-- behind a packet's padding
 abbrev pub atPlace : BitPlace → State → State
 atPlace p st = record { place = p; order = st .order; clock = st .clock; last = st .last; said = st .said }

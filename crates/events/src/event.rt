@@ -55,7 +55,8 @@ pub fn read_event(
     requires { ⌜ Framed (now stream) frame (begun .place) ⌝ }
     ensures { λ r. ⌜
         EventDid
-        (readEvent (askedAt (now (table .entry))) (streamClassAt (now (table .entry)) (with .class)) (envOf (now (stream .entry)) (now (uuid .entry)) frame) number)
+        (readEvent (askedAt (now (table .entry))) (streamClassAt (now (table .entry)) (with .class))
+        (envOf (now (stream .entry)) (now (uuid .entry)) frame) number)
         begun given r (now (list .entry)) (now (list .exit))
         ⌝ }
 {
@@ -162,7 +163,8 @@ fn read_body(
     requires { ⌜ Framed (now stream) frame (st .place) ⌝ }
     ensures { λ r. ⌜
         EventDid
-        (bodyOf (askedAt (now (table .entry))) (streamClassAt (now (table .entry)) (with .class)) (envOf (now (stream .entry)) (now (uuid .entry)) frame))
+        (bodyOf (askedAt (now (table .entry))) (streamClassAt (now (table .entry)) (with .class))
+        (envOf (now (stream .entry)) (now (uuid .entry)) frame))
         st slots r (now (list .entry)) (now (list .exit))
         ⌝ }
 {

@@ -59,7 +59,8 @@ pub fn read_events(
     requires { ⌜ frame .bound .0 ≤ to .0 ⌝ }
     ensures { λ r. ⌜
         RanDid
-        (readEvents (askedAt (now (table .entry))) (streamClassAt (now (table .entry)) (with .class)) (envOf (now (stream .entry)) (now (uuid .entry)) frame)
+        (readEvents (askedAt (now (table .entry))) (streamClassAt (now (table .entry)) (with .class))
+        (envOf (now (stream .entry)) (now (uuid .entry)) frame)
         to 0 (frame .bound .0 - st .place .0) (full st slots (length (now (list .entry)))))
         st r (now (list .entry)) (now (list .exit))
         ⌝ }

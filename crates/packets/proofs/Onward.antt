@@ -60,7 +60,8 @@ end-at to n s = by (ltb (s .room) 4) refl
     by true e = subst (Onward (λ s. s .place ≡ to)) (sym (due-stop _ s (ltb-true _ _ e))) tt
     by false e = subst (Onward (λ s. s .place ≡ to)) (sym (room-first _ s (ltb-false _ _ e))) refl
 
-events-at : (t : Asked) (c : StreamClass) (e : Env) (to : BitPlace) (left n : ℕ) (s : State) → Onward (λ s. s .place ≡ to) (readEvents t c e to n left s)
+events-at : (t : Asked) (c : StreamClass) (e : Env) (to : BitPlace) (left n : ℕ) (s : State)
+    → Onward (λ s. s .place ≡ to) (readEvents t c e to n left s)
 unfolding readEvents _⨾_
 events-at t c e to zero n s = end-at to n s
 events-at t c e to (suc left) n s = by (ltb (s .place .0) (e .bound .0)) (λ s. events-at t c e to left (n + 1) s)
@@ -101,7 +102,8 @@ module _ (t : Asked) (w : Fit t) (b : List ℕ) (p : BitPlace) (l : p .0 < 8 * l
           omega arith
       by (inr x) = omega (arith, n .reach, n .order, x)
 
-  behind : (s s′ : State) → Inside e s → Lengths b (p .0) (totalAt s) (contentAt s) (s .place .0) → s′ .place ≡ further p (totalAt s) → Behind b (p .0) s′
+  behind : (s s′ : State) → Inside e s → Lengths b (p .0) (totalAt s) (contentAt s) (s .place .0) → s′ .place ≡ further p (totalAt s)
+      → Behind b (p .0) s′
   behind s s′ a n q =
       let y : s′ .place .0 ≡ p .0 + totalAt s = ap (λ v. v .0) q in
       record {
@@ -127,7 +129,8 @@ module _ (t : Asked) (w : Fit t) (b : List ℕ) (p : BitPlace) (l : p .0 < 8 * l
           (events-at t c (record { bytes = b; start = p; bound = further p (contentAt s); uuid = t .uuid }) (further p (totalAt s))
           (p .0 + contentAt s - s .place .0) 0 (less s))))
 
-      roomy : 4 ≤ s .room → (x : Bool) → contradicts (totalAt s) (contentAt s) p (s .place) (8 * length b) ≡ x → Ends (readContent t c b p (totalAt s) (contentAt s) s)
+      roomy : 4 ≤ s .room → (x : Bool) → contradicts (totalAt s) (contentAt s) p (s .place) (8 * length b) ≡ x
+          → Ends (readContent t c b p (totalAt s) (contentAt s) s)
       roomy r true h = subst Ends (sym (content-lengths t c b p (totalAt s) (contentAt s) s r h)) tt
       roomy r false h = fine r h (above (s .clock) (s .said .ending)) refl
 
@@ -142,7 +145,8 @@ module _ (t : Asked) (w : Fit t) (b : List ℕ) (p : BitPlace) (l : p .0 < 8 * l
   header-onward : (i : Stated) (s : State) → Inside e s → Ends (behindHeader t b p i s)
   header-onward i s a = same (differs (s .said .stream) i) refl
     where
-      look : differs (s .said .stream) i ≡ false → 4 ≤ s .room → (x : Option StreamClass) → t .stream (s .said .stream) ≡ x → Ends (behindHeader t b p i s)
+      look : differs (s .said .stream) i ≡ false → 4 ≤ s .room → (x : Option StreamClass) → t .stream (s .said .stream) ≡ x
+          → Ends (behindHeader t b p i s)
       look d r none h = subst Ends (sym (header-unknown t b p i s d r h)) tt
       look d r (some c) h = subst Ends (sym (header-marked t b p i s d r c h))
           (onward-onto (Behind b (p .0)) (entry streamClassFound (s .place) 0 (s .said .stream) ∷ []) (behindFound t b p c (less s))

@@ -1,4 +1,4 @@
--- A packet's steps: where each stops, and what is left behind each entry. First of the rules' states, then of the code's.
+-- A packet's steps, of the rules' states: where each stops, and what is left behind entries 1 and 2.
 use mathlib.Core.Path.{_≡_, ap, _∙_}
 use mathlib.Core.List.{List, [], _∷_}
 use mathlib.Core.Bool.{true, false}
@@ -28,7 +28,8 @@ module _ (t : Asked) (b : List ℕ) (p : BitPlace) (i : Stated) (s : Whole) wher
     header-full h = check-on _ StreamClassChanged _ s same ∙ due-stop _ s h
 
     module _ (room : 4 ≤ s .room) where
-      pub header-unknown : t .stream (s .said .stream) ≡ none → behindHeader t b p i s ≡ stop [] (stopAt (StreamClassUnknown (s .said .stream)) (s .place))
+      pub header-unknown : t .stream (s .said .stream) ≡ none
+          → behindHeader t b p i s ≡ stop [] (stopAt (StreamClassUnknown (s .said .stream)) (s .place))
       unfolding behindHeader withStream refuse
       header-unknown h = check-on _ StreamClassChanged _ s same ∙ room-first _ s room
           ∙ ap (λ x. withStream (s .said .stream) x (λ c. mark streamClassFound 0 (s .said .stream) ⨾ behindFound t b p c) s) h

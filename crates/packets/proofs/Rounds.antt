@@ -29,7 +29,8 @@ module _ (t : Asked) (b : List ℕ) (k : ℕ) (i : Stated) where
   abbrev next : ℕ → Step
   next left s = readPackets t b (k + 1) (As (s .said .stream)) left s
 
-  more-packets : (left : ℕ) (s : Whole) → s .place .0 < 8 * length b → 0 < left → readPackets t b k i left s ≡ (readPacket t b k i ⨾ next (left - 1)) s
+  more-packets : (left : ℕ) (s : Whole) → s .place .0 < 8 * length b → 0 < left
+      → readPackets t b k i left s ≡ (readPacket t b k i ⨾ next (left - 1)) s
   unfolding readPackets
   more-packets zero s h n = absurd (omega arith)
   more-packets (suc left) s h n =

@@ -1,4 +1,4 @@
--- A packet's steps as the code takes them: each stop, and the part that is left behind each entry.
+-- A packet's steps as the code takes them: each stop, and the part that is left behind entries 1 and 2.
 use mathlib.Core.Path.{_≡_, ap, sym, _∙_}
 use mathlib.Core.List.{List, [], _∷_, _++_}
 use mathlib.Core.Bool.{Bool, true, false}
@@ -62,7 +62,8 @@ module _ (t b : List ℕ) (p : BitPlace) (i : Stated) (st : State) (l : Slots) (
           refused-ran Headed st l ws _
           (header-unknown (askedAt t) b p i (full st l (length ws)) (sym k ∙ same) room (ap (mapOption (streamClassAt t)) (found-none _ (sym h ∙ j))))
 
-      pub header-part : (class : ℕ) → y ≡ At class → {ws₁ : List ℕ} → ws₁ ≡ words (entry streamClassFound (st .place) 0 (st .said .stream) ∷ []) ++ drop 4 ws
+      pub header-part : (class : ℕ) → y ≡ At class → {ws₁ : List ℕ}
+          → ws₁ ≡ words (entry streamClassFound (st .place) 0 (st .said .stream) ∷ []) ++ drop 4 ws
           → Part Headed (behindFound (askedAt t) b p (streamClassAt t class)) ws ws₁ 4 st l
       unfolding mapOption askedAt
       header-part class h w = marked-part Headed (entry streamClassFound (st .place) 0 (st .said .stream)) _ room w
@@ -72,7 +73,8 @@ module _ (t b : List ℕ) (p : BitPlace) (i : Stated) (st : State) (l : Slots) (
 -- The packet
 
 module _ (t : List ℕ) (x : Notes) (u b : List ℕ) (h : Found) (given : Lent t x u h b) (k : ℕ) (i : Stated) (st : State) (ws : List ℕ) where
-  pub packet-ran-full : (l : Slots) → length ws < 4 → RanDid (readPacket (askedAt t) b k i (full st l (length ws))) st (stoppedRan (stopAt ListFull (st .place)) 0 st) ws ws
+  pub packet-ran-full : (l : Slots) → length ws < 4
+      → RanDid (readPacket (askedAt t) b k i (full st l (length ws))) st (stoppedRan (stopAt ListFull (st .place)) 0 st) ws ws
   packet-ran-full l h = refused-ran _ st l ws _ (packet-full (askedAt t) b k i (full st l (length ws)) h)
 
   module _ (room : 4 ≤ length ws) {ws₁ : List ℕ} (w : ws₁ ≡ words (entry packetStarts (st .place) 0 k ∷ []) ++ drop 4 ws)

@@ -36,7 +36,8 @@ pub fn read_packets(
     requires { ⌜ Lent (now table) (notes (now sizes) (now aligns)) (now uuid) header (now stream) ⌝ }
     ensures { λ r. ⌜
         RanDid
-        (readPackets (askedAt (now (table .entry))) (now (stream .entry)) 0 Missing (length (now (stream .entry))) (begin (length (now (list .entry)))))
+        (readPackets (askedAt (now (table .entry))) (now (stream .entry)) 0 Missing (length (now (stream .entry)))
+        (begin (length (now (list .entry)))))
         firstState r (now (list .entry)) (now (list .exit))
         ⌝ }
 {

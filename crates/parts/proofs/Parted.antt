@@ -48,7 +48,8 @@ module _ (b u : List ℕ) (f : Frame) (c : Option Class) (l : Slots) {st st′ :
   root-kept k = k (envOf b u f) (full st l (length ws)) (did .listed) (full st′ l′ (length ws - n)) went-on
 
 -- m is what is left of M from `came` and l₀ on
-pub record Parted (b : List ℕ) (f : Frame) (M m : Step) (came : State) (l₀ : Slots) (ws₀ ws : List ℕ) (used : ℕ) (st : State) (l : Slots) : Type 0 where
+pub record Parted (b : List ℕ) (f : Frame) (M m : Step) (came : State) (l₀ : Slots) (ws₀ ws : List ℕ) (used : ℕ) (st : State)
+    (l : Slots) : Type 0 where
   pub framed : Framed b f (st .place)
   pub kept : packetSlots l ≡ packetSlots l₀
   pub part : Part (M (full came l₀ (length ws₀))) m ws₀ ws used st l

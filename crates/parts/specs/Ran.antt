@@ -22,5 +22,6 @@ pub record EventDid (m : Step) (came : State) (l : Slots) (r : Ran) (ws ws′ : 
   pub kept : packetSlots slots ≡ packetSlots l
   pub did : Did (m (full came l (length ws))) came (r .went) (r .used) (r .state) slots ws ws′
 
+-- what stopped hands back the state as it came
 abbrev pub stoppedRan : Stop → ℕ → State → Ran
 stoppedRan v n st = record { went = Stopped v; used = n; state = st }

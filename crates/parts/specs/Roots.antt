@@ -12,19 +12,21 @@ use Rattle.classes.specs.declared.Found.{Found}
 use Rattle.classes.specs.declared.Found.the-variants.{At, Nothing}
 use Rattle.classes.specs.Trees.{classAt, whole}
 
--- the class of a root that was looked for
+-- the class
 unfoldable pub classOf : List ℕ → Found → Option Class
 classOf t Nothing = none
 classOf t (At p) = some (classAt depthLimit t p)
 
+-- that it stands whole
 unfoldable pub RootStands : List ℕ → Found → Type 0
 RootStands t Nothing = Unit {0}
 RootStands t (At p) = whole depthLimit t p
 
+-- common, specific, payload
 unfoldable pub partsOf : Env → Option Class → Option Class → Option Class → Step
 partsOf e c d p = readRoot e c ⨾ readRoot e d ⨾ readRoot e p
 
--- a root that was looked for stands whole, and reading it keeps slots 0 to 15
+-- it stands whole, and reading it keeps slots 0 to 15
 pub record PartStands (t : List ℕ) (f : Found) : Type 0 where
   pub stands : RootStands t f
   pub keeps : RootKeeps (classOf t f)

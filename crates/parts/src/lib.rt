@@ -52,7 +52,8 @@ pub fn read_parts(
     requires { ⌜ Framed (now stream) frame (st .place) ⌝ }
     ensures { λ r. ⌜
         EventDid
-        (partsOf (envOf (now (stream .entry)) (now (uuid .entry)) frame) (classOf (now (table .entry)) common) (classOf (now (table .entry)) specific) (classOf (now (table .entry)) payload))
+        (partsOf (envOf (now (stream .entry)) (now (uuid .entry)) frame)
+        (classOf (now (table .entry)) common) (classOf (now (table .entry)) specific) (classOf (now (table .entry)) payload))
         st slots r (now (list .entry)) (now (list .exit))
         ⌝ }
 {

@@ -1,3 +1,4 @@
+-- A round is an event; it moves the place, so that the bits left are a measure and the rules' rounds are enough.
 use Rattle.events.proofs.read_events.Statement.{statement}
 use Rattle.events.proofs.read_events.Tie as tie
 use Rattle.events.proofs.read_events.Reads as reads

@@ -1,3 +1,4 @@
+-- Each root is lent what the ones before it left of the list.
 use borrow.Author.Needs.{needs}
 use Rattle.parts.proofs.read_parts.Statement.{statement}
 use Rattle.parts.proofs.read_parts.Tie as tie

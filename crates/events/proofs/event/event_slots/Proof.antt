@@ -1,3 +1,4 @@
+-- The slots from i on are still to be unset; once they are, what comes out is the definition's.
 use Rattle.events.proofs.event.event_slots.Statement.{statement}
 use Rattle.events.proofs.event.event_slots.Tie as tie
 use Rattle.events.proofs.event.event_slots.Reads as reads

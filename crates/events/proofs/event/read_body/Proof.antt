@@ -1,3 +1,4 @@
+-- 39, room and the lookup stop with nothing listed; behind entry 5 the other roots are all that is left.
 use borrow.Author.Needs.{needs}
 use Rattle.events.proofs.event.read_body.Statement.{statement}
 use Rattle.events.proofs.event.read_body.Tie as tie

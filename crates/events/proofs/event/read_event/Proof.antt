@@ -1,3 +1,4 @@
+-- Behind entry 4 the header is read, and then the body; 38 is asked of where the body ended.
 use borrow.Author.Needs.{needs}
 use Rattle.events.proofs.event.read_event.Statement.{statement}
 use Rattle.events.proofs.event.read_event.Tie as tie

@@ -1,3 +1,4 @@
+-- A root that is there is one member; one that is not leaves all as it was.
 use borrow.Author.Needs.{needs}
 use Rattle.parts.proofs.root.read_root.Statement.{statement}
 use Rattle.parts.proofs.root.read_root.Tie as tie
