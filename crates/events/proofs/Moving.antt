@@ -72,33 +72,33 @@ module _ (e : Env) (q : ℕ) where
         row Here (mark 5 0 (s .said .event)) _ s′ h (λ s h. row Here (readRoot e (c .common)) _ s (here-root (c .common) s h)
         (λ s h. row Here (readRoot e (d .specific)) _ s (here-root (d .specific) s h) (λ s h. here-root (d .payload) s h)))
 
--- 38
+-- behind 38: the place is further on, and not past the bound
 module _ (e : Env) (s₀ : State) where
-  abbrev pub Moved : State → Type 0
-  Moved s = (s₀ .place .0 < s .place .0) × (s .place .0 ≤ e .bound .0)
+  abbrev pub MovedOn : State → Type 0
+  MovedOn s = (s₀ .place .0 < s .place .0) × (s .place .0 ≤ e .bound .0)
 
-  moved-check : (s : State) → Here e (s₀ .place .0) s → Onward Moved (check (λ s. eqb (s .place .0) (s₀ .place .0)) EventTookNoBits s)
+  moved-check : (s : State) → Here e (s₀ .place .0) s → Onward MovedOn (check (λ s. eqb (s .place .0) (s₀ .place .0)) EventTookNoBits s)
   unfolding check pass refuse
   moved-check s h = by (eqb (s .place .0) (s₀ .place .0)) refl
     where
       apart : (x y : ℕ) → (x ≡ y → ⊥) → y ≤ x → y < x
       apart x y n l = ⊎-elim (λ (k : x < y + 1). absurd (n (omega arith))) (λ (k : y + 1 ≤ x). omega arith) (lt-or-ge x (y + 1))
 
-      by : (b : Bool) → eqb (s .place .0) (s₀ .place .0) ≡ b → Onward Moved (elim b [ true ↦ refuse EventTookNoBits s | false ↦ pass s ])
+      by : (b : Bool) → eqb (s .place .0) (s₀ .place .0) ≡ b → Onward MovedOn (elim b [ true ↦ refuse EventTookNoBits s | false ↦ pass s ])
       by true k = tt
       by false k = (apart (s .place .0) (s₀ .place .0) (eqb-false _ _ k) (h .0), h .2)
 
   pub event-moves : (a : Asked) (c : StreamClass) (n : ℕ) → e .start .0 ≤ s₀ .place .0 → s₀ .place .0 ≤ e .bound .0
-      → Onward Moved (readEvent a c e n s₀)
+      → Onward MovedOn (readEvent a c e n s₀)
   unfolding readEvent due change mark listed startEvent withLast
   event-moves a c n h k =
       let q = s₀ .place .0 in
       let first : Here e q s₀ = (omega arith, h, k) in
-      row e q Moved due _ s₀ (here-check e q _ _ s₀ first) (λ s h.
-      row e q Moved (mark 4 0 n) _ s h (λ s h.
-      row e q Moved (change startEvent) _ s h (λ s h.
-      row e q Moved (readRoot e (c .header)) _ s (here-root e q (c .header) s h) (λ s h.
-      row e q Moved (check _ _) _ s (here-check e q _ _ s h) (λ s h.
-      row e q Moved (change (λ s. withLast (s .clock) s)) _ s h (λ s h.
-      row e q Moved due _ s (here-check e q _ _ s h) (λ s h.
-      row e q Moved _ _ s (here-look e q a c s _ s h) (λ s h. moved-check s h))))))))
+      row e q MovedOn due _ s₀ (here-check e q _ _ s₀ first) (λ s h.
+      row e q MovedOn (mark 4 0 n) _ s h (λ s h.
+      row e q MovedOn (change startEvent) _ s h (λ s h.
+      row e q MovedOn (readRoot e (c .header)) _ s (here-root e q (c .header) s h) (λ s h.
+      row e q MovedOn (check _ _) _ s (here-check e q _ _ s h) (λ s h.
+      row e q MovedOn (change (λ s. withLast (s .clock) s)) _ s h (λ s h.
+      row e q MovedOn due _ s (here-check e q _ _ s h) (λ s h.
+      row e q MovedOn _ _ s (here-look e q a c s _ s h) (λ s h. moved-check s h))))))))

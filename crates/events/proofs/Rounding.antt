@@ -32,7 +32,7 @@ use Rattle.parts.specs.Ran.{RanDid, EventDid, stoppedRan}
 use Rattle.events.specs.Event.{startState, atPlace}
 use Rattle.parts.proofs.Marks.{part-same, change-on}
 use Rattle.events.proofs.Evented.{behindStart, event-full, event-starts}
-use Rattle.events.proofs.Moving.{event-moves, onward-out, Moved}
+use Rattle.events.proofs.Moving.{event-moves, onward-out, MovedOn}
 
 module _ (a : Asked) (c : StreamClass) (b u : List ℕ) (f : Frame) (to : BitPlace) (o : Out) (given : Slots) where
   -- n events are read, and as many rounds are left as there are bits, or more
@@ -133,7 +133,7 @@ module _ (a : Asked) (c : StreamClass) (b u : List ℕ) (f : Frame) (to : BitPla
 
       pub round-moved : r .went ≡ On → (st .place .0 < r .state .place .0) × (r .state .place .0 ≤ f .bound .0)
       round-moved on =
-          onward-out (Moved (envOf b u f) (full st (w .slots) (length (lent used ws)))) _ (did-here .listed) (full (r .state) (did .slots) (length (lent used ws) - r .used))
+          onward-out (MovedOn (envOf b u f) (full st (w .slots) (length (lent used ws)))) _ (did-here .listed) (full (r .state) (did .slots) (length (lent used ws) - r .used))
           (went-on _ _ _ _ _ _ (did-here .out) on)
           (event-moves (envOf b u f) (full st (w .slots) (length (lent used ws))) a c n (w .framed .begun) (w .framed .within))
 

@@ -1,4 +1,4 @@
-// Reading a stream by a table: its check (20), the stream's size (21), its notes, and the packets.
+// Reading a stream by a table: the table's check (20), the stream's size (21), the table's notes, and the packets.
 use answers::answer;
 use answers::refused;
 use classes::Found;
@@ -17,15 +17,15 @@ ghost use mathlib.Core.Path.{_≡_};
 ghost use Prim.Native.Nat.{_≤_};
 ghost use lib.ListN.{length};
 ghost use Rattle.rules.specs.declared.Checked.the-variants.{Accepted};
+ghost use Rattle.rules.specs.declared.Refusal.the-variants.{StreamSize};
 ghost use Rattle.rules.specs.Limits.{streamLimit};
 ghost use Rattle.rules.specs.Place.{byteLength, bitPlace};
+ghost use Rattle.rules.specs.Verdict.{stopAt};
 ghost use Rattle.rules.specs.Parse.{checked};
 ghost use Rattle.rules.specs.Read.{readAll, readStream, resultOf, listAfter};
 ghost use Rattle.classes.specs.Notes.{notes};
 ghost use Rattle.classes.specs.Fragments.{askedAt};
 ghost use Rattle.events.specs.Ready.{Ready};
-ghost use Rattle.rules.specs.Verdict.{stopAt};
-ghost use Rattle.rules.specs.declared.Refusal.the-variants.{StreamSize};
 ghost use Rattle.answers.specs.Answer.{refusedWith};
 ghost use Rattle.reader.specs.Answers.{Answers};
 
