@@ -4,6 +4,7 @@ pub mod All
 pub mod Triple
 pub mod Places
 pub mod Between
+pub mod Moved
 pub mod Sound
 pub mod Accepted
 pub mod Kept

@@ -1,9 +1,6 @@
 -- Inside a packet the place stays between the packet's start and the bound; and behind a stated length it has moved.
-use mathlib.Core.Logic.{inl, inr}
-use Prim.Native.Nat.{ℕ, _≤_}
-use native.Mathlib.Omega.{arith}
+use Prim.Native.Nat.{_≤_}
 use mathlib.Core.Option.{Option}
-use Rattle.rules.specs.declared.Said.{Said}
 use Rattle.rules.specs.declared.Refusal.{Refusal}
 use Rattle.rules.specs.Verdict.{stopAt}
 use Rattle.rules.specs.Step.{State, Step}
@@ -12,16 +9,9 @@ use Rattle.rules.specs.Field.{Env}
 use Rattle.rules.specs.Packet.{readRoot}
 use Rattle.laws.proofs.Law.{Any, FitRoot, law-root}
 use Rattle.laws.proofs.Triple.{Triple, weaker, looser}
-use Rattle.laws.proofs.Between.{In, At, NoMore, Kept, held-law}
-use Rattle.promises.specs.Laws.{Moved, Inside}
-
-moved-on : (e : Env) (p q : ℕ) (d : Said) → p ≤ q → Moved e p d → Moved e q d
-moved-on e p q d h (inl x) = inl x
-moved-on e p q d h (inr x) = inr (omega arith)
-
--- what is said stands behind a field of a bit or more
-moved-kept : (e : Env) → Kept e (λ n. 1 ≤ n) (Moved e)
-moved-kept e = record { some-bits = λ n h. h; moves = moved-on e; says = λ n p d d′ w l k. inr (omega arith) }
+use Rattle.laws.proofs.Between.{In, At, NoMore, held-law}
+use Rattle.laws.proofs.Moved.{moved-kept}
+use Rattle.promises.specs.Laws.{Inside}
 
 module _ (e : Env) where
   abbrev pub Bounded : Step → Type 0

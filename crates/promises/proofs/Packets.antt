@@ -24,7 +24,8 @@ use Rattle.rules.specs.Table.{StreamClass, EventClass, Asked}
 use Rattle.rules.specs.Field.{Env}
 use Rattle.rules.specs.Packet.{readEvent, readEvents, readContent, readPacket, readPackets, withEvent, withStream, mark, readRoot, startEvent, startPacket, nothingSaid, endPacket, orElse}
 use Rattle.facts.proofs.Truth.{or-false, if-agree}
-use Rattle.promises.specs.Laws.{Moved, Inside}
+use Rattle.laws.specs.Between.{Moved}
+use Rattle.promises.specs.Laws.{Inside}
 use Rattle.laws.proofs.Law.{Any}
 use Rattle.laws.proofs.Accepted.{Fitting}
 use Rattle.laws.proofs.Triple.{Ok, then, changing, naming, checks, dued}

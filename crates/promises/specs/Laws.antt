@@ -9,7 +9,6 @@ use lib.ListN.{length}
 use Rattle.facts.specs.Bytes.{Bytes}
 use Rattle.rules.specs.declared.BitPlace.{BitPlace}
 use Rattle.rules.specs.declared.Stated.the-variants.{Missing}
-use Rattle.rules.specs.declared.Said.{Said}
 use Rattle.rules.specs.declared.Entry.{Entry}
 use Rattle.rules.specs.Limits.{wordsPerEntry}
 use Rattle.rules.specs.Entry.{words}
@@ -22,7 +21,7 @@ use Rattle.rules.specs.Parse.{good, parse, parseFragments}
 use Rattle.rules.specs.Packet.{readEvent, readEvents, readPackets}
 use Rattle.rules.specs.Read.{Reading, begin, readAll}
 use Rattle.laws.specs.All.{All}
-use Rattle.laws.specs.Between.{Between}
+use Rattle.laws.specs.Between.{Between, Moved}
 use Rattle.promises.specs.Words.{AllWords, WordReading}
 
 -- Entries
@@ -33,10 +32,6 @@ Rising [] p q = p ≤ q
 Rising (e ∷ es) p q = (p ≤ e .place .0) × Rising es (e .place .0) q
 
 -- States within a packet
-
--- no length is stated, or the place is behind the packet's start
-abbrev pub Moved : Env → ℕ → Said → Type 0
-Moved e p d = ((d .total ≡ Missing) × (d .content ≡ Missing)) ⊎ (e .start .0 < p)
 
 pub record Inside (e : Env) (s : State) : Type 0 where
   pub from : e .start .0 ≤ s .place .0

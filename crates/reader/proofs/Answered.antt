@@ -22,7 +22,7 @@ use Rattle.rules.specs.Verdict.{stopAt, numberOf, placeOf, firstOf, secondOf}
 use Rattle.rules.specs.Entry.{words}
 use Rattle.rules.specs.Record.{u8}
 use Rattle.rules.specs.Step.{State as Whole, stop, go}
-use Rattle.rules.specs.Table.{Table, Asked, asked}
+use Rattle.rules.specs.Table.{Table, Asked}
 use Rattle.rules.specs.Parse.{Parsed, bad, good, parse, byteOf, checkedOf, checked}
 use Rattle.rules.specs.Packet.{readPackets}
 use Rattle.rules.specs.Read.{resultOf, listAfter, ended, begin, readStream, readParsed, readAll}
@@ -39,16 +39,19 @@ use Rattle.classes.proofs.Lookups.{found-some, found-none, first-holds, sixteen
 use Rattle.classes.proofs.Asked.{asked-at}
 use Rattle.laws.specs.Kept.{KeepsEvents}
 use Rattle.laws.proofs.Kept.{accepted-keeps}
-use Rattle.reader.specs.declared.Ran.{Ran}
-use Rattle.reader.specs.Ready.{classOf, RootStands, Ready}
-use Rattle.reader.specs.Ran.{RanDid}
-use Rattle.reader.specs.Pieces.{firstState, Lent}
-use Rattle.reader.specs.Answer.{refusedWith, answerOf, Answers}
-use Rattle.reader.proofs.Looked.{root-class, root-stands}
+use Rattle.parts.specs.declared.Ran.{Ran}
+use Rattle.parts.specs.Roots.{classOf, RootStands}
+use Rattle.events.specs.Ready.{Ready}
+use Rattle.parts.specs.Ran.{RanDid}
+use Rattle.packets.specs.Pieces.{firstState, Lent}
+use Rattle.answers.specs.Answer.{refusedWith, answerOf}
+use Rattle.reader.specs.Answers.{Answers}
+use Rattle.parts.proofs.Looked.{root-class, root-stands}
 
 -- What the trace class lends
 
-module _ (t : List ℕ) (x : Notes) (b : List ℕ) (g : Ready t x) (n : length b ≤ streamLimit) (y : Found) (e : y ≡ foundOf (findTraceAt t (fragmentsOf t))) where
+module _ (t : List ℕ) (x : Notes) (b : List ℕ) (g : Ready t x) (n : length b ≤ streamLimit) (y : Found)
+    (e : y ≡ foundOf (findTraceAt t (fragmentsOf t))) where
   pub lent-none : y ≡ Nothing → Lent t x [] Nothing b
   unfolding askedAt classOf RootStands headerAt uuidAt
   lent-none h =
@@ -110,7 +113,8 @@ module _ (t : List ℕ) (x : Notes) (b : List ℕ) (g : Ready t x) (n : length b
 
 -- The result
 
-module _ (es : List Entry) (used : ℕ) (n : used ≡ 4 * length es) (ws ws′ : List ℕ) (k : ws′ ≡ words es ++ drop used ws) (y : Result) (st : State) where
+module _ (es : List Entry) (used : ℕ) (n : used ≡ 4 * length es) (ws ws′ : List ℕ) (k : ws′ ≡ words es ++ drop used ws) (y : Result)
+    (st : State) where
   entries : used / 4 ≡ length es
   entries = omega arith
 
@@ -122,14 +126,16 @@ module _ (es : List Entry) (used : ℕ) (n : used ≡ 4 * length es) (ws ws′ :
   unfolding answerOf refusedWith resultOf ended numberOf placeOf firstOf secondOf listAfter
   stopped-answers v e = record { result = e ∙ rw (entries) refl; list = k ∙ ap (λ m. words es ++ drop m ws) n }
 
-out-answers : (es : List Entry) (went : Went) (used : ℕ) → used ≡ 4 * length es → (ws ws′ : List ℕ) → ws′ ≡ words es ++ drop used ws → (y : Result) (st : State) (l : Slots) (room : ℕ)
+out-answers : (es : List Entry) (went : Went) (used : ℕ) → used ≡ 4 * length es → (ws ws′ : List ℕ) → ws′ ≡ words es ++ drop used ws
+    → (y : Result) (st : State) (l : Slots) (room : ℕ)
     → y ≡ answerOf went used st → Answers (ended (outOf es went st l room)) y ws ws′
 unfolding outOf
 out-answers es On used n ws ws′ k y st l room e = on-answers es used n ws ws′ k y st (full st l room) refl e
 out-answers es (Stopped v) used n ws ws′ k y st l room e = stopped-answers es used n ws ws′ k y st v e
 
 module _ (t : Asked) (b ws : List ℕ) (y : Result) where
-  pub stream-answers : {r : Ran} {ws′ : List ℕ} → RanDid (readPackets t b 0 Missing (length b) (begin (length ws))) firstState r ws ws′ → 1 ≤ length b → length b ≤ streamLimit
+  pub stream-answers : {r : Ran} {ws′ : List ℕ} → RanDid (readPackets t b 0 Missing (length b) (begin (length ws))) firstState r ws ws′
+      → 1 ≤ length b → length b ≤ streamLimit
       → y ≡ answerOf (r .went) (r .used) (r .state) → Answers (readStream t b (length ws)) y ws ws′
   unfolding readStream
   stream-answers {r} {ws′} d one few e =
@@ -138,7 +144,8 @@ module _ (t : Asked) (b ws : List ℕ) (y : Result) where
       (out-answers (d .did .listed) (r .went) (r .used) (d .did .counted) ws ws′ (d .did .list) y (r .state) (d .slots) (length ws - r .used) e))
 
   -- "0 entries, place 0" (21)
-  size-answers : (eqb (length b) 0 || ltb streamLimit (length b)) ≡ true → y ≡ refusedWith (stopAt StreamSize (bitPlace 0)) 0 → Answers (readStream t b (length ws)) y ws ws
+  size-answers : (eqb (length b) 0 || ltb streamLimit (length b)) ≡ true → y ≡ refusedWith (stopAt StreamSize (bitPlace 0)) 0
+      → Answers (readStream t b (length ws)) y ws ws
   unfolding readStream
   size-answers c e = rw (c, readStream) (record {
     result = unfold refusedWith resultOf numberOf placeOf firstOf secondOf in e;
@@ -166,7 +173,8 @@ module _ (t b ws : List ℕ) where
   unfolding readAll checked checkedOf
   table-answers n x h = by (parse t) h
     where
-      by : (o : Parsed Table) → checkedOf t o ≡ Refused n x → Answers (readParsed t o b (length ws)) (record { number = 20; entries = 0; place = x .0; first = n; second = 0 }) ws ws
+      by : (o : Parsed Table) → checkedOf t o ≡ Refused n x
+          → Answers (readParsed t o b (length ws)) (record { number = 20; entries = 0; place = x .0; first = n; second = 0 }) ws ws
       by (bad m y) h =
           let p : m ≡ n = cc in
           let q : byteOf t y ≡ x = cc in

@@ -1,15 +1,1 @@
-pub mod Marks
-pub mod Looked
-pub mod Rooted
-pub mod Unset
-pub mod Parted
-pub mod Bodies
-pub mod Evented
-pub mod Moving
-pub mod Rounding
-pub mod Packeted
-pub mod Running
-pub mod Fitted
-pub mod Onward
-pub mod Rounds
 pub mod Answered

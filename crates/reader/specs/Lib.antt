@@ -1,5 +1,1 @@
-pub mod Ready
-pub mod Ran
-pub mod Event
-pub mod Pieces
-pub mod Answer
+pub mod Answers

@@ -1,10 +1,7 @@
-// Reading a stream by a table, and all that it takes. In order: root, a root that is there is read; event, one event; events, those of a
-// packet; packet, one packet; packets, those of a stream; answer, the numbers of the result.
-use answer::answer;
-use answer::refused;
+// Reading a stream by a table: the table's check (20), the stream's size (21), the table's notes, and the packets.
+use answers::answer;
+use answers::refused;
 use classes::Found;
-use listing::State;
-use listing::Went;
 use lookups::find_trace_class;
 use lookups::root_place;
 use lookups::uuid_place;
@@ -20,45 +17,23 @@ ghost use mathlib.Core.Path.{_≡_};
 ghost use Prim.Native.Nat.{_≤_};
 ghost use lib.ListN.{length};
 ghost use Rattle.rules.specs.declared.Checked.the-variants.{Accepted};
+ghost use Rattle.rules.specs.declared.Refusal.the-variants.{StreamSize};
 ghost use Rattle.rules.specs.Limits.{streamLimit};
 ghost use Rattle.rules.specs.Place.{byteLength, bitPlace};
+ghost use Rattle.rules.specs.Verdict.{stopAt};
 ghost use Rattle.rules.specs.Parse.{checked};
 ghost use Rattle.rules.specs.Read.{readAll, readStream, resultOf, listAfter};
 ghost use Rattle.classes.specs.Notes.{notes};
 ghost use Rattle.classes.specs.Fragments.{askedAt};
-ghost use Rattle.reader.specs.Ready.{Ready};
-ghost use Rattle.rules.specs.Verdict.{stopAt};
-ghost use Rattle.rules.specs.declared.Refusal.the-variants.{StreamSize};
-ghost use Rattle.reader.specs.Answer.{Answers, refusedWith};
-
-mod answer;
-mod event;
-mod events;
-mod packet;
-mod packets;
-mod root;
+ghost use Rattle.events.specs.Ready.{Ready};
+ghost use Rattle.answers.specs.Answer.{refusedWith};
+ghost use Rattle.reader.specs.Answers.{Answers};
 
 // "stream empty or over 16,777,216 bytes" (21)
 const STREAM_LIMIT: usize = 16777216;
 
 // "20: table refused"
 const TABLE_REFUSED: u8 = 20;
-
-// What a part of a reading did that hands no slots on: how it went, the words that it listed, and the state behind it.
-pub struct Ran {
-    pub went: Went,
-    pub used: usize,
-    pub state: State,
-}
-
-// What a packet's events ask of their stream class: where it stands, its id, whether it has a clock, and two of its roots.
-pub struct Asking {
-    pub class: usize,
-    pub id: u64,
-    pub timed: bool,
-    pub header: Found,
-    pub common: Found,
-}
 
 // Reads a stream by a table: lists its entries, and answers how it went. For every table, stream and list the rules' own answer.
 pub fn read(table: &[u8], stream: &[u8], list: &mut [u64]) -> Result

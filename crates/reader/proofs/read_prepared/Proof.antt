@@ -7,8 +7,8 @@ use Rattle.reader.proofs.read_prepared.Lts as lts
 use Rattle.lookups.proofs.find_trace_class.Reads as find-trace-class-reads
 use Rattle.lookups.proofs.root_place.Reads as root-place-reads
 use Rattle.lookups.proofs.uuid_place.Reads as uuid-place-reads
-use Rattle.reader.proofs.answer.answer.Reads as answer-reads
-use Rattle.reader.proofs.packets.read_packets.Reads as read-packets-reads
+use Rattle.answers.proofs.answer.Reads as answer-reads
+use Rattle.packets.proofs.read_packets.Reads as read-packets-reads
 use native.Mathlib.Omega.{arith}
 use Rattle.classes.specs.Notes.{notes}
 use Rattle.reader.proofs.Answered.{lent-none, trace-sized, trace-there, lent-bare, uuid-there, lent-uuid, stream-answers}

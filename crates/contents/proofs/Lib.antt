@@ -1,0 +1,3 @@
+pub mod StreamClass
+pub mod Lengths
+pub mod Running

@@ -1,0 +1,151 @@
+-- An event behind its header: 39 and room, the lookup, and the other roots behind entry 5.
+use mathlib.Core.Path.{_≡_, refl, ap, sym, _∙_}
+use Prim.Native.Nat.{ℕ, _+_, _≤_, _<_}
+use mathlib.Core.List.{List, [], _∷_, _++_}
+use mathlib.Core.Bool.{Bool, true, false, _&&_}
+use mathlib.Core.Option.{none, some}
+use lib.ListN.{length, drop}
+use lib.Dec.{ltb}
+use Rattle.rules.specs.declared.Stop.{Stop}
+use Rattle.rules.specs.declared.Refusal.the-variants.{ClockWentBack, EventClassUnknown, ListFull}
+use Rattle.rules.specs.Verdict.{stopAt}
+use Rattle.rules.specs.Slots.{Slots}
+use Rattle.rules.specs.Entry.{entry, words, eventClassFound}
+use Rattle.rules.specs.Step.{stop, Step, after, _⨾_, refuse, listed, withLast}
+use Rattle.rules.specs.Field.{Env}
+use Rattle.rules.specs.Table.{StreamClass, EventClass, Asked}
+use Rattle.rules.specs.Packet.{mark, withEvent}
+use Rattle.listing.specs.declared.State.{State}
+use Rattle.listing.specs.declared.Went.the-variants.{On, Stopped}
+use Rattle.listing.specs.Did.{full}
+use Rattle.listing.proofs.Checks.{room-first}
+use Rattle.listing.proofs.Roles.{went-no-further}
+use Rattle.listing.proofs.Parts.{Part, part-last-on, part-last-stopped, back-room, lent, merged}
+use Rattle.classes.specs.declared.Found.{Found}
+use Rattle.classes.specs.declared.Found.the-variants.{At, Nothing}
+use Rattle.classes.specs.Fragments.{mapOption, rootPlace, streamClassAt, eventClassAt, findEventAt, fragmentsOf, isEvent, askedAt}
+use Rattle.classes.specs.Sizes.{foundOf, SizedFragment}
+use Rattle.classes.specs.Notes.{Notes}
+use Rattle.classes.proofs.Lookups.{found-some, found-none, first-holds}
+use Rattle.parts.specs.declared.Ran.{Ran}
+use Rattle.events.specs.declared.Asking.{Asking}
+use Rattle.parts.specs.Roots.{classOf}
+use Rattle.events.specs.Ready.{Ready, OfStream}
+use Rattle.parts.specs.Ran.{EventDid, stoppedRan}
+use Rattle.events.specs.Event.{lastState}
+use Rattle.parts.specs.Roots.{partsOf, PartStands}
+use Rattle.events.specs.Event.{bodyOf}
+use Rattle.parts.proofs.Marks.{check-stop, check-on, due-stop, change-on}
+use Rattle.parts.proofs.Looked.{root-class, root-stands}
+
+-- a step that stopped with nothing listed
+pub nothing-did : (M : Step) (st : State) (l : Slots) (ws : List ℕ) (v : Stop) → M (full st l (length ws)) ≡ stop [] v
+    → EventDid M st l (stoppedRan v 0 st) ws ws
+nothing-did M st l ws v e = record { slots = l; kept = refl; did = went-no-further _ st l v ws e }
+
+module _ (a : Asked) (c : StreamClass) (e : Env) (st : State) (l : Slots) (room : ℕ) where
+  abbrev Back : Bool → Type 0
+  Back b = (c .timed && ltb (st .clock .value) (st .last)) ≡ b
+
+  pub body-back : Back true → bodyOf a c e (full st l room) ≡ stop [] (stopAt ClockWentBack (st .place))
+  unfolding bodyOf refuse
+  body-back h = check-stop _ ClockWentBack _ (full st l room) h
+
+  pub body-full : Back false → room < 4 → bodyOf a c e (full st l room) ≡ stop [] (stopAt ListFull (st .place))
+  unfolding bodyOf refuse withLast
+  body-full h k = check-on _ ClockWentBack _ (full st l room) h ∙ change-on _ _ (full st l room) ∙ due-stop _ (full (lastState st) l room) k
+
+  -- with room, what the lookup finds decides
+  looked : Back false → 4 ≤ room
+      → bodyOf a c e (full st l room)
+      ≡ withEvent (c .id) (st .said .event) (a .event (c .id) (st .said .event))
+      (λ d. mark eventClassFound 0 (st .said .event) ⨾ partsOf e (c .common) (d .specific) (d .payload)) (full (lastState st) l room)
+  unfolding bodyOf withLast
+  looked h k = check-on _ ClockWentBack _ (full st l room) h ∙ change-on _ _ (full st l room) ∙ room-first _ (full (lastState st) l room) k
+
+  pub body-unknown : Back false → 4 ≤ room → a .event (c .id) (st .said .event) ≡ none
+      → bodyOf a c e (full st l room) ≡ stop [] (stopAt (EventClassUnknown (c .id) (st .said .event)) (st .place))
+  unfolding withEvent refuse
+  body-unknown h k n = looked h k ∙ rw (n) refl
+
+  pub body-found : (d : EventClass) → Back false → 4 ≤ room → a .event (c .id) (st .said .event) ≡ some d
+      → bodyOf a c e (full st l room)
+      ≡ (mark eventClassFound 0 (st .said .event) ⨾ partsOf e (c .common) (d .specific) (d .payload)) (full (lastState st) l room)
+  unfolding withEvent
+  body-found d h k n = looked h k ∙ rw (n) refl
+
+-- entry 5 stands in front, and m, which keeps slots 0 to 15, is lent the rest
+module _ (k v : ℕ) (M m : Step) (st mid : State) (l : Slots) (ws ws₁ : List ℕ) (h : 4 ≤ length ws)
+    (e : ws₁ ≡ words (entry k (mid .place) 0 v ∷ []) ++ drop 4 ws)
+    (o : M (full st l (length ws)) ≡ (mark k 0 v ⨾ m) (full mid l (length ws))) where
+  entry-part : Part (M (full st l (length ws))) m ws ws₁ 4 mid l
+  unfolding _⨾_ after mark listed
+  entry-part = record { listed = entry k (mid .place) 0 v ∷ []; list = e; counted = refl; room = h; rest = o }
+
+  module _ {r : Ran} {ys : List ℕ} (did : EventDid m mid l r (lent 4 ws₁) ys) where
+    pub behind-room : 4 + r .used ≤ length ws
+    behind-room = back-room m entry-part (did .did)
+
+    pub behind-on : r .went ≡ On → EventDid M st l (record { went = On; used = 4 + r .used; state = r .state }) ws (merged 4 ws₁ ys)
+    behind-on on = record { slots = did .slots; kept = did .kept; did = part-last-on m entry-part (did .did) st on }
+
+    pub behind-stops : (x : Stop) → r .went ≡ Stopped x → EventDid M st l (stoppedRan x (4 + r .used) st) ws (merged 4 ws₁ ys)
+    behind-stops x off = record { slots = l; kept = refl; did = part-last-stopped m entry-part (did .did) x st l off }
+
+-- What the lookup finds
+
+module _ (t : List ℕ) (x : Notes) (w : Asking) (j : ℕ) (ready : Ready t x) (of : OfStream t w) where
+  abbrev Class : StreamClass
+  Class = streamClassAt t (w .class)
+
+  asked-id : (askedAt t) .event (Class .id) j ≡ mapOption (eventClassAt t) (findEventAt t (fragmentsOf t) (w .id) j)
+  unfolding askedAt
+  asked-id = rw (sym (of .id)) refl
+
+  pub event-unknown : Nothing ≡ foundOf (findEventAt t (fragmentsOf t) (w .id) j) → (askedAt t) .event (Class .id) j ≡ none
+  unfolding mapOption
+  event-unknown e = asked-id ∙ rw (found-none _ e) refl
+
+  module _ (p : ℕ) (e : At p ≡ foundOf (findEventAt t (fragmentsOf t) (w .id) j)) where
+    pub event-found : (askedAt t) .event (Class .id) j ≡ some (eventClassAt t p)
+    unfolding mapOption
+    event-found = asked-id ∙ rw (found-some _ p e) refl
+
+    pub event-stands : SizedFragment t (x .sizes) p
+    event-stands = first-holds (SizedFragment t (x .sizes)) (isEvent t (w .id) j) (fragmentsOf t) p (found-some _ p e) (ready .noted .sized .each) .1
+
+    pub specific-stands : PartStands t (foundOf (rootPlace t p 0))
+    unfolding eventClassAt
+    specific-stands = record {
+      stands = root-stands t p 0 (foundOf (rootPlace t p 0)) (event-stands .stands) refl;
+      keeps = rw (root-class t p 0 (foundOf (rootPlace t p 0)) refl) (ready .keeps .specific (Class .id) j (eventClassAt t p) event-found);
+    }
+
+    pub payload-stands : PartStands t (foundOf (rootPlace t p 1))
+    unfolding eventClassAt
+    payload-stands = record {
+      stands = root-stands t p 1 (foundOf (rootPlace t p 1)) (event-stands .stands) refl;
+      keeps = rw (root-class t p 1 (foundOf (rootPlace t p 1)) refl) (ready .keeps .payload (Class .id) j (eventClassAt t p) event-found);
+    }
+
+  pub common-stands : PartStands t (w .common)
+  common-stands = record { stands = of .commonStands; keeps = rw (of .common) (ready .keeps .common (w .id) Class (of .found)) }
+
+  -- the roots by the places that were found
+  pub found-parts : (p : ℕ) → At p ≡ foundOf (findEventAt t (fragmentsOf t) (w .id) j) → (specific payload : Found)
+      → specific ≡ foundOf (rootPlace t p 0) → payload ≡ foundOf (rootPlace t p 1) → (e : Env) (st : State) (l : Slots) (room : ℕ)
+      → st .said .event ≡ j
+      → (Class .timed && ltb (st .clock .value) (st .last)) ≡ false → 4 ≤ room
+      → bodyOf (askedAt t) Class e (full st l room)
+      ≡ (mark eventClassFound 0 (st .said .event) ⨾ partsOf e (classOf t (w .common)) (classOf t specific) (classOf t payload)) (full (lastState st) l room)
+  found-parts p found specific payload h k e st l room says back some? =
+      body-found (askedAt t) Class e st l room (eventClassAt t p) back some? (ap (λ i. (askedAt t) .event (Class .id) i) says ∙ event-found p found)
+      ∙ ap (λ m. (mark eventClassFound 0 (st .said .event) ⨾ m) (full (lastState st) l room)) same
+    where
+      same : partsOf e (Class .common) ((eventClassAt t p) .specific) ((eventClassAt t p) .payload)
+          ≡ partsOf e (classOf t (w .common)) (classOf t specific) (classOf t payload)
+      same = unfold eventClassAt in rw (h, k, root-class t p 0 (foundOf (rootPlace t p 0)) refl, root-class t p 1 (foundOf (rootPlace t p 1)) refl, of .common) refl
+
+  pub back-is : (st : State) (r b : Bool) → r ≡ (w .timed && ltb (st .clock .value) (st .last)) → r ≡ b
+      → (Class .timed && ltb (st .clock .value) (st .last)) ≡ b
+  back-is st r b e h = ap (λ u. u && ltb (st .clock .value) (st .last)) (sym (of .timed)) ∙ sym e ∙ h

@@ -1,0 +1,150 @@
+-- Behind entry 1 the header is read, and then the rest. Nothing depends on the slots that a packet finds.
+use borrow.Author.Needs.{needs}
+use Rattle.packets.proofs.packet.read_packet.Statement.{statement}
+use Rattle.packets.proofs.packet.read_packet.Tie as tie
+use Rattle.packets.proofs.packet.read_packet.Reads as reads
+use Rattle.packets.proofs.packet.read_packet.Lts as lts
+use Rattle.listing.proofs.entry.write.Reads as write-reads
+use Rattle.parts.proofs.stopped.Reads as stopped-reads
+use Rattle.packets.proofs.packet.fresh.Reads as fresh-reads
+use Rattle.packets.proofs.packet.no_slots.Reads as no-slots-reads
+use Rattle.packets.proofs.packet.read_behind_header.Reads as read-behind-header-reads
+use Rattle.contents.proofs.whole_frame.Reads as whole-frame-reads
+use Rattle.parts.proofs.root.read_root.Reads as read-root-reads
+use mathlib.Core.Path.{_∙_}
+use native.Mathlib.Omega.{arith}
+use lib.ListN.{length}
+use Prim.Native.Nat.{_+_, _-_}
+use borrow.Rule.Slice.PartMut.{same-len-mid}
+use Rattle.listing.proofs.Parts.{part-length, merged}
+use Rattle.classes.specs.Notes.{notes}
+use Rattle.rules.specs.Slots.{noSlots}
+use Rattle.packets.specs.Pieces.{freshState}
+use Rattle.parts.proofs.Marks.{ran-room, ran-stopped, ran-on}
+use Rattle.packets.proofs.Running.{start-framed, packet-ran-full, header-framed, header-stopped, header-room, behind-part}
+
+stopped-requires : tie.Need-stopped-requires
+stopped-requires c κs = search needs
+
+returns : tie.Need-returns
+returns c = let a = c .before .before .before .before .before .before .before .before .before .before .args in let g = c .before .before .before .before .before .before .before .before .before .before .pre .0 in record { at = λ l. rw (c .stopped .ensures) (packet-ran-full (a .table .now) (notes (a .sizes .now) (a .aligns .now)) (a .uuid .now) (a .stream .now) (a .header) g (a .number) (a .first) (a .begun) (a .list .now) l (c .before .if1 .taken)) }
+
+write-requires : tie.Need-write-requires
+write-requires c κs = search needs
+
+whole-frame-requires : tie.Need-whole-frame-requires
+whole-frame-requires c κs = search needs
+
+fresh-requires : tie.Need-fresh-requires
+fresh-requires c κs = search needs
+
+no-slots-requires : tie.Need-no-slots-requires
+no-slots-requires c κs = search needs
+
+sub-read-root : tie.Need-sub-read-root
+sub-read-root c = search needs
+
+part-read-root-start : tie.Need-part-read-root-start
+part-read-root-start c = search needs
+
+part-read-root-end : tie.Need-part-read-root-end
+part-read-root-end c = search needs
+
+read-root-requires : tie.Need-read-root-requires
+unfolding freshState
+read-root-requires c κs = let a = c .before .before .before .before .before .before .before .before .before .before .before .before .before .before .before .before .before .args in let g = c .before .before .before .before .before .before .before .before .before .before .before .before .before .before .before .before .before .pre .0 in (g .stands, (g .ready .noted, rw (c .before .before .before .whole-frame .ensures, c .before .before .fresh .ensures) (start-framed (a .stream .now) (a .begun .place) (g .small) (c .before .before .before .before .before .before .before .before .before .before .before .before .before .before .before .before .before .pre .1))))
+
+add-used : tie.Need-add-used
+add-used c = let a = c .before .before .before .before .before .before .before .before .before .before .before .before .before .before .before .before .before .before .before .before .before .args in let g = c .before .before .before .before .before .before .before .before .before .before .before .before .before .before .before .before .before .before .before .before .before .pre .0 in omega (arith, header-room (a .table .now) (notes (a .sizes .now) (a .aligns .now)) (a .uuid .now) (a .stream .now) (a .header) g (a .number) (a .first) (a .begun) (a .list .now) (c .before .before .before .before .before .before .before .before .before .before .before .before .if1 .left) (c .before .before .before .before .before .before .before .before .before .before .write .ensures) (c .before .before .before .before .before .before .before .whole-frame .result) (c .before .before .before .before .before .before .before .whole-frame .ensures) (c .before .before .before .before .before .before .fresh .result) (c .before .before .before .before .before .before .fresh .ensures) (c .before .before .before .before .before .no-slots .result) (c .before .before .before .before .before .no-slots .ensures) (c .before .before .before .read-root .ensures), c .before .before .before .before .before .before .before .before .before .before .before .before .before .before .before .before .before .before .before .before .before .good)
+
+enum-known-went : tie.Need-enum-known-went
+enum-known-went c = search needs
+
+stopped-requires-2 : tie.Need-stopped-requires-2
+stopped-requires-2 c κs = search needs
+
+same-length : tie.Need-same-length
+same-length c = same-len-mid 4 (length (c .before .before .before .before .before .before .before .before .before .before .before .before .before .before .write .last .0) - 4) (c .before .before .before .before .before .before .before .before .before .before .before .before .before .before .write .last .0) (c .before .before .before .before .before .before .before .read-root .last .1 .1 .1 .1 .1 .1 .1 .1 .1 .0) (c .before .before .before .before .before .before .before .read-root .kept .1 .1 .1 .1 .1 .1 .1 .1 .1 .0) ∙ c .before .before .before .before .before .before .before .before .before .before .before .before .before .before .write .kept .0
+
+returns-2 : tie.Need-returns-2
+returns-2 c = let a = c .before .before .before .before .before .before .before .before .before .before .before .before .before .before .before .before .before .before .before .before .before .before .before .before .before .args in let g = c .before .before .before .before .before .before .before .before .before .before .before .before .before .before .before .before .before .before .before .before .before .before .before .before .before .pre .0 in record { at = λ l. rw (c .stopped2 .ensures) (header-stopped (a .table .now) (notes (a .sizes .now) (a .aligns .now)) (a .uuid .now) (a .stream .now) (a .header) g (a .number) (a .first) (a .begun) (a .list .now) (c .before .before .before .before .before .before .before .before .before .before .before .before .before .before .before .before .if1 .left) (c .before .before .before .before .before .before .before .before .before .before .before .before .before .before .write .ensures) (c .before .before .before .before .before .before .before .before .before .before .before .whole-frame .result) (c .before .before .before .before .before .before .before .before .before .before .before .whole-frame .ensures) (c .before .before .before .before .before .before .before .before .before .before .fresh .result) (c .before .before .before .before .before .before .before .before .before .before .fresh .ensures) (c .before .before .before .before .before .before .before .before .before .no-slots .result) (c .before .before .before .before .before .before .before .before .before .no-slots .ensures) (c .before .before .before .before .before .before .before .read-root .ensures) l _ (c .before .before .went .given .1)) }
+
+enum-told : tie.Need-enum-told
+enum-told c = search needs
+
+mul-read-behind-header : tie.Need-mul-read-behind-header
+mul-read-behind-header c = let a = c .before .before .before .before .before .before .before .before .before .before .before .before .before .before .before .before .before .before .before .before .before .before .before .before .before .args in let g = c .before .before .before .before .before .before .before .before .before .before .before .before .before .before .before .before .before .before .before .before .before .before .before .before .before .pre .0 in let p = (behind-part (a .table .now) (notes (a .sizes .now) (a .aligns .now)) (a .uuid .now) (a .stream .now) (a .header) g (a .number) (a .first) (a .begun) (a .list .now) (c .before .before .before .before .before .before .before .before .before .before .before .before .before .before .before .before .if1 .left) (c .before .before .before .before .before .before .before .before .before .before .before .before .before .before .write .ensures) (c .before .before .before .before .before .before .before .before .before .before .before .whole-frame .result) (c .before .before .before .before .before .before .before .before .before .before .before .whole-frame .ensures) (c .before .before .before .before .before .before .before .before .before .before .fresh .result) (c .before .before .before .before .before .before .before .before .before .before .fresh .ensures) (c .before .before .before .before .before .before .before .before .before .no-slots .result) (c .before .before .before .before .before .before .before .before .before .no-slots .ensures) (c .before .before .before .before .before .before .before .read-root .ensures) noSlots (c .before .before .enum-told .given .1)) in omega (arith, part-length p, p .room, c .before .before .before .before .before .before .before .before .before .before .before .before .before .before .before .before .before .before .before .before .before .before .before .before .before .good)
+
+sub-read-behind-header : tie.Need-sub-read-behind-header
+sub-read-behind-header c = let a = c .before .before .before .before .before .before .before .before .before .before .before .before .before .before .before .before .before .before .before .before .before .before .before .before .before .args in let g = c .before .before .before .before .before .before .before .before .before .before .before .before .before .before .before .before .before .before .before .before .before .before .before .before .before .pre .0 in let p = (behind-part (a .table .now) (notes (a .sizes .now) (a .aligns .now)) (a .uuid .now) (a .stream .now) (a .header) g (a .number) (a .first) (a .begun) (a .list .now) (c .before .before .before .before .before .before .before .before .before .before .before .before .before .before .before .before .if1 .left) (c .before .before .before .before .before .before .before .before .before .before .before .before .before .before .write .ensures) (c .before .before .before .before .before .before .before .before .before .before .before .whole-frame .result) (c .before .before .before .before .before .before .before .before .before .before .before .whole-frame .ensures) (c .before .before .before .before .before .before .before .before .before .before .fresh .result) (c .before .before .before .before .before .before .before .before .before .before .fresh .ensures) (c .before .before .before .before .before .before .before .before .before .no-slots .result) (c .before .before .before .before .before .before .before .before .before .no-slots .ensures) (c .before .before .before .before .before .before .before .read-root .ensures) noSlots (c .before .before .enum-told .given .1)) in omega (arith, part-length p, p .room, c .before .before .before .before .before .before .before .before .before .before .before .before .before .before .before .before .before .before .before .before .before .before .before .before .before .good)
+
+part-read-behind-header-start : tie.Need-part-read-behind-header-start
+part-read-behind-header-start c = let a = c .before .before .before .before .before .before .before .before .before .before .before .before .before .before .before .before .before .before .before .before .before .before .before .before .before .args in let g = c .before .before .before .before .before .before .before .before .before .before .before .before .before .before .before .before .before .before .before .before .before .before .before .before .before .pre .0 in let p = (behind-part (a .table .now) (notes (a .sizes .now) (a .aligns .now)) (a .uuid .now) (a .stream .now) (a .header) g (a .number) (a .first) (a .begun) (a .list .now) (c .before .before .before .before .before .before .before .before .before .before .before .before .before .before .before .before .if1 .left) (c .before .before .before .before .before .before .before .before .before .before .before .before .before .before .write .ensures) (c .before .before .before .before .before .before .before .before .before .before .before .whole-frame .result) (c .before .before .before .before .before .before .before .before .before .before .before .whole-frame .ensures) (c .before .before .before .before .before .before .before .before .before .before .fresh .result) (c .before .before .before .before .before .before .before .before .before .before .fresh .ensures) (c .before .before .before .before .before .before .before .before .before .no-slots .result) (c .before .before .before .before .before .before .before .before .before .no-slots .ensures) (c .before .before .before .before .before .before .before .read-root .ensures) noSlots (c .before .before .enum-told .given .1)) in omega (arith, part-length p, p .room, c .before .before .before .before .before .before .before .before .before .before .before .before .before .before .before .before .before .before .before .before .before .before .before .before .before .good)
+
+part-read-behind-header-end : tie.Need-part-read-behind-header-end
+part-read-behind-header-end c = search needs
+
+read-behind-header-requires : tie.Need-read-behind-header-requires
+read-behind-header-requires c κs = let a = c .before .before .before .before .before .before .before .before .before .before .before .before .before .before .before .before .before .before .before .before .before .before .before .before .before .before .args in let g = c .before .before .before .before .before .before .before .before .before .before .before .before .before .before .before .before .before .before .before .before .before .before .before .before .before .before .pre .0 in (record { ready = g .ready; uuid = g .uuid; small = g .small }, header-framed (a .table .now) (notes (a .sizes .now) (a .aligns .now)) (a .uuid .now) (a .stream .now) (a .header) g (a .number) (a .first) (a .begun) (a .list .now) (c .before .before .before .before .before .before .before .before .before .before .before .before .before .before .before .before .before .if1 .left) (c .before .before .before .before .before .before .before .before .before .before .before .before .before .before .before .write .ensures) (c .before .before .before .before .before .before .before .before .before .before .before .before .whole-frame .result) (c .before .before .before .before .before .before .before .before .before .before .before .before .whole-frame .ensures) (c .before .before .before .before .before .before .before .before .before .before .before .fresh .result) (c .before .before .before .before .before .before .before .before .before .before .before .fresh .ensures) (c .before .before .before .before .before .before .before .before .before .before .no-slots .result) (c .before .before .before .before .before .before .before .before .before .before .no-slots .ensures) (c .before .before .before .before .before .before .before .before .read-root .ensures) (c .before .before .before .before .before .before .before .before .before .before .before .before .before .before .before .before .before .before .before .before .before .before .before .before .before .before .pre .1) (c .before .before .before .enum-told .given .1))
+
+enum-known-went-2 : tie.Need-enum-known-went-2
+enum-known-went-2 c = search needs
+
+add-stopped : tie.Need-add-stopped
+add-stopped c = let a = c .before .before .before .before .before .before .before .before .before .before .before .before .before .before .before .before .before .before .before .before .before .before .before .before .before .before .before .before .before .before .before .before .before .args in let g = c .before .before .before .before .before .before .before .before .before .before .before .before .before .before .before .before .before .before .before .before .before .before .before .before .before .before .before .before .before .before .before .before .before .pre .0 in omega (arith, ran-room _ (behind-part (a .table .now) (notes (a .sizes .now) (a .aligns .now)) (a .uuid .now) (a .stream .now) (a .header) g (a .number) (a .first) (a .begun) (a .list .now) (c .before .before .before .before .before .before .before .before .before .before .before .before .before .before .before .before .before .before .before .before .before .before .before .before .if1 .left) (c .before .before .before .before .before .before .before .before .before .before .before .before .before .before .before .before .before .before .before .before .before .before .write .ensures) (c .before .before .before .before .before .before .before .before .before .before .before .before .before .before .before .before .before .before .before .whole-frame .result) (c .before .before .before .before .before .before .before .before .before .before .before .before .before .before .before .before .before .before .before .whole-frame .ensures) (c .before .before .before .before .before .before .before .before .before .before .before .before .before .before .before .before .before .before .fresh .result) (c .before .before .before .before .before .before .before .before .before .before .before .before .before .before .before .before .before .before .fresh .ensures) (c .before .before .before .before .before .before .before .before .before .before .before .before .before .before .before .before .before .no-slots .result) (c .before .before .before .before .before .before .before .before .before .before .before .before .before .before .before .before .before .no-slots .ensures) (c .before .before .before .before .before .before .before .before .before .before .before .before .before .before .before .read-root .ensures) noSlots (c .before .before .before .before .before .before .before .before .before .before .enum-told .given .1)) (c .before .before .before .before .before .before .read-behind-header .ensures), c .before .before .before .before .before .before .before .before .before .before .before .before .before .before .before .before .before .before .before .before .before .before .before .before .before .before .before .before .before .before .before .before .before .good)
+
+stopped-requires-3 : tie.Need-stopped-requires-3
+stopped-requires-3 c κs = search needs
+
+enum-told-2 : tie.Need-enum-told-2
+enum-told-2 c = search needs
+
+add-t44 : tie.Need-add-t44
+add-t44 c = let a = c .before .before .before .before .before .before .before .before .before .before .before .before .before .before .before .before .before .before .before .before .before .before .before .before .before .before .before .before .before .before .before .before .before .args in let g = c .before .before .before .before .before .before .before .before .before .before .before .before .before .before .before .before .before .before .before .before .before .before .before .before .before .before .before .before .before .before .before .before .before .pre .0 in omega (arith, ran-room _ (behind-part (a .table .now) (notes (a .sizes .now) (a .aligns .now)) (a .uuid .now) (a .stream .now) (a .header) g (a .number) (a .first) (a .begun) (a .list .now) (c .before .before .before .before .before .before .before .before .before .before .before .before .before .before .before .before .before .before .before .before .before .before .before .before .if1 .left) (c .before .before .before .before .before .before .before .before .before .before .before .before .before .before .before .before .before .before .before .before .before .before .write .ensures) (c .before .before .before .before .before .before .before .before .before .before .before .before .before .before .before .before .before .before .before .whole-frame .result) (c .before .before .before .before .before .before .before .before .before .before .before .before .before .before .before .before .before .before .before .whole-frame .ensures) (c .before .before .before .before .before .before .before .before .before .before .before .before .before .before .before .before .before .before .fresh .result) (c .before .before .before .before .before .before .before .before .before .before .before .before .before .before .before .before .before .before .fresh .ensures) (c .before .before .before .before .before .before .before .before .before .before .before .before .before .before .before .before .before .no-slots .result) (c .before .before .before .before .before .before .before .before .before .before .before .before .before .before .before .before .before .no-slots .ensures) (c .before .before .before .before .before .before .before .before .before .before .before .before .before .before .before .read-root .ensures) noSlots (c .before .before .before .before .before .before .before .before .before .before .enum-told .given .1)) (c .before .before .before .before .before .before .read-behind-header .ensures), c .before .before .before .before .before .before .before .before .before .before .before .before .before .before .before .before .before .before .before .before .before .before .before .before .before .before .before .before .before .before .before .before .before .good)
+
+same-length-2 : tie.Need-same-length-2
+same-length-2 c = let a = c .before .before .before .before .before .before .before .before .before .before .before .before .before .before .before .before .before .before .before .before .before .before .before .before .before .before .before .before .before .before .before .before .before .before .args in let g = c .before .before .before .before .before .before .before .before .before .before .before .before .before .before .before .before .before .before .before .before .before .before .before .before .before .before .before .before .before .before .before .before .before .before .pre .0 in let m = merged 4 (c .before .before .before .before .before .before .before .before .before .before .before .before .before .before .before .before .before .before .before .before .before .before .before .write .last .0) (c .before .before .before .before .before .before .before .before .before .before .before .before .before .before .before .before .read-root .last .1 .1 .1 .1 .1 .1 .1 .1 .1 .0) in same-len-mid (4 + c .before .before .before .before .before .before .before .before .before .before .before .before .before .before .before .before .read-root .result .used) (length m - (4 + c .before .before .before .before .before .before .before .before .before .before .before .before .before .before .before .before .read-root .result .used)) m (c .before .before .before .before .before .before .before .read-behind-header .last .1 .1 .1 .1 .1 .1 .1 .1 .1 .1 .0) (c .before .before .before .before .before .before .before .read-behind-header .kept .1 .1 .1 .1 .1 .1 .1 .1 .1 .1 .0) ∙ part-length (behind-part (a .table .now) (notes (a .sizes .now) (a .aligns .now)) (a .uuid .now) (a .stream .now) (a .header) g (a .number) (a .first) (a .begun) (a .list .now) (c .before .before .before .before .before .before .before .before .before .before .before .before .before .before .before .before .before .before .before .before .before .before .before .before .before .if1 .left) (c .before .before .before .before .before .before .before .before .before .before .before .before .before .before .before .before .before .before .before .before .before .before .before .write .ensures) (c .before .before .before .before .before .before .before .before .before .before .before .before .before .before .before .before .before .before .before .before .whole-frame .result) (c .before .before .before .before .before .before .before .before .before .before .before .before .before .before .before .before .before .before .before .before .whole-frame .ensures) (c .before .before .before .before .before .before .before .before .before .before .before .before .before .before .before .before .before .before .before .fresh .result) (c .before .before .before .before .before .before .before .before .before .before .before .before .before .before .before .before .before .before .before .fresh .ensures) (c .before .before .before .before .before .before .before .before .before .before .before .before .before .before .before .before .before .before .no-slots .result) (c .before .before .before .before .before .before .before .before .before .before .before .before .before .before .before .before .before .before .no-slots .ensures) (c .before .before .before .before .before .before .before .before .before .before .before .before .before .before .before .before .read-root .ensures) noSlots (c .before .before .before .before .before .before .before .before .before .before .before .enum-told .given .1))
+
+returns-3 : tie.Need-returns-3
+returns-3 c = let a = c .before .before .before .before .before .before .before .before .before .before .before .before .before .before .before .before .before .before .before .before .before .before .before .before .before .before .before .before .before .before .before .before .before .before .args in let g = c .before .before .before .before .before .before .before .before .before .before .before .before .before .before .before .before .before .before .before .before .before .before .before .before .before .before .before .before .before .before .before .before .before .before .pre .0 in record { at = λ l. rw (c .stopped3 .ensures) (ran-stopped _ (behind-part (a .table .now) (notes (a .sizes .now) (a .aligns .now)) (a .uuid .now) (a .stream .now) (a .header) g (a .number) (a .first) (a .begun) (a .list .now) (c .before .before .before .before .before .before .before .before .before .before .before .before .before .before .before .before .before .before .before .before .before .before .before .before .before .if1 .left) (c .before .before .before .before .before .before .before .before .before .before .before .before .before .before .before .before .before .before .before .before .before .before .before .write .ensures) (c .before .before .before .before .before .before .before .before .before .before .before .before .before .before .before .before .before .before .before .before .whole-frame .result) (c .before .before .before .before .before .before .before .before .before .before .before .before .before .before .before .before .before .before .before .before .whole-frame .ensures) (c .before .before .before .before .before .before .before .before .before .before .before .before .before .before .before .before .before .before .before .fresh .result) (c .before .before .before .before .before .before .before .before .before .before .before .before .before .before .before .before .before .before .before .fresh .ensures) (c .before .before .before .before .before .before .before .before .before .before .before .before .before .before .before .before .before .before .no-slots .result) (c .before .before .before .before .before .before .before .before .before .before .before .before .before .before .before .before .before .before .no-slots .ensures) (c .before .before .before .before .before .before .before .before .before .before .before .before .before .before .before .before .read-root .ensures) l (c .before .before .before .before .before .before .before .before .before .before .before .enum-told .given .1)) (c .before .before .before .before .before .before .before .read-behind-header .ensures) _ _ (c .before .before .before .went2 .given .1)) }
+
+same-length-3 : tie.Need-same-length-3
+same-length-3 c = let a = c .before .before .before .before .before .before .before .before .before .before .before .before .before .before .before .before .before .before .before .before .before .before .before .before .before .before .before .before .before .before .before .before .before .args in let g = c .before .before .before .before .before .before .before .before .before .before .before .before .before .before .before .before .before .before .before .before .before .before .before .before .before .before .before .before .before .before .before .before .before .pre .0 in let m = merged 4 (c .before .before .before .before .before .before .before .before .before .before .before .before .before .before .before .before .before .before .before .before .before .before .write .last .0) (c .before .before .before .before .before .before .before .before .before .before .before .before .before .before .before .read-root .last .1 .1 .1 .1 .1 .1 .1 .1 .1 .0) in same-len-mid (4 + c .before .before .before .before .before .before .before .before .before .before .before .before .before .before .before .read-root .result .used) (length m - (4 + c .before .before .before .before .before .before .before .before .before .before .before .before .before .before .before .read-root .result .used)) m (c .before .before .before .before .before .before .read-behind-header .last .1 .1 .1 .1 .1 .1 .1 .1 .1 .1 .0) (c .before .before .before .before .before .before .read-behind-header .kept .1 .1 .1 .1 .1 .1 .1 .1 .1 .1 .0) ∙ part-length (behind-part (a .table .now) (notes (a .sizes .now) (a .aligns .now)) (a .uuid .now) (a .stream .now) (a .header) g (a .number) (a .first) (a .begun) (a .list .now) (c .before .before .before .before .before .before .before .before .before .before .before .before .before .before .before .before .before .before .before .before .before .before .before .before .if1 .left) (c .before .before .before .before .before .before .before .before .before .before .before .before .before .before .before .before .before .before .before .before .before .before .write .ensures) (c .before .before .before .before .before .before .before .before .before .before .before .before .before .before .before .before .before .before .before .whole-frame .result) (c .before .before .before .before .before .before .before .before .before .before .before .before .before .before .before .before .before .before .before .whole-frame .ensures) (c .before .before .before .before .before .before .before .before .before .before .before .before .before .before .before .before .before .before .fresh .result) (c .before .before .before .before .before .before .before .before .before .before .before .before .before .before .before .before .before .before .fresh .ensures) (c .before .before .before .before .before .before .before .before .before .before .before .before .before .before .before .before .before .no-slots .result) (c .before .before .before .before .before .before .before .before .before .before .before .before .before .before .before .before .before .no-slots .ensures) (c .before .before .before .before .before .before .before .before .before .before .before .before .before .before .before .read-root .ensures) noSlots (c .before .before .before .before .before .before .before .before .before .before .enum-told .given .1))
+
+returns-4 : tie.Need-returns-4
+returns-4 c = let a = c .before .before .before .before .before .before .before .before .before .before .before .before .before .before .before .before .before .before .before .before .before .before .before .before .before .before .before .before .before .before .before .before .before .args in let g = c .before .before .before .before .before .before .before .before .before .before .before .before .before .before .before .before .before .before .before .before .before .before .before .before .before .before .before .before .before .before .before .before .before .pre .0 in record { at = λ l. ran-on _ (behind-part (a .table .now) (notes (a .sizes .now) (a .aligns .now)) (a .uuid .now) (a .stream .now) (a .header) g (a .number) (a .first) (a .begun) (a .list .now) (c .before .before .before .before .before .before .before .before .before .before .before .before .before .before .before .before .before .before .before .before .before .before .before .before .if1 .left) (c .before .before .before .before .before .before .before .before .before .before .before .before .before .before .before .before .before .before .before .before .before .before .write .ensures) (c .before .before .before .before .before .before .before .before .before .before .before .before .before .before .before .before .before .before .before .whole-frame .result) (c .before .before .before .before .before .before .before .before .before .before .before .before .before .before .before .before .before .before .before .whole-frame .ensures) (c .before .before .before .before .before .before .before .before .before .before .before .before .before .before .before .before .before .before .fresh .result) (c .before .before .before .before .before .before .before .before .before .before .before .before .before .before .before .before .before .before .fresh .ensures) (c .before .before .before .before .before .before .before .before .before .before .before .before .before .before .before .before .before .no-slots .result) (c .before .before .before .before .before .before .before .before .before .before .before .before .before .before .before .before .before .no-slots .ensures) (c .before .before .before .before .before .before .before .before .before .before .before .before .before .before .before .read-root .ensures) l (c .before .before .before .before .before .before .before .before .before .before .enum-told .given .1)) (c .before .before .before .before .before .before .read-behind-header .ensures) _ (c .before .before .enum-told2 .given .1) }
+
+pub read-packet-spec : {M : Type 1} → statement M
+read-packet-spec =
+    tie.close
+    (tie.spec
+    stopped-requires
+    returns
+    write-requires
+    whole-frame-requires
+    fresh-requires
+    no-slots-requires
+    sub-read-root
+    part-read-root-start
+    part-read-root-end
+    read-root-requires
+    add-used
+    enum-known-went
+    stopped-requires-2
+    same-length
+    returns-2
+    enum-told
+    mul-read-behind-header
+    sub-read-behind-header
+    part-read-behind-header-start
+    part-read-behind-header-end
+    read-behind-header-requires
+    enum-known-went-2
+    add-stopped
+    stopped-requires-3
+    enum-told-2
+    add-t44
+    same-length-2
+    returns-3
+    same-length-3
+    returns-4)

@@ -1,0 +1,4 @@
+pub mod Marks
+pub mod Looked
+pub mod Rooted
+pub mod Parted
