@@ -15,7 +15,11 @@ pub mod Figures
 pub mod Leave
 pub mod Exact
 pub mod Finds
+pub mod Numbered
+pub mod Calls
 pub mod Words
 pub mod Listed
 pub mod Laws
+pub mod Answers
+pub mod Promised
 pub mod Cases
