@@ -22,4 +22,6 @@ pub mod Listed
 pub mod Laws
 pub mod Answers
 pub mod Promised
+pub mod Only
+pub mod OnlyRan
 pub mod Cases

@@ -3,5 +3,7 @@ pub mod Words
 pub mod Edition
 pub mod Missing
 pub mod Calls
+pub mod Only
+pub mod OnlyRan
 pub mod Laws
 pub mod Cases
