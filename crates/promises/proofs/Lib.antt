@@ -25,3 +25,4 @@ pub mod Promised
 pub mod Only
 pub mod OnlyRan
 pub mod Cases
+pub mod Rejected

@@ -7,3 +7,4 @@ pub mod Only
 pub mod OnlyRan
 pub mod Laws
 pub mod Cases
+pub mod Rejected
