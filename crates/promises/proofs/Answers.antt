@@ -29,7 +29,7 @@ use Rattle.rules.specs.Read.{Reading, ended, begin, readStream, readParsed, rea
 use Rattle.facts.proofs.Refusals.{refusalNumber-bounds}
 use Rattle.facts.proofs.Lists.{length-words}
 use Rattle.promises.specs.Laws.{SpentReading, RanOut}
-use Rattle.promises.specs.Calls.{Call, call, listedBy, wordsOf, cameBehind, Contract, ByTable, Demand1, LessRoom, LessRoomCalls}
+use Rattle.promises.specs.Demands.{Call, call, listedBy, wordsOf, cameBehind, Contract, ByTable, Demand1, LessRoom, LessRoomCalls}
 use Rattle.promises.proofs.Laws.{the-laws}
 use Rattle.promises.proofs.Numbered.{refused-number}
 use Rattle.promises.proofs.Spent.{reading-spent}

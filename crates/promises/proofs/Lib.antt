@@ -16,6 +16,7 @@ pub mod Leave
 pub mod Exact
 pub mod Finds
 pub mod Numbered
+pub mod Clocks
 pub mod Calls
 pub mod Words
 pub mod Listed
@@ -26,3 +27,4 @@ pub mod Only
 pub mod OnlyRan
 pub mod Cases
 pub mod Rejected
+pub mod Standard

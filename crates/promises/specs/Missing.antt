@@ -13,9 +13,10 @@ use Rattle.rules.specs.declared.Verdict.the-variants.{Refused}
 use Rattle.rules.specs.Verdict.{stopAt}
 use Rattle.rules.specs.Entry.{streamClassFound, eventClassFound}
 use Rattle.rules.specs.declared.Checked.the-variants.{Accepted}
-use Rattle.rules.specs.Place.{byteLength}
+use Rattle.rules.specs.Place.{bitPlace, byteLength}
 use Rattle.rules.specs.Parse.{checked}
-use Rattle.rules.specs.Read.{Reading, readAll}
+use Rattle.rules.specs.Read.{Reading, readAll, resultOf}
+use Rattle.promises.specs.Figures.{table40, stream1}
 use Rattle.promises.specs.Edition.{both, leave}
 
 -- an entry of a list, by its number from 0, and the refusal that names the class of which it is the finding
@@ -87,3 +88,12 @@ shortened (some l) r = record { entries = take (l .index) (r .entries); verdict 
 abbrev pub Demand3≡ : Type 0
 Demand3≡ = (ks : ℕ → Bool) (ke : ℕ → ℕ → Bool) (x : List ℕ) → Good x → (b : List ℕ) (room : ℕ)
     → readAll (leave ks ke x) b room ≡ shortened (missed ks ke ((readAll x b room) .entries)) (readAll x b room)
+
+-- the figure's table "with the event class left out: 37, four entries, ids 0 and 0"; and with its stream class left out
+pub record Demand3Figures : Type 0 where
+  pub event-bytes : leave (λ i. true) (λ i j. false) table40 ≡ take 12 table40
+  pub event-missed : missed (λ i. true) (λ i j. false) ((readAll table40 stream1 32) .entries) ≡ some (record { index = 4; refusal = stopAt (EventClassUnknown 0 0) (bitPlace 0) })
+  pub event-result : resultOf (readAll (take 12 table40) stream1 32) ≡ record { number = 37; entries = 4; place = 0; first = 0; second = 0 }
+  pub stream-bytes : leave (λ i. false) (λ i j. true) table40 ≡ take 2 table40
+  pub stream-missed : missed (λ i. false) (λ i j. true) ((readAll table40 stream1 32) .entries) ≡ some (record { index = 1; refusal = stopAt (StreamClassUnknown 0) (bitPlace 0) })
+  pub stream-result : resultOf (readAll (take 2 table40) stream1 32) ≡ record { number = 33; entries = 1; place = 0; first = 0; second = 0 }

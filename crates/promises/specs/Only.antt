@@ -17,7 +17,7 @@ use Rattle.fields.specs.Reads.{LeafReads, FieldReads}
 use Rattle.classes.specs.declared.openings.Opening.{Opening}
 use Rattle.classes.specs.Sizes.{Opens}
 use Rattle.classes.specs.Notes.{Notes, Made}
-use Rattle.promises.specs.Calls.{call, Contract}
+use Rattle.promises.specs.Demands.{call, Contract}
 
 -- a statement of a result that allows one
 pub record Only {A : Type 0} (S : A → Type 0) : Type 0 where

@@ -15,7 +15,7 @@ use Rattle.rules.specs.Parse.{good, parse}
 use Rattle.rules.specs.Read.{readStream, readAll, resultOf, listAfter}
 use Rattle.promises.specs.Edition.{keep, both}
 use Rattle.promises.specs.Missing.{missed, shortened}
-use Rattle.promises.specs.Calls.{call, Contract}
+use Rattle.promises.specs.Demands.{call, Contract}
 
 -- a table, a stream and a list give a result and the list afterwards
 abbrev pub Reader : Type 0

@@ -2,7 +2,7 @@
 // calls it, and its contract says what is promised of the calls.
 use reader::read;
 use rules::Result;
-ghost use Rattle.promises.specs.Calls.{call, OneCall, TwoCalls};
+ghost use Rattle.promises.specs.Demands.{call, OneCall, TwoCalls};
 
 // What two readings answer.
 pub struct Both {

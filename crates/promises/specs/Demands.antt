@@ -1,5 +1,5 @@
--- A call of a reader as its caller sees it: the result, and the words of the lent list before and after. In order: the entries that a list
--- holds; a call; the contract of `read`; demands 1 to 3 of calls.
+-- The three demands, of calls of a reader. A call is what its caller sees: the result, and the words of the lent list before and after. In
+-- order: the entries that a list holds; a call; the contract of `read`; demands 1, 2 and 3; less room; all of it, gathered.
 use mathlib.Core.Path.{_≡_}
 use mathlib.Core.Logic.{_⊎_}
 use Prim.Native.Nat.{ℕ, zero, suc, _*_, _/_, _≤_}
@@ -16,6 +16,7 @@ use Rattle.rules.specs.Parse.{checked}
 use Rattle.rules.specs.Entry.{entry}
 use Rattle.rules.specs.Verdict.{refusalNumber, refusalFirst, refusalSecond}
 use Rattle.rules.specs.Read.{readAll, resultOf, listAfter}
+use Rattle.promises.specs.Clocks.{Ticking}
 use Rattle.promises.specs.Edition.{leave}
 use Rattle.promises.specs.Missing.{Lost, missed, Good}
 
@@ -44,7 +45,7 @@ wordsOf k c = take (wordsPerEntry * k) (c .after)
 abbrev pub cameBehind : ℕ → Call → List ℕ
 cameBehind k c = drop (wordsPerEntry * k) (c .before)
 
--- The contract of `read`: table x, stream b. Demand 2: list and verdict are the rules' own
+-- The contract of `read`, for a table x and a stream b: number, entries, place and ids, and every word of the list, are the rules' own
 
 pub record Contract (x b : List ℕ) (c : Call) : Type 0 where
   pub result : c .result ≡ resultOf (readAll x b (length (c .before)))
@@ -77,15 +78,12 @@ pub record Demand1 (x b : List ℕ) (c : Call) : Type 0 where
   pub same-length : length (c .after) ≡ length (c .before)
   pub untouched : drop (wordsPerEntry * c .result .entries) (c .after) ≡ cameBehind (c .result .entries) c
 
--- Less room: of one table and stream, a call with a list and a call with one that is no longer. It lists what there is room for of the
--- first one's entries; and its result is the same, or its number is 40
-pub record LessRoom (c d : Call) : Type 0 where
-  pub list : d .after ≡ wordsOf (d .result .entries) c ++ cameBehind (d .result .entries) d
-  pub entries : listedBy d ≡ take (length (d .before) / wordsPerEntry) (listedBy c)
-  pub result : (d .result ≡ c .result) ⊎ (d .result .number ≡ 40)
+-- Demand 2: list and verdict are the rules' own; and each clock in the list is the least value, not below the last one in that packet, that
+-- ends in the stamp's bits, and below 2 to the 64. That the rules' update and bits are the standard's is `AsStandard`
 
-abbrev pub LessRoomCalls : List ℕ → List ℕ → Call → Call → Type 0
-LessRoomCalls x x′ c d = x′ ≡ x → length (d .before) ≤ length (c .before) → LessRoom c d
+pub record Demand2 (x b : List ℕ) (c : Call) : Type 0 where
+  pub rules : Contract x b c
+  pub clocks : Ticking 0 0 (listedBy c)
 
 -- Demand 3: of one stream, a call by a table x and a call by what stays of it, with lists of one length
 
@@ -112,11 +110,28 @@ abbrev pub Demand3Calls : List ℕ → List ℕ → Call → Call → Type 0
 Demand3Calls full short c d =
     (ks : ℕ → Bool) (ke : ℕ → ℕ → Bool) → Good full → short ≡ leave ks ke full → length (d .before) ≡ length (c .before) → LeftOut ks ke short c d
 
--- What is promised of one call, and of two of one stream
+-- Less room: of one table and stream, a call with a list and a call with one that is no longer. It lists what there is room for of the
+-- first one's entries; and its result is the same, or its number is 40
+pub record LessRoom (c d : Call) : Type 0 where
+  pub list : d .after ≡ wordsOf (d .result .entries) c ++ cameBehind (d .result .entries) d
+  pub entries : listedBy d ≡ take (length (d .before) / wordsPerEntry) (listedBy c)
+  pub result : (d .result ≡ c .result) ⊎ (d .result .number ≡ 40)
 
+abbrev pub LessRoomCalls : List ℕ → List ℕ → Call → Call → Type 0
+LessRoomCalls x x′ c d = x′ ≡ x → length (d .before) ≤ length (c .before) → LessRoom c d
+
+-- All of it: of every call that meets the contract
+
+pub record Demands : Type 0 where
+  pub demand-1 : (x b : List ℕ) (c : Call) → Contract x b c → Demand1 x b c
+  pub demand-2 : (x b : List ℕ) (c : Call) → Contract x b c → Demand2 x b c
+  pub demand-3 : (x x′ b : List ℕ) (c d : Call) → Contract x b c → Contract x′ b d → Demand3Calls x x′ c d
+  pub less-room : (x x′ b : List ℕ) (c d : Call) → Contract x b c → Contract x′ b d → LessRoomCalls x x′ c d
+
+-- and of one call, and of two of one stream, as the functions in src/ ensure it
 pub record OneCall (x b : List ℕ) (c : Call) : Type 0 where
   pub demand-1 : Demand1 x b c
-  pub demand-2 : Contract x b c
+  pub demand-2 : Demand2 x b c
 
 pub record TwoCalls (x x′ : List ℕ) (c d : Call) : Type 0 where
   pub demand-3 : Demand3Calls x x′ c d
