@@ -4,13 +4,18 @@ use mathlib.Core.Path.{_≡_, refl, sym, ap, _∙_}
 use Prim.Native.Nat.{ℕ, zero, suc, _+_, _-_, _*_, _<_}
 use native.Mathlib.Omega.{arith}
 use mathlib.Core.List.{List, [], _∷_, _++_}
-use lib.ListN.{length, drop}
+use mathlib.Core.Bool.{Bool, true, false}
+use lib.ListN.{length, drop, getD, set, replicate, length-replicate, getD-replicate}
+use lib.Seq.{getD-set-same, getD-set-other}
+use lib.Dec.{eqb}
+use borrow.Author.Tests.{eqb-true, eqb-false}
 use Rattle.rules.specs.declared.Entry.{Entry}
 use Rattle.rules.specs.declared.Stop.{Stop}
 use Rattle.rules.specs.Entry.{words}
-use Rattle.rules.specs.declared.Content.the-variants.{Unset}
+use Rattle.rules.specs.declared.Content.{Content}
+use Rattle.rules.specs.declared.Content.the-variants.{Unset, Flag}
 use Rattle.rules.specs.Limits.{noSlot, slotCount}
-use Rattle.rules.specs.Slots.{Slots, noSlots, slotAt, setSlot}
+use Rattle.rules.specs.Slots.{Slots, slot, noSlots, slotAt, setSlot}
 use Rattle.rules.specs.Step.{State as Whole, Out, stop, go, Step}
 use Rattle.listing.specs.declared.State.{State}
 use Rattle.listing.specs.declared.Went.{Went}
@@ -105,9 +110,52 @@ module _ (P : Slots → Type 0) (m : Step) (st : State) (ws : List ℕ) where
       let x = same-at r r′ vs vs′ d d′ l n p in
       record { went = x .went; used = x .used; state = x .state; slots = slots-same r r′ vs vs′ d d′; list = x .list }
 
-no-slots-length : length noSlots ≡ slotCount
-unfolding noSlots
-no-slots-length = refl
+-- what becomes of any slots says which slot is set, and to what
+all-of : Content → Slots
+all-of x = replicate slotCount (slot x)
+
+all-length : (x : Content) → length (all-of x) ≡ slotCount
+unfolding all-of
+all-length x = length-replicate slotCount (slot x)
+
+module _ (i j : ℕ) (x y : Content) (small : i < slotCount) (h : (l : Slots) → length l ≡ slotCount → setSlot l i x ≡ setSlot l j y) where
+  -- where slot i of some slots holds z, and slot j is another
+  other-slot : (z : Content) → (i ≡ j → ⊥) → x ≡ z
+  unfolding setSlot all-of
+  other-slot z n =
+      let l : Slots = all-of z in
+      let q : length l ≡ slotCount = all-length z in
+      let a : getD (set l i (slot x)) i (slot z) ≡ slot x = getD-set-same l i (slot x) (slot z) (omega arith) in
+      let b : getD (set l j (slot y)) i (slot z) ≡ getD l i (slot z) = getD-set-other l j i (slot y) (slot z) n in
+      let c : getD l i (slot z) ≡ slot z = getD-replicate slotCount i (slot z) (slot z) small in
+      ap (λ s. s .content) (sym a ∙ ap (λ s. getD s i (slot z)) (h l q) ∙ b ∙ c)
+
+  slot-fixed : (i ≡ j) × (x ≡ y)
+  unfolding setSlot
+  slot-fixed = by (eqb i j) refl
+    where
+      by : (b : Bool) → eqb i j ≡ b → (i ≡ j) × (x ≡ y)
+      by true e =
+          let p : i ≡ j = eqb-true i j e in
+          let l : Slots = all-of Unset in
+          let q : length l ≡ slotCount = all-length Unset in
+          let a : getD (set l i (slot x)) i (slot x) ≡ slot x = getD-set-same l i (slot x) (slot x) (omega arith) in
+          let b : getD (set l i (slot y)) i (slot x) ≡ slot y = getD-set-same l i (slot y) (slot x) (omega arith) in
+          let c : set l i (slot x) ≡ set l i (slot y) = h l q ∙ ap (λ z. set l z (slot y)) (sym p) in
+          (p, ap (λ s. s .content) (sym a ∙ ap (λ s. getD s i (slot x)) c ∙ b))
+      by false e =
+          let n : i ≡ j → ⊥ = eqb-false i j e in
+          let u : Unset ≡ Flag true = sym (other-slot Unset n) ∙ other-slot (Flag true) n in
+          let z : _≡_ {A = ℕ} 0 1 = cc in absurd (omega arith)
+
+leaf-one : (r r′ : Leaf) (vs vs′ : List ℕ) → SameLeaf (λ l. Unit {0}) r r′ vs vs′ → r .slot < slotCount → r ≡ r′
+leaf-one r r′ vs vs′ s h =
+    let x = slot-fixed (r .slot) (r′ .slot) (r .content) (r′ .content) h (λ l n. s .slots l n tt) in
+    λ i. record { went = s .went i; used = s .used i; state = s .state i; slot = x .0 i; content = x .1 i }
+
+free-leaf : (m : Step) (st : State) (ws : List ℕ) (r r′ : Leaf) (vs vs′ : List ℕ) → LeafDid m st r ws vs → LeafDid m st r′ ws vs′ → SameLeaf (λ l. Unit {0}) r r′ vs vs′
+free-leaf m st ws r r′ vs vs′ d d′ =
+    leaf-same (λ l. Unit {0}) m st ws (all-of Unset) (all-length Unset) tt r r′ vs vs′ (record { at = λ l n p. d .at l n; none = d .none }) (record { at = λ l n p. d′ .at l n; none = d′ .none })
 
 field-same : (m : Step) (st : State) (l : Slots) (ws : List ℕ) (r r′ : Field) (vs vs′ : List ℕ) → FieldReads m st l r ws vs → FieldReads m st l r′ ws vs′ → (r ≡ r′) × (vs ≡ vs′)
 field-same m st l ws r r′ vs vs′ d d′ =
@@ -147,9 +195,17 @@ no-slack = record {
   bounded = λ v P. record { same = λ r r′ p q. p .0 ∙ sym (q .0) };
   clock = λ n. record { same = λ r r′ p q. λ i. record { value = (p ∙ sym q) i } };
   reading = λ x b ws. record { same = λ r r′ vs vs′ p q. (p .result ∙ sym (q .result), p .list ∙ sym (q .list)) };
+  once = λ x b ws. record {
+    same = λ r r′ vs vs′ p q. (p .demand-2 .rules .result ∙ sym (q .demand-2 .rules .result), p .demand-2 .rules .list ∙ sym (q .demand-2 .rules .list));
+  };
+  both = λ x x′ b ws vs r r′ wr wr′ vr vr′ p q. (
+    (λ i. record { first = (p .first .result ∙ sym (q .first .result)) i; second = (p .second .result ∙ sym (q .second .result)) i }),
+    p .first .list ∙ sym (q .first .list),
+    p .second .list ∙ sym (q .second .list),
+  );
   role = λ m st ws. record { same = role-same m st ws };
-  leaf = λ m st ws r r′ vs vs′ d d′.
-      leaf-same (λ l. Unit {0}) m st ws noSlots no-slots-length tt r r′ vs vs′ (record { at = λ l n p. d .at l n; none = d .none }) (record { at = λ l n p. d′ .at l n; none = d′ .none });
+  leaf = free-leaf;
+  leaf-slot = λ m st ws r r′ vs vs′ d d′ h. leaf-one r r′ vs vs′ (free-leaf m st ws r r′ vs vs′ d d′) h;
   leaf-at = λ m i x st ws l n p r r′ vs vs′ d d′.
       leaf-same (λ l. slotAt l i ≡ x) m st ws l n p r r′ vs vs′ (record { at = d .at; none = d .none }) (record { at = d′ .at; none = d′ .none });
   field = λ m st l ws. record { same = field-same m st l ws };

@@ -30,8 +30,8 @@ pub one-call : (x b : List ℕ) (r : Result) (ws ws′ : List ℕ) → Ensured x
 one-call x b r ws ws′ e = let h = contract x b r ws ws′ e in record { demand-1 = demands .demand-1 x b _ h; demand-2 = demands .demand-2 x b _ h }
 
 pub two-calls : (x x′ b : List ℕ) (r : Result) (ws ws′ : List ℕ) (r′ : Result) (vs vs′ : List ℕ) → Ensured x b r ws ws′ → Ensured x′ b r′ vs vs′
-    → TwoCalls x x′ (call r ws ws′) (call r′ vs vs′)
+    → TwoCalls x x′ b (call r ws ws′) (call r′ vs vs′)
 two-calls x x′ b r ws ws′ r′ vs vs′ e f =
     let h = contract x b r ws ws′ e in
     let k = contract x′ b r′ vs vs′ f in
-    record { demand-3 = demands .demand-3 x x′ b _ _ h k; less-room = demands .less-room x x′ b _ _ h k }
+    record { first = h; second = k; demand-3 = demands .demand-3 x x′ b _ _ h k; less-room = demands .less-room x x′ b _ _ h k }

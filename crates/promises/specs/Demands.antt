@@ -133,6 +133,8 @@ pub record OneCall (x b : List ℕ) (c : Call) : Type 0 where
   pub demand-1 : Demand1 x b c
   pub demand-2 : Demand2 x b c
 
-pub record TwoCalls (x x′ : List ℕ) (c d : Call) : Type 0 where
+pub record TwoCalls (x x′ b : List ℕ) (c d : Call) : Type 0 where
+  pub first : Contract x b c
+  pub second : Contract x′ b d
   pub demand-3 : Demand3Calls x x′ c d
   pub less-room : LessRoomCalls x x′ c d

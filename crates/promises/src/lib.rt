@@ -27,7 +27,9 @@ pub fn read_both(
     other: &mut [u64],
 ) -> Both
     ensures { λ r. ⌜
-        TwoCalls (now (table .entry)) (now (short .entry)) (call (r .first) (now (list .entry)) (now (list .exit))) (call (r .second) (now (other .entry)) (now (other .exit)))
+        TwoCalls (now (table .entry)) (now (short .entry)) (now (stream .entry))
+        (call (r .first) (now (list .entry)) (now (list .exit)))
+        (call (r .second) (now (other .entry)) (now (other .exit)))
         ⌝ }
 {
     let first = read(table, stream, list);
