@@ -3,18 +3,16 @@ use mathlib.Core.Path.{_≡_, refl, sym, ap, subst, _∙_}
 use mathlib.Core.Logic.{_⊎_, inl, inr}
 use Prim.Native.Nat.{ℕ, _+_, _-_, _*_, _/_, _≤_, _<_}
 use native.Mathlib.Omega.{arith}
-use mathlib.Core.List.{List, [], _∷_, _++_}
+use mathlib.Core.List.{List, [], _++_}
 use mathlib.Core.Bool.{Bool, true, false, _||_}
 use lib.Dec.{ltb, eqb}
 use lib.ListN.{length, take, drop, length-append, length-drop}
-use lib.Seq.{take-all, take-at, drop-at, take-append-le, take-length}
-use Rattle.rules.specs.declared.Entry.{Entry}
+use lib.Seq.{take-all, take-at, drop-at, take-length}
 use Rattle.rules.specs.declared.Refusal.{Refusal}
 use Rattle.rules.specs.declared.Refusal.the-variants.{StreamSize, PastBound, OrderChanged, LebTooLarge, NoZeroByte, SlotUnset, SlotOfWrongSort, LengthTooLarge, SelectorInNoOption, WrongMagic, WrongUuid, StreamClassChanged, StreamClassUnknown, LengthsContradict, ClocksContradict, ClockTooLarge, EventClassUnknown, EventTookNoBits, ClockWentBack, ListFull}
 use Rattle.rules.specs.declared.Verdict.{Verdict}
 use Rattle.rules.specs.declared.Verdict.the-variants.{Accepted, TableRefused, Refused}
 use Rattle.rules.specs.declared.Checked.the-variants.{Refused as CheckRefused}
-use Rattle.rules.specs.declared.Result.{Result}
 use Rattle.rules.specs.Limits.{wordsPerEntry}
 use Rattle.rules.specs.Entry.{words}
 use Rattle.rules.specs.Verdict.{stopAt, refusalNumber, refusalFirst, refusalSecond, numberOf, placeOf, firstOf, secondOf}
@@ -29,7 +27,7 @@ use Rattle.rules.specs.Read.{Reading, ended, begin, readStream, readParsed, rea
 use Rattle.facts.proofs.Refusals.{refusalNumber-bounds}
 use Rattle.facts.proofs.Lists.{length-words}
 use Rattle.promises.specs.Laws.{SpentReading, RanOut}
-use Rattle.promises.specs.Demands.{Call, call, listedBy, wordsOf, cameBehind, Contract, ByTable, Demand1, LessRoom, LessRoomCalls}
+use Rattle.promises.specs.Demands.{Call, call, wordsOf, cameBehind, Contract, ByTable, Demand1, LessRoom, LessRoomCalls}
 use Rattle.promises.proofs.Laws.{the-laws}
 use Rattle.promises.proofs.Numbered.{refused-number}
 use Rattle.promises.proofs.Spent.{reading-spent}

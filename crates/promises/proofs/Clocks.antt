@@ -1,12 +1,12 @@
 -- Every clock of a reading's list is the least one. A law of steps: from the state's clock the entries tick, and the clock behind them is the
 -- state's. In order: the new clock; entries; steps; fields; packets; readings.
 use mathlib.Core.Path.{_≡_, refl, sym, ap, subst, _∙_}
-use Prim.Native.Nat.{ℕ, zero, suc, _+_, _-_, _*_, _%_, _^_, _<_, _≤_}
+use Prim.Native.Nat.{ℕ, zero, suc, _+_, _-_, _*_, _%_, _^_, _<_}
 use native.Mathlib.Nat.{mod-lt, mod-add-mod}
 use native.Mathlib.Omega.{arith}
 use lib.Pow.{pow-pos}
 use mathlib.Core.List.{List, [], _∷_, _++_}
-use mathlib.Core.Bool.{Bool, true, false, not, _&&_, _||_}
+use mathlib.Core.Bool.{Bool, true, false, _||_}
 use mathlib.Core.Option.{Option, none, some}
 use lib.ListN.{length}
 use lib.Dec.{ltb, eqb}
@@ -15,7 +15,6 @@ use Rattle.rules.specs.declared.BitPlace.{BitPlace}
 use Rattle.rules.specs.declared.Stated.{Stated}
 use Rattle.rules.specs.declared.Stated.the-variants.{Missing, As}
 use Rattle.rules.specs.declared.Order.{Order}
-use Rattle.rules.specs.declared.LastOrder.the-variants.{Was}
 use Rattle.rules.specs.declared.Content.{Content}
 use Rattle.rules.specs.declared.Content.the-variants.{Unsigned, Signed}
 use Rattle.rules.specs.declared.Leb.{Leb}
@@ -24,7 +23,7 @@ use Rattle.rules.specs.declared.Ended.{Ended}
 use Rattle.rules.specs.declared.Ended.the-variants.{After, Never}
 use Rattle.rules.specs.declared.Entry.{Entry}
 use Rattle.rules.specs.declared.Refusal.{Refusal}
-use Rattle.rules.specs.declared.Refusal.the-variants.{StreamSize, PastBound, OrderChanged, LebTooLarge, NoZeroByte, SlotUnset, SlotOfWrongSort, LengthTooLarge, SelectorInNoOption, WrongMagic, WrongUuid, ClockTooLarge}
+use Rattle.rules.specs.declared.Refusal.the-variants.{StreamSize, PastBound, OrderChanged, LebTooLarge, NoZeroByte, SlotUnset, SlotOfWrongSort, LengthTooLarge, SelectorInNoOption, WrongMagic, WrongUuid}
 use Rattle.rules.specs.declared.Refusal.the-variants.{StreamClassChanged, StreamClassUnknown, LengthsContradict, ClocksContradict, EventClassUnknown, EventTookNoBits, ClockWentBack, ListFull}
 use Rattle.rules.specs.declared.Verdict.the-variants.{Refused}
 use Rattle.rules.specs.Limits.{streamLimit}
@@ -35,12 +34,12 @@ use Rattle.rules.specs.Text.{textLength, zeroAt}
 use Rattle.rules.specs.Place.{bitPlace, further}
 use Rattle.rules.specs.Slots.{slotAt}
 use Rattle.rules.specs.Verdict.{stopAt}
-use Rattle.rules.specs.Entry.{packetStarts, streamClassFound, lengthsSettled, eventStarts, eventClassFound, clockAdvanced, packetEnds}
+use Rattle.rules.specs.Entry.{entry, packetStarts, streamClassFound, lengthsSettled, eventStarts, eventClassFound, clockAdvanced}
 use Rattle.rules.specs.Step.{State, Out, stop, go, Step, onto, after, _⨾_, refuse, check, due, listed, change, pass, withSlots, withOrder, withClock, withLast, withSaid}
 use Rattle.rules.specs.Class.{Role, noRole, magic, streamClassId, streamId, uuid, totalLength, contentLength, clock, endClock, discarded, sequence, eventClassId}
 use Rattle.rules.specs.Class.{Class, Sort, bitArray, boolean, unsignedInt, signedInt, float, kindOf}
 use Rattle.rules.specs.Table.{StreamClass, EventClass, Table, Asked, asked}
-use Rattle.rules.specs.Field.{Env, aligned, fit, field, store, newClock, say, role, blobRole, fromSlot, valueOf, slotOf, ahead, bytesAt, readFixed, readLeb, readZero, readText, readBlob}
+use Rattle.rules.specs.Field.{Env, aligned, fit, field, store, newClock, say, role, blobRole, fromSlot, valueOf, ahead, bytesAt, readFixed, readLeb, readZero, readText, readBlob}
 use Rattle.rules.specs.Packet.{mark, readRoot, withEvent, withStream, startEvent, startPacket, endPacket, readEvent, readEvents, readContent, readPacket, readPackets}
 use Rattle.rules.specs.Parse.{Parsed, bad, good, parse}
 use Rattle.rules.specs.Read.{Reading, ended, begin, readStream, readParsed, readAll}
@@ -48,7 +47,7 @@ use Rattle.facts.proofs.Steps.{onto-nil}
 use Rattle.clock.specs.Least.{Least}
 use Rattle.clock.proofs.Least.{new-clock}
 use Rattle.laws.proofs.Law.{FieldKind, Any, any-slot, Law, law-any}
-use Rattle.promises.specs.Clocks.{clockBehind, Ticks, Ticking}
+use Rattle.promises.specs.Clocks.{clockBehind, stampBits, Ticking}
 
 -- The new clock
 
@@ -81,14 +80,14 @@ clocksBehind : ℕ → List Entry → ℕ
 clocksBehind c [] = c
 clocksBehind c (e ∷ es) = clocksBehind (clockBehind c e) es
 
-valueBehind : ℕ → List Entry → ℕ
-valueBehind v [] = v
-valueBehind v (e ∷ es) = valueBehind (e .value) es
+lastOf : Entry → List Entry → Entry
+lastOf p [] = p
+lastOf p (e ∷ es) = lastOf e es
 
-ticking-append : (es fs : List Entry) (c v : ℕ) → Ticking c v es → Ticking (clocksBehind c es) (valueBehind v es) fs → Ticking c v (es ++ fs)
-unfolding clocksBehind valueBehind
-ticking-append [] fs c v h k = k
-ticking-append (e ∷ es) fs c v h k = (h .0, ticking-append es fs (clockBehind c e) (e .value) (h .1) k)
+ticking-append : (es fs : List Entry) (c : ℕ) (p : Entry) → Ticking c p es → Ticking (clocksBehind c es) (lastOf p es) fs → Ticking c p (es ++ fs)
+unfolding clocksBehind lastOf
+ticking-append [] fs c p h k = k
+ticking-append (e ∷ es) fs c p h k = (h .0, ticking-append es fs (clockBehind c e) e (h .1) k)
 
 behind-append : (es fs : List Entry) (c : ℕ) → clocksBehind c (es ++ fs) ≡ clocksBehind (clocksBehind c es) fs
 unfolding clocksBehind
@@ -106,27 +105,27 @@ still-behind c e h = simp (ne-eqb (e .kind) packetStarts (h .not-packet), ne-eqb
 
 -- Steps
 
-abbrev TickOut : ℕ → ℕ → Out → Type 0
-TickOut c v (stop es w) = Ticking c v es
-TickOut c v (go es s) = Ticking c v es × (clocksBehind c es ≡ s .clock)
+abbrev TickOut : ℕ → Entry → Out → Type 0
+TickOut c p (stop es w) = Ticking c p es
+TickOut c p (go es s) = Ticking c p es × (clocksBehind c es ≡ s .clock)
 
--- behind an entry of value v
-record TickAt (v : ℕ) (m : Step) : Type 0 where
-  at : (s : State) → TickOut (s .clock) v (m s)
+-- behind an entry p, at the place after it
+record TickAt (p : Entry) (m : Step) : Type 0 where
+  at : (s : State) → s .place .0 ≡ p .place .0 + p .bits → TickOut (s .clock) p (m s)
 
 -- behind any
 record Tick (m : Step) : Type 0 where
-  at : (v : ℕ) (s : State) → TickOut (s .clock) v (m s)
+  at : (p : Entry) (s : State) → TickOut (s .clock) p (m s)
 
-tick-onto : (c v : ℕ) (es : List Entry) (o : Out) → Ticking c v es → TickOut (clocksBehind c es) (valueBehind v es) o → TickOut c v (onto es o)
+tick-onto : (c : ℕ) (p : Entry) (es : List Entry) (o : Out) → Ticking c p es → TickOut (clocksBehind c es) (lastOf p es) o → TickOut c p (onto es o)
 unfolding onto
-tick-onto c v es (stop fs w) h k = ticking-append es fs c v h k
-tick-onto c v es (go fs s) h k = (ticking-append es fs c v h (k .0), behind-append es fs c ∙ k .1)
+tick-onto c p es (stop fs w) h k = ticking-append es fs c p h k
+tick-onto c p es (go fs s) h k = (ticking-append es fs c p h (k .0), behind-append es fs c ∙ k .1)
 
-tick-after : (c v : ℕ) (o : Out) (n : Step) → TickOut c v o → Tick n → TickOut c v (after o n)
+tick-after : (c : ℕ) (p : Entry) (o : Out) (n : Step) → TickOut c p o → Tick n → TickOut c p (after o n)
 unfolding after
-tick-after c v (stop es w) n h k = h
-tick-after c v (go es s) n h k = tick-onto c v es (n s) (h .0) (subst (λ z. TickOut z (valueBehind v es) (n s)) (sym (h .1)) (k .at (valueBehind v es) s))
+tick-after c p (stop es w) n h k = h
+tick-after c p (go es s) n h k = tick-onto c p es (n s) (h .0) (subst (λ z. TickOut z (lastOf p es) (n s)) (sym (h .1)) (k .at (lastOf p es) s))
 
 infixr 20 _⨾ᵗ_
 _⨾ᵗ_ : {m n : Step} → Tick m → Tick n → Tick (m ⨾ n)
@@ -141,7 +140,7 @@ tick-refuse : (r : Refusal) → Tick (refuse r)
 unfolding refuse
 tick-refuse r = record { at = λ v s. tt }
 
-tick-if : (c v : ℕ) (b : Bool) (x y : Out) → TickOut c v x → TickOut c v y → TickOut c v (elim b [ true ↦ x | false ↦ y ])
+tick-if : (c : ℕ) (v : Entry) (b : Bool) (x y : Out) → TickOut c v x → TickOut c v y → TickOut c v (elim b [ true ↦ x | false ↦ y ])
 tick-if c v true x y h k = h
 tick-if c v false x y h k = k
 
@@ -157,7 +156,7 @@ tick-change : (f : State → State) → ((s : State) → (f s) .clock ≡ s .clo
 unfolding change clocksBehind
 tick-change f h = record { at = λ v s. (tt, sym (h s)) }
 
-tick-listed : (v : ℕ) (e : Entry) (p : BitPlace) (s : State) → Still (e .kind) → TickOut (s .clock) v (listed e p s)
+tick-listed : (v e : Entry) (p : BitPlace) (s : State) → Still (e .kind) → TickOut (s .clock) v (listed e p s)
 unfolding listed clocksBehind
 tick-listed v e p s h = (((λ q. absurd (h .not-clock q)), tt), still-behind (s .clock) e h)
 
@@ -177,51 +176,54 @@ tick-field : (e : Env) (k a n v : ℕ) → FieldKind k → Tick (field e k a n v
 unfolding field
 tick-field e k a n v h = record { at = λ u s. tick-listed u _ _ s (field-still k h) }
 
--- an entry that is neither, and what comes behind its value
-tick-behind : (c v : ℕ) (x : Entry) (o : Out) → Still (x .kind) → TickOut c (x .value) o → TickOut c v (onto (x ∷ []) o)
-unfolding clocksBehind valueBehind
-tick-behind c v x o h k =
-    tick-onto c v (x ∷ []) o ((λ q. absurd (h .not-clock q)), tt) (subst (λ z. TickOut z (x .value) o) (sym (still-behind c x h)) k)
+-- an entry that is neither, and what comes behind it
+tick-behind : (c : ℕ) (p x : Entry) (o : Out) → Still (x .kind) → TickOut c x o → TickOut c p (onto (x ∷ []) o)
+unfolding clocksBehind lastOf
+tick-behind c p x o h k = tick-onto c p (x ∷ []) o ((λ q. absurd (h .not-clock q)), tt) (subst (λ z. TickOut z x o) (sym (still-behind c x h)) k)
 
-tick-valued : (e : Env) (k a n v : ℕ) → FieldKind k → {m : Step} → TickAt v m → Tick (field e k a n v ⨾ m)
+tick-valued : (e : Env) (k a n v : ℕ) → FieldKind k → {m : Step} → ((q : BitPlace) → TickAt (entry k q n v) m) → Tick (field e k a n v ⨾ m)
 unfolding field listed _⨾_ after
-tick-valued e k a n v h {m} g = record { at = λ u s. tick-behind (s .clock) u _ (m _) (field-still k h) (g .at _) }
+tick-valued e k a n v h {m} g = record { at = λ p s. tick-behind (s .clock) p _ (m _) (field-still k h) (g (aligned e a s) .at _ refl) }
 
-at-any : (v : ℕ) {m : Step} → Tick m → TickAt v m
-at-any v h = record { at = λ s. h .at v s }
+at-any : (p : Entry) {m : Step} → Tick m → TickAt p m
+at-any p h = record { at = λ s l. h .at p s }
 
-at-change : (v : ℕ) (f : State → State) → ((s : State) → (f s) .clock ≡ s .clock) → {m : Step} → TickAt v m → TickAt v (change f ⨾ m)
+at-change : (p : Entry) (f : State → State) → ((s : State) → (f s) .clock ≡ s .clock) → ((s : State) → (f s) .place ≡ s .place) → {m : Step} → TickAt p m → TickAt p (change f ⨾ m)
 unfolding change _⨾_ after
-at-change v f h {m} g = record { at = λ s. rw (onto-nil (m (f s))) (subst (λ z. TickOut z v (m (f s))) (h s) (g .at (f s))) }
+at-change p f h k {m} g = record {
+  at = λ s l. rw (onto-nil (m (f s))) (subst (λ z. TickOut z p (m (f s))) (h s) (g .at (f s) (ap (λ q. q .0) (k s) ∙ l)));
+}
 
 -- the role of the clock, behind the field's own entry
-at-clock : (l v : ℕ) → TickAt v (due ⨾ λ s. newClock l (clockAfter (s .clock) l v) s)
+at-clock : (l : ℕ) (p : Entry) → l ≡ stampBits p → TickAt p (due ⨾ λ s. newClock l (clockAfter (s .clock) l (p .value)) s)
 unfolding due check _⨾_ pass refuse after
-at-clock l v = record { at = λ s. by s (ltb (s .room) 4) }
+at-clock l p k = record { at = λ s g. by s g (ltb (s .room) 4) }
   where
-    new : (s : State) (o : Option ℕ) → clockAfter (s .clock) l v ≡ o → TickOut (s .clock) v (newClock l o s)
-    new s none e = unfold newClock refuse in tt
-    new s (some c) e = unfold newClock _⨾_ listed after change onto withClock clocksBehind clockBehind in (((λ q. after-least (s .clock) l v c e), tt), refl)
+    new : (s : State) → s .place .0 ≡ p .place .0 + p .bits → (o : Option ℕ) → clockAfter (s .clock) l (p .value) ≡ o → TickOut (s .clock) p (newClock l o s)
+    new s g none e = unfold newClock refuse in tt
+    new s g (some c) e = unfold newClock _⨾_ listed after change onto withClock clocksBehind clockBehind in
+        let x = after-least (s .clock) l (p .value) c e in
+        (((λ q. record { place = g; bits = k; least = x .0; fits = x .1 }), tt), refl)
 
-    by : (s : State) (b : Bool)
-        → TickOut (s .clock) v (after (elim b [ true ↦ refuse ListFull s | false ↦ pass s ]) (λ s. newClock l (clockAfter (s .clock) l v) s))
-    by s true = unfold refuse after in tt
-    by s false = unfold pass after in rw (onto-nil (newClock l (clockAfter (s .clock) l v) s)) (new s (clockAfter (s .clock) l v) refl)
+    by : (s : State) → s .place .0 ≡ p .place .0 + p .bits → (b : Bool)
+        → TickOut (s .clock) p (after (elim b [ true ↦ refuse ListFull s | false ↦ pass s ]) (λ s. newClock l (clockAfter (s .clock) l (p .value)) s))
+    by s g true = unfold refuse after in tt
+    by s g false = unfold pass after in rw (onto-nil (newClock l (clockAfter (s .clock) l (p .value)) s)) (new s g (clockAfter (s .clock) l (p .value)) refl)
 
-at-role : (r : Role) (l v : ℕ) → TickAt v (role r l v)
+at-role : (r : Role) (l : ℕ) (p : Entry) → (r ≡ clock → l ≡ stampBits p) → TickAt p (role r l (p .value))
 unfolding role say withSaid
-at-role noRole l v = at-any v tick-pass
-at-role magic l v = at-any v (tick-check _ WrongMagic)
-at-role streamClassId l v = at-any v (tick-change _ (λ s. refl))
-at-role streamId l v = at-any v tick-pass
-at-role uuid l v = at-any v tick-pass
-at-role totalLength l v = at-any v (tick-change _ (λ s. refl))
-at-role contentLength l v = at-any v (tick-change _ (λ s. refl))
-at-role clock l v = at-clock l v
-at-role endClock l v = at-any v (tick-change _ (λ s. refl))
-at-role discarded l v = at-any v tick-pass
-at-role sequence l v = at-any v tick-pass
-at-role eventClassId l v = at-any v (tick-change _ (λ s. refl))
+at-role noRole l p h = at-any p tick-pass
+at-role magic l p h = at-any p (tick-check _ WrongMagic)
+at-role streamClassId l p h = at-any p (tick-change _ (λ s. refl))
+at-role streamId l p h = at-any p tick-pass
+at-role uuid l p h = at-any p tick-pass
+at-role totalLength l p h = at-any p (tick-change _ (λ s. refl))
+at-role contentLength l p h = at-any p (tick-change _ (λ s. refl))
+at-role clock l p h = at-clock l p (h refl)
+at-role endClock l p h = at-any p (tick-change _ (λ s. refl))
+at-role discarded l p h = at-any p tick-pass
+at-role sequence l p h = at-any p tick-pass
+at-role eventClassId l p h = at-any p (tick-change _ (λ s. refl))
 
 tick-blobRole : (e : Env) (r : Role) (b : List ℕ) → Tick (blobRole e r b)
 unfolding blobRole
@@ -246,6 +248,22 @@ kind-field unsignedInt = omega arith
 kind-field signedInt = omega arith
 kind-field float = omega arith
 
+-- the stamp's bits
+fixed-bits : (k : Sort) (q : BitPlace) (n v : ℕ) → n ≡ stampBits (entry (kindOf k) q n v)
+unfolding stampBits kindOf
+fixed-bits bitArray q n v = refl
+fixed-bits boolean q n v = refl
+fixed-bits unsignedInt q n v = refl
+fixed-bits signedInt q n v = refl
+fixed-bits float q n v = refl
+
+leb-bits : (q : BitPlace) (n v : ℕ) → 7 * n ≡ stampBits (entry 21 q (8 * n) v)
+unfolding stampBits
+leb-bits q n v = omega arith
+
+no-clock : {A : Type 0} → noRole ≡ clock → A
+no-clock h = let z : _≡_ {A = ℕ} 0 1 = cc in absurd (omega arith)
+
 module _ (e : Env) where
   tick-fit : (a n : ℕ) → Tick (fit e a n)
   unfolding fit
@@ -259,14 +277,16 @@ module _ (e : Env) where
         at = λ u s.
             let v = bits o (e .bytes) ((aligned e a s) .0) n in
             tick-valued e (kindOf k) a n (valueOf k n v) (kind-field k)
-            (at-change (valueOf k n v) _ (λ s. refl) (at-change (valueOf k n v) _ (λ s. refl) (at-role r n (valueOf k n v)))) .at u s;
+            (λ q. at-change _ _ (λ s. refl) (λ s. refl) (at-change _ _ (λ s. refl) (λ s. refl) (at-role r n (entry (kindOf k) q n (valueOf k n v)) (λ h. fixed-bits k q n _)))) .at u s;
       }
 
-  tick-leb : (k : ℕ) (c : ℕ → Content) (i : ℕ) (r : Role) (x : Leb) → FieldKind k → Tick (readLeb e k c i r x)
+  tick-leb : (k : ℕ) (c : ℕ → Content) (i : ℕ) (r : Role) (x : Leb) → FieldKind k → ((q : BitPlace) (n v : ℕ) → r ≡ clock → 7 * n ≡ stampBits (entry k q (8 * n) v))
+      → Tick (readLeb e k c i r x)
   unfolding readLeb store withSlots
-  tick-leb k c i r (Value v n) h = tick-valued e k 8 (8 * n .0) v h (at-change v _ (λ s. refl) (at-role r (lebWidth n) v))
-  tick-leb k c i r Past h = tick-refuse PastBound
-  tick-leb k c i r Large h = tick-refuse LebTooLarge
+  tick-leb k c i r (Value v n) h l =
+      tick-valued e k 8 (8 * n .0) v h (λ q. at-change _ _ (λ s. refl) (λ s. refl) (at-role r (lebWidth n) (entry k q (8 * n .0) v) (l q (n .0) v)))
+  tick-leb k c i r Past h l = tick-refuse PastBound
+  tick-leb k c i r Large h l = tick-refuse LebTooLarge
 
   tick-zero : (x : Ended) → Tick (readZero e x)
   unfolding readZero
@@ -287,8 +307,8 @@ module _ (e : Env) where
     within = λ n h. tick-check _ LengthTooLarge ⨾ᵗ h;
     slot = λ i f h. record { at = λ v s. h (slotAt (s .slots) i) (any-slot (slotAt (s .slots) i)) .at v s };
     fixes = λ k n o a i r w z. tick-fixed k n o (2 ^ a) i r;
-    lebs = λ i r z. tick-fit 8 0 ⨾ᵗ record { at = λ v s. tick-leb 21 Unsigned i r (lebUnsigned (ahead e (aligned e 8 s))) (omega arith) .at v s };
-    signedLebs = λ i z. tick-fit 8 0 ⨾ᵗ record { at = λ v s. tick-leb 22 Signed i noRole (lebSigned (ahead e (aligned e 8 s))) (omega arith) .at v s };
+    lebs = λ i r z. tick-fit 8 0 ⨾ᵗ record { at = λ v s. tick-leb 21 Unsigned i r (lebUnsigned (ahead e (aligned e 8 s))) (omega arith) (λ q n v h. leb-bits q n v) .at v s };
+    signedLebs = λ i z. tick-fit 8 0 ⨾ᵗ record { at = λ v s. tick-leb 22 Signed i noRole (lebSigned (ahead e (aligned e 8 s))) (omega arith) (λ q n v h. no-clock h) .at v s };
     zeros = tick-fit 8 0 ⨾ᵗ record { at = λ v s. tick-zero (zeroAt (ahead e (aligned e 8 s))) .at v s };
     texts = λ k n h. unfold readText in
         tick-fit 8 0 ⨾ᵗ tick-fit 8 (8 * n) ⨾ᵗ record { at = λ v s. tick-field e k 8 (8 * n) (textLength (bytesAt e (aligned e 8 s) n)) h .at v s };
@@ -346,7 +366,7 @@ module _ (t : Asked) where
   tick-start k {m} h = record {
     at = λ v s.
         tick-onto (s .clock) v (_ ∷ []) (onto [] (m _)) ((λ q. absurd (omega arith)), tt)
-        (unfold clocksBehind clockBehind valueBehind in rw (onto-nil (m _)) (h .at k _));
+        (unfold clocksBehind clockBehind lastOf in rw (onto-nil (m _)) (h .at _ _));
   }
 
   tick-stream : (i : ℕ) (x : Option StreamClass) (f : StreamClass → Step) → ((c : StreamClass) → Tick (f c)) → Tick (withStream i x f)
@@ -377,23 +397,23 @@ module _ (t : Asked) where
 
 -- Readings
 
-ended-ticks : (o : Out) → TickOut 0 0 o → Ticking 0 0 ((ended o) .entries)
+ended-ticks : (p : Entry) (o : Out) → TickOut 0 p o → Ticking 0 p ((ended o) .entries)
 unfolding ended
-ended-ticks (stop es v) h = h
-ended-ticks (go es s) h = h .0
+ended-ticks p (stop es v) h = h
+ended-ticks p (go es s) h = h .0
 
-stream-ticks : (t : Asked) (b : List ℕ) (room : ℕ) → Ticking 0 0 ((readStream t b room) .entries)
+stream-ticks : (t : Asked) (b : List ℕ) (room : ℕ) (p : Entry) → Ticking 0 p ((readStream t b room) .entries)
 unfolding readStream
-stream-ticks t b room = by (eqb (length b) 0 || ltb streamLimit (length b))
+stream-ticks t b room p = by (eqb (length b) 0 || ltb streamLimit (length b))
   where
-    by : (x : Bool) → Ticking 0 0 ((elim x as (λ z. Reading) [ true ↦ record { entries = []; verdict = Refused (stopAt StreamSize (bitPlace 0)) } | false ↦ ended (readPackets t b 0 Missing (length b) (begin room)) ]) .entries)
+    by : (x : Bool) → Ticking 0 p ((elim x as (λ z. Reading) [ true ↦ record { entries = []; verdict = Refused (stopAt StreamSize (bitPlace 0)) } | false ↦ ended (readPackets t b 0 Missing (length b) (begin room)) ]) .entries)
     by true = tt
-    by false = unfold begin in ended-ticks _ (tick-packets t b 0 Missing (length b) .at 0 (begin room))
+    by false = unfold begin in ended-ticks p _ (tick-packets t b 0 Missing (length b) .at p (begin room))
 
-pub reading-ticks : (x b : List ℕ) (room : ℕ) → Ticking 0 0 ((readAll x b room) .entries)
+pub reading-ticks : (x b : List ℕ) (room : ℕ) (e : Entry) → Ticking 0 e ((readAll x b room) .entries)
 unfolding readAll
-reading-ticks x b room = by (parse x)
+reading-ticks x b room e = by (parse x)
   where
-    by : (p : Parsed Table) → Ticking 0 0 ((readParsed x p b room) .entries)
+    by : (p : Parsed Table) → Ticking 0 e ((readParsed x p b room) .entries)
     by (bad n y) = unfold readParsed in tt
-    by (good t y) = unfold readParsed in stream-ticks (asked t) b room
+    by (good t y) = unfold readParsed in stream-ticks (asked t) b room e

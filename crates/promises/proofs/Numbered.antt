@@ -1,6 +1,6 @@
 -- A table is refused by one of the paper's numbers, 1 to 15: so is each test, and so all that is parsed.
-use mathlib.Core.Path.{_≡_, refl, subst}
-use Prim.Native.Nat.{ℕ, zero, suc, _+_, _≤_}
+use mathlib.Core.Path.{_≡_, subst}
+use Prim.Native.Nat.{ℕ, zero, suc, _≤_}
 use native.Mathlib.Omega.{arith}
 use mathlib.Core.List.{List, [], _∷_, _++_}
 use mathlib.Core.Bool.{Bool, true, false, not, _&&_, _||_}
@@ -8,11 +8,11 @@ use mathlib.Core.Option.{Option, none}
 use lib.ListN.{length}
 use lib.Dec.{ltb, leb}
 use Rattle.rules.specs.Limits.{tableLimit, depthLimit}
-use Rattle.rules.specs.Class.{Sign, Range, Class, Classes, Options}
+use Rattle.rules.specs.Class.{Sign, Range, Class}
 use Rattle.rules.specs.Record.{Shape, bitField, lebField, signedLebField, zeroString, text, blob, textOf, blobOf, members, elements, elementsOf, option?, options}
 use Rattle.rules.specs.Record.{Says, Fragment, preamble, traceClass, clockClass, streamClass, eventClass}
 use Rattle.rules.specs.Record.{Record, unknown, fragment, root, class, range, option, recordOf, behind, size}
-use Rattle.rules.specs.Faults.{pick, cutShort, Seen, noneSeen, seen, fragmentFault, recordFault, firstFault, Spot, top, inside, memberSpot, Under, classFault, rangeFault, optionFault, rootFault, openFault}
+use Rattle.rules.specs.Faults.{pick, Seen, noneSeen, seen, fragmentFault, recordFault, firstFault, Spot, top, inside, memberSpot, Under, classFault, rangeFault, optionFault, rootFault, openFault}
 use Rattle.rules.specs.Table.{Table}
 use Rattle.rules.specs.Parse.{Parsed, bad, good, Parser, then, sound, missing, one, Ranges, rangeOf, countOf, parseRanges, parseOptions, parseMembers, parseShape, parseBody, parseClass}
 use Rattle.rules.specs.Parse.{isRoot, anyRoot, parseRoots, rootNumbers, isTimed, hasUuid, parseFragment, parseOpened, parseFragments, parse}

@@ -3,7 +3,7 @@
 use mathlib.Core.Path.{_≡_, refl, sym, ap, _∙_}
 use Prim.Native.Nat.{ℕ, zero, suc, _+_, _-_, _*_, _<_}
 use native.Mathlib.Omega.{arith}
-use mathlib.Core.List.{List, [], _∷_, _++_}
+use mathlib.Core.List.{List, _∷_, _++_}
 use mathlib.Core.Bool.{Bool, true, false}
 use lib.ListN.{length, drop, getD, set, replicate, length-replicate, getD-replicate}
 use lib.Seq.{getD-set-same, getD-set-other}
@@ -25,7 +25,7 @@ use Rattle.listing.specs.declared.role.Roled.{Roled}
 use Rattle.leaves.specs.declared.Leaf.{Leaf}
 use Rattle.leaves.specs.Done.{LeafDid}
 use Rattle.fields.specs.declared.Field.{Field}
-use Rattle.fields.specs.Reads.{LeafReads, FieldReads}
+use Rattle.fields.specs.Reads.{FieldReads}
 use Rattle.classes.specs.Sizes.{numbered}
 use Rattle.promises.specs.Only.{SameLeaf, NoSlack}
 

@@ -8,7 +8,6 @@ use Rattle.rules.specs.Step.{Out}
 use Rattle.listing.specs.declared.State.{State}
 use Rattle.listing.specs.Did.{Did, full}
 use Rattle.reader.specs.declared.Ran.{Ran}
-use Rattle.reader.specs.Ran.{RanDid}
 use Rattle.promises.specs.OnlyRan.{NoSlackRan}
 use Rattle.promises.proofs.Only.{did-same}
 

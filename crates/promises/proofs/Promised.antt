@@ -14,7 +14,7 @@ use Rattle.promises.proofs.Answers.{demand-1, less-room-calls}
 pub demands : Demands
 demands = record {
   demand-1 = demand-1;
-  demand-2 = λ x b c h. record { rules = h; clocks = subst (Ticking 0 0) (sym (lists-entries x b c h)) (reading-ticks x b (length (c .before))) };
+  demand-2 = λ x b c h. record { rules = h; clocks = λ p. subst (Ticking 0 p) (sym (lists-entries x b c h)) (reading-ticks x b (length (c .before)) p) };
   demand-3 = demand-3-calls;
   less-room = less-room-calls;
 }

@@ -8,9 +8,8 @@ use mathlib.Core.Bool.{not, true}
 use mathlib.Core.Option.{none}
 use lib.ListN.{length, getD, replicate}
 use lib.Dec.{eqb}
-use Rattle.rules.specs.declared.Result.{Result}
 use Rattle.rules.specs.Verdict.{numberOf}
-use Rattle.rules.specs.Table.{Table, asked}
+use Rattle.rules.specs.Table.{Table}
 use Rattle.rules.specs.Parse.{Parsed, bad, good, parse}
 use Rattle.rules.specs.Read.{readStream, readAll, resultOf, listAfter}
 use Rattle.rules.specs.Opened.{opened}

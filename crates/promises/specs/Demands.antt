@@ -83,7 +83,8 @@ pub record Demand1 (x b : List ℕ) (c : Call) : Type 0 where
 
 pub record Demand2 (x b : List ℕ) (c : Call) : Type 0 where
   pub rules : Contract x b c
-  pub clocks : Ticking 0 0 (listedBy c)
+  -- the first entry is a packet's: what stands before it does not count
+  pub clocks : (p : Entry) → Ticking 0 p (listedBy c)
 
 -- Demand 3: of one stream, a call by a table x and a call by what stays of it, with lists of one length
 
