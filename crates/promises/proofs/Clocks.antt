@@ -1,5 +1,5 @@
--- Every clock of a reading's list is the least one. A law of steps: from the state's clock the entries tick, and the clock behind them is the
--- state's. In order: the new clock; entries; steps; fields; packets; readings.
+-- Every clock of a reading's list is the least one. A law of steps: from the state's clock the entries tick, and the clock behind them is
+-- the state's. In order: the new clock; entries; steps; fields; packets; readings.
 use mathlib.Core.Path.{_≡_, refl, sym, ap, subst, _∙_}
 use Prim.Native.Nat.{ℕ, zero, suc, _+_, _-_, _*_, _%_, _^_, _<_}
 use native.Mathlib.Nat.{mod-lt, mod-add-mod}

@@ -1,5 +1,5 @@
--- No slack, proved. What a step did is fixed by the rules' outcome: its entries, and so its words and the list; why it stopped, or the state
--- behind it.
+-- No slack, proved. What a step did is fixed by the rules' outcome: its entries, and so its words and the list; why it stopped, or the
+-- state behind it.
 use mathlib.Core.Path.{_≡_, refl, sym, ap, _∙_}
 use Prim.Native.Nat.{ℕ, zero, suc, _+_, _-_, _*_, _<_}
 use native.Mathlib.Omega.{arith}

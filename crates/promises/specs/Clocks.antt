@@ -1,5 +1,5 @@
--- The clocks of a list: each entry 6 shows the least value, not below the packet's clock before it, that ends in the stamp's bits. It stands
--- right behind the entry of its field, whose value is the stamp.
+-- The clocks of a list: each entry 6 shows the least value, not below the packet's clock before it, that ends in the stamp's bits. It
+-- stands right behind the entry of its field, whose value is the stamp.
 use mathlib.Core.Path.{_≡_}
 use Prim.Native.Nat.{ℕ, _+_, _*_, _/_, _%_, _^_, _<_}
 use mathlib.Core.List.{List, [], _∷_}
@@ -11,10 +11,11 @@ use Rattle.clock.specs.Least.{Least}
 
 -- the packet's clock behind an entry, where it was c in front: 0 where a packet starts, and what an entry 6 shows
 unfoldable pub clockBehind : ℕ → Entry → ℕ
-clockBehind c e = elim (eqb (e .kind) packetStarts) [ true ↦ 0 | false ↦ elim (eqb (e .kind) clockAdvanced) [ true ↦ e .value | false ↦ c ] ]
+clockBehind c e =
+    elim (eqb (e .kind) packetStarts) [ true ↦ 0 | false ↦ elim (eqb (e .kind) clockAdvanced) [ true ↦ e .value | false ↦ c ] ]
 
--- the bits of the stamp that a field's entry shows: "L the field's bits (7 times its bytes for LEB128)"; kind 21 is the LEB128 number that may
--- be a stamp
+-- the bits of the stamp that a field's entry shows: "L the field's bits (7 times its bytes for LEB128)"; of LEB128 numbers kind 21 may be a
+-- stamp
 unfoldable pub stampBits : Entry → ℕ
 stampBits p = elim (eqb (p .kind) 21) [ true ↦ 7 * (p .bits / 8) | false ↦ p .bits ]
 

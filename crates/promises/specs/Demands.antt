@@ -102,14 +102,16 @@ pub record LeftOut (ks : ℕ → Bool) (ke : ℕ → ℕ → Bool) (short : List
   -- the rest is accepted
   pub accepted : Good short
   -- c lists the finding of a class left out, as its entry number k from 0: d lists the k entries before it, and is refused there
-  pub cut : (l : Lost) → missed ks ke (listedBy c) ≡ some l → (d .result ≡ refusedAt l) × (d .after ≡ wordsOf (l .index) c ++ cameBehind (l .index) d)
+  pub cut : (l : Lost) → missed ks ke (listedBy c) ≡ some l
+      → (d .result ≡ refusedAt l) × (d .after ≡ wordsOf (l .index) c ++ cameBehind (l .index) d)
   -- c lists none: d has its result and lists what it lists
   pub same : missed ks ke (listedBy c) ≡ none
       → (d .result ≡ c .result) × (d .after ≡ wordsOf (c .result .entries) c ++ cameBehind (c .result .entries) d)
 
 abbrev pub Demand3Calls : List ℕ → List ℕ → Call → Call → Type 0
 Demand3Calls full short c d =
-    (ks : ℕ → Bool) (ke : ℕ → ℕ → Bool) → Good full → short ≡ leave ks ke full → length (d .before) ≡ length (c .before) → LeftOut ks ke short c d
+    (ks : ℕ → Bool) (ke : ℕ → ℕ → Bool) → Good full → short ≡ leave ks ke full → length (d .before) ≡ length (c .before)
+    → LeftOut ks ke short c d
 
 -- Less room: of one table and stream, a call with a list and a call with one that is no longer. It lists what there is room for of the
 -- first one's entries; and its result is the same, or its number is 40

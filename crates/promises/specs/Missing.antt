@@ -92,8 +92,10 @@ Demand3≡ = (ks : ℕ → Bool) (ke : ℕ → ℕ → Bool) (x : List ℕ) → 
 -- the figure's table "with the event class left out: 37, four entries, ids 0 and 0"; and with its stream class left out
 pub record Demand3Figures : Type 0 where
   pub event-bytes : leave (λ i. true) (λ i j. false) table40 ≡ take 12 table40
-  pub event-missed : missed (λ i. true) (λ i j. false) ((readAll table40 stream1 32) .entries) ≡ some (record { index = 4; refusal = stopAt (EventClassUnknown 0 0) (bitPlace 0) })
+  pub event-missed : missed (λ i. true) (λ i j. false) ((readAll table40 stream1 32) .entries)
+      ≡ some (record { index = 4; refusal = stopAt (EventClassUnknown 0 0) (bitPlace 0) })
   pub event-result : resultOf (readAll (take 12 table40) stream1 32) ≡ record { number = 37; entries = 4; place = 0; first = 0; second = 0 }
   pub stream-bytes : leave (λ i. false) (λ i j. true) table40 ≡ take 2 table40
-  pub stream-missed : missed (λ i. false) (λ i j. true) ((readAll table40 stream1 32) .entries) ≡ some (record { index = 1; refusal = stopAt (StreamClassUnknown 0) (bitPlace 0) })
+  pub stream-missed : missed (λ i. false) (λ i j. true) ((readAll table40 stream1 32) .entries)
+      ≡ some (record { index = 1; refusal = stopAt (StreamClassUnknown 0) (bitPlace 0) })
   pub stream-result : resultOf (readAll (take 2 table40) stream1 32) ≡ record { number = 33; entries = 1; place = 0; first = 0; second = 0 }

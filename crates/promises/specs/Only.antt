@@ -1,5 +1,5 @@
--- No slack: any two outcomes that a function's statement allows are the same. In order: what that means of a statement; the statements of the
--- public functions, shape by shape. docs/NO-SLACK.md says which function has which shape.
+-- No slack: any two outcomes that a function's statement allows are the same. In order: what that means of a statement; the statements of
+-- the public functions, shape by shape. docs/NO-SLACK.md says which function has which shape.
 use mathlib.Core.Path.{_≡_}
 use Prim.Native.Nat.{ℕ, _<_}
 use mathlib.Core.List.{List}
@@ -52,14 +52,18 @@ pub record NoSlack : Type 1 where
   -- `read`, and the calls of it that promise
   pub reading : (x b ws : List ℕ) → OnlyBoth (λ r ws′. Contract x b (call r ws ws′))
   pub once : (x b ws : List ℕ) → OnlyBoth (λ r ws′. OneCall x b (call r ws ws′))
-  pub both : (x x′ b ws vs : List ℕ) (r r′ : Both) (wr wr′ vr vr′ : List ℕ) → TwoCalls x x′ b (call (r .first) ws wr) (call (r .second) vs vr)
+  pub both : (x x′ b ws vs : List ℕ) (r r′ : Both) (wr wr′ vr vr′ : List ℕ)
+      → TwoCalls x x′ b (call (r .first) ws wr) (call (r .second) vs vr)
       → TwoCalls x x′ b (call (r′ .first) ws wr′) (call (r′ .second) vs vr′) → (r ≡ r′) × (wr ≡ wr′) × (vr ≡ vr′)
   -- a role, a leaf, a field
   pub role : (m : Step) (st : State) (ws : List ℕ) → OnlyBoth (λ r ws′. RoleDid m st r ws ws′)
-  pub leaf : (m : Step) (st : State) (ws : List ℕ) (r r′ : Leaf) (vs vs′ : List ℕ) → LeafDid m st r ws vs → LeafDid m st r′ ws vs′ → SameLeaf (λ l. Unit {0}) r r′ vs vs′
-  pub leaf-slot : (m : Step) (st : State) (ws : List ℕ) (r r′ : Leaf) (vs vs′ : List ℕ) → LeafDid m st r ws vs → LeafDid m st r′ ws vs′ → r .slot < slotCount → r ≡ r′
+  pub leaf : (m : Step) (st : State) (ws : List ℕ) (r r′ : Leaf) (vs vs′ : List ℕ)
+      → LeafDid m st r ws vs → LeafDid m st r′ ws vs′ → SameLeaf (λ l. Unit {0}) r r′ vs vs′
+  pub leaf-slot : (m : Step) (st : State) (ws : List ℕ) (r r′ : Leaf) (vs vs′ : List ℕ)
+      → LeafDid m st r ws vs → LeafDid m st r′ ws vs′ → r .slot < slotCount → r ≡ r′
   -- a leaf by the content x of the slot i that it reads, where some slots have it there
-  pub leaf-at : (m : Step) (i : ℕ) (x : Content) (st : State) (ws : List ℕ) (l : Slots) → length l ≡ slotCount → slotAt l i ≡ x → (r r′ : Leaf) (vs vs′ : List ℕ)
+  pub leaf-at : (m : Step) (i : ℕ) (x : Content) (st : State) (ws : List ℕ) (l : Slots) → length l ≡ slotCount → slotAt l i ≡ x
+      → (r r′ : Leaf) (vs vs′ : List ℕ)
       → LeafReads m i x st r ws vs → LeafReads m i x st r′ ws vs′ → SameLeaf (λ l. slotAt l i ≡ x) r r′ vs vs′
   pub field : (m : Step) (st : State) (l : Slots) (ws : List ℕ) → OnlyBoth (λ r ws′. FieldReads m st l r ws ws′)
   -- what is noted of a table, both lists

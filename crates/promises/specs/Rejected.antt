@@ -36,8 +36,8 @@ Fixed f = (x x′ b b′ ws : List ℕ) → (f x b ws) .1 ≡ (f x′ b′ ws) .
 abbrev pub Silent : Reader → Type 0
 Silent f = (x b ws : List ℕ) → (f x b ws) .1 ≡ ws
 
--- it lists a packet at its first entry: all entries stand at the packet's place. A packet takes a byte or more, so that a stream of one byte
--- has one packet; an entry's second word is its place
+-- it lists a packet at its first entry: all entries stand at the packet's place. A packet takes a byte or more, so that a stream of one
+-- byte has one packet; an entry's second word is its place
 abbrev pub AtOnce : Reader → Type 0
 AtOnce f = (x ws : List ℕ) (v k : ℕ) → k < (f x (v ∷ []) ws) .0 .entries
     → getD ((f x (v ∷ []) ws) .1) (wordsPerEntry * k + 1) 0 ≡ getD ((f x (v ∷ []) ws) .1) 1 0
@@ -50,7 +50,8 @@ WholeOrNone f = (x ws ws′ : List ℕ) (v : ℕ) → length ws′ ≤ length ws
 -- demand 3, of a reading that asks a table otherwise
 abbrev pub Demand3By : (Table → Asked) → Type 0
 Demand3By ask = (ks : ℕ → Bool) (ke : ℕ → ℕ → Bool) (x : List ℕ) (t : Table) (y : List ℕ) → parse x ≡ good t y → (b : List ℕ) (room : ℕ)
-    → readStream (ask (keep ks (both ks ke) t)) b room ≡ shortened (missed ks ke ((readStream (ask t) b room) .entries)) (readStream (ask t) b room)
+    → readStream (ask (keep ks (both ks ke) t)) b room
+    ≡ shortened (missed ks ke ((readStream (ask t) b room) .entries)) (readStream (ask t) b room)
 
 -- "Taking the nearest event class when the id isn't there."
 unfoldable pub nearestEvent : List EventClass → ℕ → ℕ → Option EventClass
