@@ -20,10 +20,12 @@ use Rattle.rules.specs.Class.{Class}
 use Rattle.rules.specs.Entry.{entry}
 use Rattle.rules.specs.Limits.{streamLimit}
 use Rattle.rules.specs.Verdict.{stopAt}
-use Rattle.rules.specs.Place.{bitPlace, further}
+use Rattle.rules.specs.Place.{bitPlace, byteLength, further}
 use Rattle.rules.specs.Step.{State, Out, stop, go, Step, onto, after, _⨾_, refuse, listed, withLast}
 use Rattle.rules.specs.Table.{StreamClass, EventClass, Asked, Table, asked, findStream, findEvent}
 use Rattle.rules.specs.Field.{Env}
+use Rattle.rules.specs.declared.Checked.the-variants.{Accepted}
+use Rattle.rules.specs.Parse.{Parsed, bad, good, parse, checkedOf, checked}
 use Rattle.rules.specs.Read.{Reading, ended, begin, readStream, readAll, readParsed}
 use Rattle.rules.specs.Packet.{readEvent, readEvents, readContent, readPacket, readPackets, withEvent, withStream, mark, readRoot, startEvent, startPacket, endPacket}
 use Rattle.facts.proofs.Steps.{listOf, onto-nil, onto-cons}
@@ -33,7 +35,7 @@ use Rattle.promises.proofs.Each.{Each, _⨾ᵉ_, each-check, each-due, 
 use Rattle.promises.proofs.Leave.{kept, gone, stream-kept, stream-gone}
 use Rattle.promises.specs.Edition.{keep, keepStreams, keepEvents, both}
 use Rattle.promises.proofs.Edited.{editions}
-use Rattle.promises.specs.Missing.{has, goneStream, goneEvent, Lost, under, lost, later, front, firstLost, missed, Demand3, shortened, Demand3≡}
+use Rattle.promises.specs.Missing.{goneStream, goneEvent, Lost, under, lost, later, front, firstLost, missed, Good, Demand3, shortened, Demand3≡}
 
 pub found-id : (cs : List StreamClass) (i : ℕ) (c : StreamClass) → findStream cs i ≡ some c → c .id ≡ i
 unfolding findStream
@@ -406,37 +408,7 @@ or-none : {A : Type 0} (x : Option A) (a : A) → x ≡ none → x ≡ some a �
 or-none x a h k = let p : none ≡ some a = sym h ∙ k in let z : _≡_ {A = ℕ} 0 1 = cc in omega arith
 
 module _ (ks : ℕ → Bool) (ke : ℕ → ℕ → Bool) (t : Table) where
-  stays-stream : (i : ℕ) → ks i ≡ true → goneStream ks t i ≡ false
-  unfolding goneStream
-  stays-stream i h = by (has (findStream (t .streams) i)) (ks i) h
-    where
-      by : (a b : Bool) → b ≡ true → (a && not b) ≡ false
-      by true true h = refl
-      by true false h = sym h
-      by false b h = refl
-
-  goes-stream : (i : ℕ) → ks i ≡ false → (c : StreamClass) → findStream (t .streams) i ≡ some c → goneStream ks t i ≡ true
-  unfolding goneStream has
-  goes-stream i h c p = rw (h, p, goneStream) refl
-
-  stays-event : (i j : ℕ) → both ks ke i j ≡ true → goneEvent ks ke t i j ≡ false
-  unfolding goneEvent both
-  stays-event i j h = by (has (findEvent (t .events) i j)) (ks i && ke i j) h
-    where
-      by : (a b : Bool) → b ≡ true → (a && not b) ≡ false
-      by true true h = refl
-      by true false h = sym h
-      by false b h = refl
-
-  goes-event : (i j : ℕ) → both ks ke i j ≡ false → (d : EventClass) → findEvent (t .events) i j ≡ some d → goneEvent ks ke t i j ≡ true
-  unfolding goneEvent has both
-  goes-event i j h d p = by (ks i && ke i j) h
-    where
-      by : (b : Bool) → b ≡ false → (has (findEvent (t .events) i j) && not b) ≡ true
-      by true h = absurd (clash (sym h))
-      by false h = rw p refl
-
-  left-less : Less (goneStream ks t) (goneEvent ks ke t) (asked t) (findStream (keepStreams ks (t .streams))) (findEvent (keepEvents (both ks ke) (t .events)))
+  left-less : Less (goneStream ks) (goneEvent ks ke) (asked t) (findStream (keepStreams ks (t .streams))) (findEvent (keepEvents (both ks ke) (t .events)))
   unfolding asked
   left-less = record {
     ids = λ i c p. found-id (t .streams) i c p;
@@ -445,30 +417,54 @@ module _ (ks : ℕ → Bool) (ke : ℕ → ℕ → Bool) (t : Table) where
   }
     where
       by-stream : (i : ℕ) (b : Bool) → ks i ≡ b
-          → ((goneStream ks t i ≡ false) × (findStream (keepStreams ks (t .streams)) i ≡ findStream (t .streams) i))
-          ⊎ (((c : StreamClass) → findStream (t .streams) i ≡ some c → goneStream ks t i ≡ true) × (findStream (keepStreams ks (t .streams)) i ≡ none))
-      by-stream i true h = inl (stays-stream i h, stream-kept ks i h (t .streams))
-      by-stream i false h = inr (goes-stream i h, stream-gone ks i h (t .streams))
+          → ((goneStream ks i ≡ false) × (findStream (keepStreams ks (t .streams)) i ≡ findStream (t .streams) i))
+          ⊎ (((c : StreamClass) → findStream (t .streams) i ≡ some c → goneStream ks i ≡ true) × (findStream (keepStreams ks (t .streams)) i ≡ none))
+      by-stream i true h = inl (unfold goneStream in ap not h, stream-kept ks i h (t .streams))
+      by-stream i false h = inr ((λ c p. unfold goneStream in ap not h), stream-gone ks i h (t .streams))
 
       by-event : (i j : ℕ) (b : Bool) → both ks ke i j ≡ b
-          → ((goneEvent ks ke t i j ≡ false) × (findEvent (keepEvents (both ks ke) (t .events)) i j ≡ findEvent (t .events) i j))
-          ⊎ (((d : EventClass) → findEvent (t .events) i j ≡ some d → goneEvent ks ke t i j ≡ true) × (findEvent (keepEvents (both ks ke) (t .events)) i j ≡ none))
-      by-event i j true h = inl (stays-event i j h, kept (both ks ke) i j h (t .events))
-      by-event i j false h = inr (goes-event i j h, gone (both ks ke) i j h (t .events))
+          → ((goneEvent ks ke i j ≡ false) × (findEvent (keepEvents (both ks ke) (t .events)) i j ≡ findEvent (t .events) i j))
+          ⊎ (((d : EventClass) → findEvent (t .events) i j ≡ some d → goneEvent ks ke i j ≡ true) × (findEvent (keepEvents (both ks ke) (t .events)) i j ≡ none))
+      by-event i j true h = inl (unfold goneEvent in ap not h, kept (both ks ke) i j h (t .events))
+      by-event i j false h = inr ((λ d p. unfold goneEvent in ap not h), gone (both ks ke) i j h (t .events))
+
+  -- the short table's reading by the full one's
+  pub left-out : (j : ℕ) (b : List ℕ) (room : ℕ)
+      → readStream (asked (keep ks (both ks ke) t)) b room
+      ≡ shortened (firstLost (goneStream ks) (goneEvent ks ke) j ((readStream (asked t) b room) .entries)) (readStream (asked t) b room)
+  unfolding asked keep
+  left-out j b room =
+      sim-from (goneStream ks) (goneEvent ks ke) (asked t) (findStream (keepStreams ks (t .streams))) (findEvent (keepEvents (both ks ke) (t .events))) left-less j b room
+
+  -- the id that the search starts with is not used: with any other the short reading comes out the same
+  pub any-start : (j : ℕ) (b : List ℕ) (room : ℕ)
+      → shortened (firstLost (goneStream ks) (goneEvent ks ke) j ((readStream (asked t) b room) .entries)) (readStream (asked t) b room)
+      ≡ shortened (firstLost (goneStream ks) (goneEvent ks ke) 0 ((readStream (asked t) b room) .entries)) (readStream (asked t) b room)
+  any-start j b room = sym (left-out j b room) ∙ left-out 0 b room
+
+-- an accepted table says something
+pub record Says (x : List ℕ) : Type 0 where
+  pub table : Table
+  pub rest : List ℕ
+  pub parsed : parse x ≡ good table rest
+
+pub good-says : (x : List ℕ) → Good x → Says x
+unfolding checked
+good-says x h = by (parse x) refl h
+  where
+    by : (p : Parsed Table) → parse x ≡ p → checkedOf x p ≡ Accepted (byteLength (length x)) → Says x
+    by (bad n y) e k = unfold checkedOf in let z : _≡_ {A = ℕ} 0 1 = cc in absurd (omega arith)
+    by (good t y) e k = record { table = t; rest = y; parsed = e }
+
+says-good : (x : List ℕ) (t : Table) (y : List ℕ) → parse x ≡ good t y → Good x
+unfolding checked checkedOf
+says-good x t y h = ap (checkedOf x) h
 
 pub demand-3≡ : Demand3≡
-unfolding readAll readParsed missed asked keep
-demand-3≡ ks ke x t y p b room =
-    rw (editions ks ke x t y p, p, readAll, missed)
-    (sim-stream (goneStream ks t) (goneEvent ks ke t) (asked t) (findStream (keepStreams ks (t .streams))) (findEvent (keepEvents (both ks ke) (t .events))) (left-less ks ke t) b room)
-
--- the id that the search starts with is not used: with any other the short reading comes out the same
-pub any-start : (ks : ℕ → Bool) (ke : ℕ → ℕ → Bool) (t : Table) (j : ℕ) (b : List ℕ) (room : ℕ)
-    → shortened (firstLost (goneStream ks t) (goneEvent ks ke t) j ((readStream (asked t) b room) .entries)) (readStream (asked t) b room)
-    ≡ shortened (firstLost (goneStream ks t) (goneEvent ks ke t) 0 ((readStream (asked t) b room) .entries)) (readStream (asked t) b room)
-any-start ks ke t j b room =
-    sym (sim-from (goneStream ks t) (goneEvent ks ke t) (asked t) (findStream (keepStreams ks (t .streams))) (findEvent (keepEvents (both ks ke) (t .events))) (left-less ks ke t) j b room)
-    ∙ sim-from (goneStream ks t) (goneEvent ks ke t) (asked t) (findStream (keepStreams ks (t .streams))) (findEvent (keepEvents (both ks ke) (t .events))) (left-less ks ke t) 0 b room
+unfolding readAll readParsed missed
+demand-3≡ ks ke x h b room =
+    let s = good-says x h in
+    rw (editions ks ke x (s .table) (s .rest) (s .parsed), s .parsed, readAll) (left-out ks ke (s .table) 0 b room)
 
 shortened-cut : (o : Option Lost) (l : Lost) (r r′ : Reading) → o ≡ some l → r′ ≡ shortened o r → (r′ .entries ≡ take (l .index) (r .entries)) × (r′ .verdict ≡ Refused (l .refusal))
 unfolding shortened
@@ -482,8 +478,10 @@ shortened-same o r r′ h k = k ∙ ap (λ z. shortened z r) h
 
 -- demand 3, in its own words
 pub demand-3 : Demand3
-demand-3 ks ke x t y p b room = record {
-  accepted = editions ks ke x t y p;
-  cut = λ l h. shortened-cut _ l (readAll x b room) _ h (demand-3≡ ks ke x t y p b room);
-  same = λ h. shortened-same _ (readAll x b room) _ h (demand-3≡ ks ke x t y p b room);
-}
+demand-3 ks ke x g b room =
+    let s = good-says x g in
+    record {
+      accepted = says-good _ _ [] (editions ks ke x (s .table) (s .rest) (s .parsed));
+      cut = λ l h. shortened-cut _ l (readAll x b room) _ h (demand-3≡ ks ke x g b room);
+      same = λ h. shortened-same _ (readAll x b room) _ h (demand-3≡ ks ke x g b room);
+    }

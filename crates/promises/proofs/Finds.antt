@@ -1,4 +1,4 @@
--- A reading lists only findings of classes that its table has. And an instance of demand 3 computed.
+-- A reading lists only findings of classes that its table has. And demand 3 computed of the figure.
 use mathlib.Core.Path.{_≡_, refl, sym, ap, _∙_}
 use mathlib.Core.Logic.{_⊎_, inl, inr}
 use Prim.Native.Nat.{ℕ, suc, _<_}
@@ -8,17 +8,13 @@ use mathlib.Core.Bool.{Bool, true, false, not}
 use mathlib.Core.Option.{Option, none, some}
 use lib.ListN.{length, take, length-take}
 use Rattle.rules.specs.declared.Entry.{Entry}
-use Rattle.rules.specs.declared.Refusal.the-variants.{StreamClassUnknown, EventClassUnknown}
 use Rattle.rules.specs.declared.Stop.{Stop}
-use Rattle.rules.specs.Verdict.{stopAt}
-use Rattle.rules.specs.Place.{bitPlace}
-use Rattle.rules.specs.Table.{StreamClass, EventClass, Asked, Table}
-use Rattle.rules.specs.Parse.{Parsed, bad, good, parse}
-use Rattle.rules.specs.Read.{readStream, readAll}
+use Rattle.rules.specs.Table.{StreamClass, EventClass, Asked}
+use Rattle.rules.specs.Read.{readStream}
 use Rattle.rules.specs.Opened.{opened}
-use Rattle.promises.specs.Missing.{has, goneStream, goneEvent, Lost, under, lost, later, front, firstLost, missed, shortened}
+use Rattle.promises.specs.Missing.{goneStream, goneEvent, Lost, under, lost, later, front, firstLost, missed, shortened, Demand3Figures}
 use Rattle.promises.proofs.Exact.{latest, Less, sim-stream}
-use Rattle.promises.specs.Figures.{table40}
+use Rattle.promises.specs.Edition.{both, stays, part, leaveRecords, leave}
 
 some-some : {A : Type 0} (a b : A) → some a ≡ some b → a ≡ b
 some-some a b h = cc
@@ -85,6 +81,10 @@ first-found gs ge i (e ∷ es) l h = by (lost gs ge i e) refl (firstLost gs ge (
           is = q ∙ ap (λ o. some (o .refusal)) p;
         }
 
+unfoldable pub has : {A : Type 0} → Option A → Bool
+has none = false
+has (some a) = true
+
 -- what a table does not have
 abbrev pub noStream : Asked → ℕ → Bool
 noStream t i = not (has (t .stream i))
@@ -117,16 +117,7 @@ module _ (t : Asked) (ids : (i : ℕ) (c : StreamClass) → t .stream i ≡ some
           let c : l .index < length ((readStream t b room) .entries) = first-index (noStream t) (noEvent t) 0 _ l p in
           absurd (omega (arith, length-take (l .index) ((readStream t b room) .entries)))
 
-tableOf : Parsed Table → Table
-tableOf (bad n x) = record { uuid = []; header = none; streams = []; events = [] }
-tableOf (good t x) = t
-
--- the figures' table with its event class left out: 37 in place of the entry that stands behind four others, at place 0, ids 0 and 0
-figure : missed (λ i. true) (λ i j. false) (tableOf (parse table40)) (readAll table40 (0x2A ∷ []) 32) ≡ some (record { index = 4; refusal = stopAt (EventClassUnknown 0 0) (bitPlace 0) })
-unfolding opened missed goneStream goneEvent has firstLost lost front later under tableOf
-figure = refl
-
--- with its stream class left out: 33, behind the first entry
-figure-stream : missed (λ i. false) (λ i j. true) (tableOf (parse table40)) (readAll table40 (0x2A ∷ []) 32) ≡ some (record { index = 1; refusal = stopAt (StreamClassUnknown 0) (bitPlace 0) })
-unfolding opened missed goneStream goneEvent has firstLost lost front later under tableOf
-figure-stream = refl
+-- by computation
+pub demand-3-figures : Demand3Figures
+unfolding opened leave leaveRecords part stays missed goneStream goneEvent both firstLost lost front later under
+demand-3-figures = record { event-bytes = refl; event-missed = refl; event-result = refl; stream-bytes = refl; stream-missed = refl; stream-result = refl }

@@ -1,6 +1,6 @@
 -- The laws of the rules, gathered: each is shown in a file of its own and put together here for an accepted table.
 use mathlib.Core.Path.{_≡_, refl}
-use Prim.Native.Nat.{ℕ, _*_}
+use Prim.Native.Nat.{ℕ, _*_, _≤_}
 use native.Mathlib.Omega.{arith}
 use native.Mathlib.Nat.{le-refl}
 use mathlib.Core.List.{List, []}
@@ -24,12 +24,11 @@ use Rattle.promises.specs.Laws.{Rising, Within, Inside, TheLaws}
 use Rattle.laws.proofs.Law.{Any}
 use Rattle.laws.proofs.Accepted.{Tells, Fitting, accepted-fits}
 use Rattle.laws.proofs.Triple.{Ok}
-use Rattle.promises.proofs.Rising.{RiseOut, Onward}
 use Rattle.promises.proofs.Rounds.{event-rounds}
 use Rattle.promises.proofs.Spent.{reading-spent}
 use Rattle.promises.proofs.Room.{room-more}
 use Rattle.laws.proofs.Between.{In, At, NoMore}
-use Rattle.promises.proofs.Packets.{Positive, bound-event, packet-rounds, go-packets}
+use Rattle.promises.proofs.Packets.{Positive, Goes, bound-event, packet-rounds, go-packets}
 use Rattle.promises.proofs.TableRounds.{table-rounds}
 use Rattle.promises.proofs.Listed.{reading-words, list-words}
 
@@ -44,24 +43,24 @@ ok-within : (e : Env) (o : Out) → Ok (In e) (At e) (NoMore e) (Inside e) o →
 ok-within e (stop es v) h = h
 ok-within e (go es s) h = h
 
--- the places of a reading rise, and where nothing refuses it, it ends at the last bit
+-- the places of a reading rise, and none is behind the last bit; where nothing refuses it, it ends there
 EndsAt : ℕ → Reading → Type 0
-EndsAt last r = Rising (r .entries) 0 (placeOf (r .verdict)) × (numberOf (r .verdict) ≡ 0 → placeOf (r .verdict) ≡ last)
+EndsAt last r = Rising (r .entries) 0 (placeOf (r .verdict)) × (numberOf (r .verdict) ≡ 0 → placeOf (r .verdict) ≡ last) × (placeOf (r .verdict) ≤ last)
 
-ended-at : (last : ℕ) (o : Out) → RiseOut 0 o → Onward (λ s. s .place .0 ≡ last) o → EndsAt last (ended o)
+ended-at : (last : ℕ) (o : Out) → Goes last (λ s. s .place .0 ≡ last) 0 o → EndsAt last (ended o)
 unfolding EndsAt ended placeOf numberOf
-ended-at last (stop es v) h k = (h, λ z. absurd (omega (arith, refusalNumber-bounds (v .why) .0)))
-ended-at last (go es s) h k = (h, λ z. k)
+ended-at last (stop es v) h = (h .0, (λ z. absurd (omega (arith, refusalNumber-bounds (v .why) .0))), h .2)
+ended-at last (go es s) h = (h .0, (λ z. h .1), omega (arith, h .1))
 
 stream-at : (t : Table) → Fitting Positive (λ r. Any) Any (asked t) → (b : List ℕ) (room : ℕ) → EndsAt (8 * length b) (readStream (asked t) b room)
 unfolding readStream
 stream-at t w b room = by (eqb (length b) 0 || ltb streamLimit (length b))
   where
     by : (c : Bool) → EndsAt (8 * length b) (elim c [ true ↦ record { entries = []; verdict = Refused (stopAt StreamSize (bitPlace 0)) } | false ↦ ended (readPackets (asked t) b 0 Missing (length b) (begin room)) ])
-    by true = unfold EndsAt numberOf refusalNumber placeOf in (omega arith, λ z. absurd (omega arith))
+    by true = unfold EndsAt numberOf refusalNumber placeOf in (omega arith, (λ z. absurd (omega arith)), omega arith)
     by false = unfold begin in
-        let g = go-packets (asked t) w b 0 Missing (length b) (begin room) refl (omega arith) (omega arith) in
-        ended-at (8 * length b) (readPackets (asked t) b 0 Missing (length b) (begin room)) (g .0) (g .1)
+        ended-at (8 * length b) (readPackets (asked t) b 0 Missing (length b) (begin room))
+        (go-packets (asked t) w b 0 Missing (length b) (begin room) refl (omega arith) (omega arith))
 
 reading-at : (x : List ℕ) (t : Table) (y : List ℕ) → parse x ≡ good t y → (b : List ℕ) (room : ℕ) → EndsAt (8 * length b) (readAll x b room)
 unfolding readAll readParsed
@@ -73,6 +72,7 @@ the-laws x t y p = record {
   rises = λ b room. reading-at x t y p b room .0;
   stays = λ i c q e n s h. ok-within e (readEvent (asked t) c e n s) (bound-event (asked t) (accepted-positive x t y p) i c q e n .at s h);
   ends = λ b room. reading-at x t y p b room .1;
+  place-in = λ b room. reading-at x t y p b room .2;
   spends = λ b room. reading-spent x b room;
   room-more = λ b room more. room-more x b room more;
   fragment-rounds = λ q z more. table-rounds (length z) more q z (le-refl (length z));

@@ -1,6 +1,9 @@
 -- Lookups among the classes that stay: what was found is found where its ids stay, and else nothing.
 use mathlib.Core.Path.{_≡_, refl, sym, ap, _∙_}
-use Prim.Native.Nat.{ℕ}
+use Prim.Native.Nat.{ℕ, zero, suc, _≤_}
+use native.Mathlib.Omega.{arith}
+use native.Mathlib.Nat.{le-refl}
+use lib.ListN.{length, length-drop, take-append-drop}
 use mathlib.Core.List.{List, [], _∷_}
 use mathlib.Core.Bool.{Bool, true, false, _&&_}
 use mathlib.Core.Option.{none}
@@ -8,7 +11,9 @@ use lib.Dec.{eqb}
 use borrow.Author.Tests.{eqb-true}
 use Rattle.rules.specs.Table.{StreamClass, EventClass, findStream, findEvent}
 use Rattle.facts.proofs.Truth.{clash, and-left, and-right}
-use Rattle.promises.specs.Edition.{keepEvents, keepStreams}
+use Rattle.rules.specs.Record.{Record, unknown, fragment, root, class, range, option, preamble, traceClass, clockClass, streamClass, eventClass, layoutOf, recordOf, size, behind}
+use Rattle.rules.specs.Parse.{missing}
+use Rattle.promises.specs.Edition.{keepEvents, keepStreams, both, stays, part, leaveRecords, leave, NothingLeft}
 
 module _ (k : ℕ → ℕ → Bool) (i j : ℕ) where
   ids : (c : EventClass) (x : Bool) → k i j ≡ x → (eqb (c .stream) i && eqb (c .id) j) ≡ true → k (c .stream) (c .id) ≡ x
@@ -61,3 +66,40 @@ module _ (k : ℕ → Bool) (i : ℕ) where
       by true false p q r = simp (p, q, keepStreams, findStream) r
       by false true p q r = simp (p, keepStreams) r
       by false false p q r = simp (p, keepStreams) r
+
+-- Where every class stays, so does every byte
+
+abbrev all : ℕ → Bool
+all i = true
+
+abbrev every : ℕ → ℕ → Bool
+every i j = true
+
+stays-all : (r : Record) → stays all every true r ≡ true
+unfolding stays both
+stays-all unknown = refl
+stays-all (fragment (preamble v)) = refl
+stays-all (fragment (traceClass u l)) = refl
+stays-all (fragment (clockClass i f)) = refl
+stays-all (fragment (streamClass i c)) = refl
+stays-all (fragment (eventClass i j)) = refl
+stays-all (root r) = refl
+stays-all (class y) = refl
+stays-all (range g l h) = refl
+stays-all (option n) = refl
+
+behind-less : (n : ℕ) (a : ℕ) (x : List ℕ) → length (a ∷ x) ≤ suc n → length (behind (a ∷ x)) ≤ n
+unfolding behind size
+behind-less n a x h = omega (arith, length-drop (suc ((layoutOf (a ∷ x)) .0)) (a ∷ x))
+
+records-all : (n : ℕ) (x : List ℕ) → length x ≤ n → leaveRecords all every n true x ≡ x
+unfolding leaveRecords missing
+records-all zero [] h = refl
+records-all zero (a ∷ x) h = absurd (omega arith)
+records-all (suc n) [] h = refl
+records-all (suc n) (a ∷ x) h =
+    rw (stays-all (recordOf (a ∷ x)), records-all n (behind (a ∷ x)) (behind-less n a x h)) (unfold part behind in take-append-drop (size (a ∷ x)) (a ∷ x))
+
+pub nothing-left : NothingLeft
+unfolding leave
+nothing-left x = records-all (length x) x (le-refl (length x))

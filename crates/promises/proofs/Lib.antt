@@ -15,7 +15,16 @@ pub mod Figures
 pub mod Leave
 pub mod Exact
 pub mod Finds
+pub mod Numbered
+pub mod Clocks
+pub mod Calls
 pub mod Words
 pub mod Listed
 pub mod Laws
+pub mod Answers
+pub mod Promised
+pub mod Only
+pub mod OnlyRan
 pub mod Cases
+pub mod Rejected
+pub mod Standard

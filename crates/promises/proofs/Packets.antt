@@ -64,10 +64,31 @@ rise-event t c e n = record {
       ⨾ᵘ rise-check (λ s. eqb (s .place .0) (s₀ .place .0)) EventTookNoBits) .at s₀;
 }
 
--- Packets: from states of A a step rises, and goes on to states of B
+-- Packets: from states of A a step rises, goes on to states of B, and stops nowhere behind a place
 
-record Go (A : State → Type 0) (m : Step) (B : State → Type 0) : Type 0 where
-  at : (s : State) → A s → RiseOut (s .place .0) (m s) × Onward B (m s)
+abbrev pub Stops : ℕ → Out → Type 0
+Stops last (stop es v) = v .place .0 ≤ last
+Stops last (go es s) = Unit {0}
+
+abbrev pub Goes : ℕ → (State → Type 0) → ℕ → Out → Type 0
+Goes last B p o = RiseOut p o × Onward B o × Stops last o
+
+record Go (last : ℕ) (A : State → Type 0) (m : Step) (B : State → Type 0) : Type 0 where
+  at : (s : State) → A s → Goes last B (s .place .0) (m s)
+
+-- states that are not behind it either
+abbrev Not-behind : ℕ → (State → Type 0) → Type 0
+Not-behind last A = (s : State) → A s → s .place .0 ≤ last
+
+stops-onto : (last : ℕ) (es : List Entry) (o : Out) → Stops last o → Stops last (onto es o)
+unfolding onto
+stops-onto last es (stop fs v) h = h
+stops-onto last es (go fs s) h = tt
+
+stops-after : (last : ℕ) (A : State → Type 0) (o : Out) (n : Step) → Stops last o → Onward A o → ((s : State) → A s → Stops last (n s)) → Stops last (after o n)
+unfolding after
+stops-after last A (stop es v) n h a k = h
+stops-after last A (go es s) n h a k = stops-onto last es (n s) (k s a)
 
 onward-onto : (B : State → Type 0) (es : List Entry) (o : Out) → Onward B o → Onward B (onto es o)
 unfolding onto
@@ -79,65 +100,78 @@ unfolding after
 onward-after A B (stop es v) n h k = tt
 onward-after A B (go es s) n h k = onward-onto B es (n s) (k s h)
 
+goes-after : (last : ℕ) (A B : State → Type 0) (p : ℕ) (o : Out) (n : Step) → Goes last A p o → ((s : State) → A s → Goes last B (s .place .0) (n s)) → Goes last B p (after o n)
+goes-after last A B p o n h k = (
+  rise-after A p o n (h .0) (h .1) (λ s a. k s a .0),
+  onward-after A B o n (h .1) (λ s a. k s a .1),
+  stops-after last A o n (h .2) (h .1) (λ s a. k s a .2),
+)
+
 onward-map : (A B : State → Type 0) (o : Out) → ((s : State) → A s → B s) → Onward A o → Onward B o
 onward-map A B (stop es v) f h = tt
 onward-map A B (go es s) f h = f s h
 
 infixr 20 _⨾ᵍ_
-_⨾ᵍ_ : {A B C : State → Type 0} {m n : Step} → Go A m B → Go B n C → Go A (m ⨾ n) C
+_⨾ᵍ_ : {last : ℕ} {A B C : State → Type 0} {m n : Step} → Go last A m B → Go last B n C → Go last A (m ⨾ n) C
 unfolding _⨾_
-_⨾ᵍ_ {A} {B} {C} {m} {n} h k = record {
-  at = λ s a.
-      (rise-after B (s .place .0) (m s) n (h .at s a .0) (h .at s a .1) (λ s′ b. k .at s′ b .0), onward-after B C (m s) n (h .at s a .1) (λ s′ b. k .at s′ b .1));
-}
+_⨾ᵍ_ {last} {A} {B} {C} {m} {n} h k = record { at = λ s a. goes-after last B C (s .place .0) (m s) n (h .at s a) (λ s′ b. k .at s′ b) }
 
 ok-onward : (e : Env) (o : Out) → Ok (In e) (At e) (NoMore e) (Inside e) o → Onward (Inside e) o
 ok-onward e (stop es v) h = tt
 ok-onward e (go es s) h = h .1
 
-inside : (e : Env) {m : Step} → Rise m → Bounded e m → Go (Inside e) m (Inside e)
-inside e {m} h k = record { at = λ s a. (h .at s, ok-onward e (m s) (k .at s a)) }
+ok-stops : (last : ℕ) (e : Env) → e .bound .0 ≤ last → (o : Out) → Ok (In e) (At e) (NoMore e) (Inside e) o → Stops last o
+ok-stops last e l (stop es v) h = omega (arith, h .1 .1)
+ok-stops last e l (go es s) h = tt
+
+inside : {last : ℕ} (e : Env) → e .bound .0 ≤ last → {m : Step} → Rise m → Bounded e m → Go last (Inside e) m (Inside e)
+inside {last} e l {m} h k = record { at = λ s a. (h .at s, ok-onward e (m s) (k .at s a), ok-stops last e l (m s) (k .at s a)) }
+
+inside-le : (last : ℕ) (e : Env) → e .bound .0 ≤ last → Not-behind last (Inside e)
+inside-le last e l s a = omega (arith, a .to)
 
 -- a test, and what its failing tells
-go-check : {A : State → Type 0} (q : State → Bool) (r : Refusal) → Go A (check q r) (λ s. A s × (q s ≡ false))
+go-check : {last : ℕ} {A : State → Type 0} → Not-behind last A → (q : State → Bool) (r : Refusal) → Go last A (check q r) (λ s. A s × (q s ≡ false))
 unfolding check
-go-check {A} q r = record { at = λ s a. (rise-check q r .at s, by s a (q s) refl) }
+go-check {last} {A} l q r = record { at = λ s a. let g = by s a (q s) refl in (rise-check q r .at s, g .0, g .1) }
   where
-    by : (s : State) → A s → (b : Bool) → q s ≡ b → Onward (λ s. A s × (q s ≡ false)) (elim b [ true ↦ refuse r s | false ↦ pass s ])
-    by s a true h = unfold refuse in tt
-    by s a false h = unfold pass in (a, h)
+    by : (s : State) → A s → (b : Bool) → q s ≡ b
+        → Onward (λ s. A s × (q s ≡ false)) (elim b [ true ↦ refuse r s | false ↦ pass s ]) × Stops last (elim b [ true ↦ refuse r s | false ↦ pass s ])
+    by s a true h = unfold refuse in (tt, l s a)
+    by s a false h = unfold pass in ((a, h), tt)
 
-go-same : {A : State → Type 0} (q : State → Bool) (r : Refusal) → Go A (check q r) A
-go-same {A} q r = record { at = λ s a. let g = go-check {A = A} q r .at s a in (g .0, onward-map _ A (check q r s) (λ s x. x .0) (g .1)) }
+go-same : {last : ℕ} {A : State → Type 0} → Not-behind last A → (q : State → Bool) (r : Refusal) → Go last A (check q r) A
+go-same {last} {A} l q r = record {
+  at = λ s a. let g = go-check {last = last} {A = A} l q r .at s a in (g .0, onward-map _ A (check q r s) (λ s x. x .0) (g .1), g .2);
+}
 
-go-due : {A : State → Type 0} → Go A due A
+go-due : {last : ℕ} {A : State → Type 0} → Not-behind last A → Go last A due A
 unfolding due
-go-due = go-same _ ListFull
+go-due l = go-same l _ ListFull
 
-go-refuse : {A B : State → Type 0} (r : Refusal) → Go A (refuse r) B
+go-refuse : {last : ℕ} {A B : State → Type 0} → Not-behind last A → (r : Refusal) → Go last A (refuse r) B
 unfolding refuse
-go-refuse r = record { at = λ s a. (le-refl (s .place .0), tt) }
+go-refuse l r = record { at = λ s a. (le-refl (s .place .0), tt, l s a) }
 
-go-change : {A B : State → Type 0} (f : State → State) → ((s : State) → (f s) .place ≡ s .place) → ((s : State) → A s → B (f s)) → Go A (change f) B
+go-change : {last : ℕ} {A B : State → Type 0} (f : State → State) → ((s : State) → (f s) .place ≡ s .place) → ((s : State) → A s → B (f s)) → Go last A (change f) B
 unfolding change
-go-change f h k = record { at = λ s a. (rise-change f h .at s, k s a) }
+go-change f h k = record { at = λ s a. (rise-change f h .at s, k s a, tt) }
 
 -- the state behind an entry at the place
 abbrev less : State → State
 less s = record { place = s .place; room = s .room - wordsPerEntry; slots = s .slots; order = s .order; clock = s .clock; last = s .last; said = s .said }
 
-go-mark : {A B : State → Type 0} (k n v : ℕ) → ((s : State) → A s → B (less s)) → Go A (mark k n v) B
+go-mark : {last : ℕ} {A B : State → Type 0} (k n v : ℕ) → ((s : State) → A s → B (less s)) → Go last A (mark k n v) B
 unfolding mark listed
-go-mark k n v f = record { at = λ s a. (rise-mark k n v .at s, f s a) }
+go-mark k n v f = record { at = λ s a. (rise-mark k n v .at s, f s a, tt) }
 
-go-end : (to : BitPlace) (n : ℕ) {A : State → Type 0} → ((s : State) → A s → s .place .0 ≤ to .0) → Go A (endPacket to n) (λ s. s .place ≡ to)
+go-end : {last : ℕ} (to : BitPlace) (n : ℕ) → to .0 ≤ last → {A : State → Type 0} → Not-behind (to .0) A → Go last A (endPacket to n) (λ s. s .place ≡ to)
 unfolding endPacket
-go-end to n h = go-due ⨾ᵍ unfold listed in record { at = λ s a. ((h s a, le-refl (to .0)), refl) }
+go-end {last} to n l {A} h = go-due (λ s a. let p : s .place .0 ≤ to .0 = h s a in omega arith) ⨾ᵍ unfold listed in record { at = λ s a. ((h s a, le-refl (to .0)), refl, tt) }
 
-go-if : (p : ℕ) (B : State → Type 0) (b : Bool) (x y : Out) → RiseOut p x × Onward B x → RiseOut p y × Onward B y
-    → RiseOut p (elim b [ true ↦ x | false ↦ y ]) × Onward B (elim b [ true ↦ x | false ↦ y ])
-go-if p B true x y h k = h
-go-if p B false x y h k = k
+go-if : (last p : ℕ) (B : State → Type 0) (b : Bool) (x y : Out) → Goes last B p x → Goes last B p y → Goes last B p (elim b [ true ↦ x | false ↦ y ])
+go-if last p B true x y h k = h
+go-if last p B false x y h k = k
 
 -- what 34 leaves
 record Lengths (b : List ℕ) (p total content : ℕ) (s : State) : Type 0 where
@@ -180,27 +214,34 @@ module _ (t : Asked) (w : Fitting Positive (λ r. Any) Any t) where
             (λ d q. bound-mark e 5 0 (s .said .event) ⨾ᵇ bound-root e (c .common) (w .events i c p .1) ⨾ᵇ bound-root e (d .specific) (w .event _ _ d q .0) ⨾ᵇ bound-root e (d .payload) (w .event _ _ d q .1)) .at s h;
       }
 
-  go-events : (i : ℕ) (c : StreamClass) → t .stream i ≡ some c → (e : Env) (to : BitPlace) (n left : ℕ) → e .bound .0 ≤ to .0 → Go (Inside e) (readEvents t c e to n left) (λ s. s .place ≡ to)
+  go-events : (last i : ℕ) (c : StreamClass) → t .stream i ≡ some c → (e : Env) (to : BitPlace) (n left : ℕ) → e .bound .0 ≤ to .0 → to .0 ≤ last
+      → Go last (Inside e) (readEvents t c e to n left) (λ s. s .place ≡ to)
   unfolding readEvents
-  go-events i c p e to n zero h = go-end to n (λ s a. omega (arith, a .to))
-  go-events i c p e to n (suc left) h = record {
+  go-events last i c p e to n zero h l = go-end to n l (inside-le (to .0) e h)
+  go-events last i c p e to n (suc left) h l = record {
     at = λ s a.
-        go-if (s .place .0) _ (ltb (s .place .0) (e .bound .0)) _ _ ((inside e (rise-event t c e n) (bound-event i c p e n) ⨾ᵍ go-events i c p e to (n + 1) left h) .at s a)
-        (go-end to n {A = Inside e} (λ s a. omega (arith, a .to)) .at s a);
+        go-if last (s .place .0) _ (ltb (s .place .0) (e .bound .0)) _ _
+        ((inside e (omega arith) (rise-event t c e n) (bound-event i c p e n) ⨾ᵍ go-events last i c p e to (n + 1) left h l) .at s a)
+        (go-end to n l {A = Inside e} (inside-le (to .0) e h) .at s a);
   }
 
   -- a packet of some lengths ends behind its total
-  go-content : (i : ℕ) (c : StreamClass) → t .stream i ≡ some c → (b : List ℕ) (p : BitPlace) (total content : ℕ) (e : Env) → e .start ≡ p → (s₀ : State) → Inside e s₀
-      → RiseOut (s₀ .place .0) (readContent t c b p total content s₀)
-      × Onward (λ s. (s .place ≡ further p total) × Lengths b (p .0) total content s₀) (readContent t c b p total content s₀)
+  go-content : (i : ℕ) (c : StreamClass) → t .stream i ≡ some c → (b : List ℕ) (p : BitPlace) (total content : ℕ) (e : Env) → e .start ≡ p → e .bound .0 ≡ 8 * length b
+      → (s₀ : State) → Inside e s₀
+      → Goes (8 * length b) (λ s. (s .place ≡ further p total) × Lengths b (p .0) total content s₀) (s₀ .place .0) (readContent t c b p total content s₀)
   unfolding readContent
-  go-content i c q b p total content e h s₀ a₀ =
-      (go-due ⨾ᵍ go-check _ LengthsContradict ⨾ᵍ go-same _ ClocksContradict ⨾ᵍ marked ⨾ᵍ record {
+  go-content i c q b p total content e h l s₀ a₀ =
+      (go-due (λ s x. near s (x .0)) ⨾ᵍ go-check (λ s x. near s (x .0)) _ LengthsContradict ⨾ᵍ go-same (λ s x. near s (x .0 .0)) _ ClocksContradict ⨾ᵍ marked ⨾ᵍ record {
         at = λ s x.
-            let g = go-events i c q inner (further p total) 0 (p .0 + content - s .place .0) (let o : content ≤ total = x .1 .order in omega arith) .at s (x .0) in
-            (g .0, onward-map _ Done (readEvents t c inner (further p total) 0 (p .0 + content - s .place .0) s) (λ s′ y. (y, x .1)) (g .1));
+            let o : content ≤ total = x .1 .order in
+            let r : p .0 + total ≤ 8 * length b = x .1 .inStream in
+            let g = go-events (8 * length b) i c q inner (further p total) 0 (p .0 + content - s .place .0) (omega arith) (omega arith) .at s (x .0) in
+            (g .0, onward-map _ Done (readEvents t c inner (further p total) 0 (p .0 + content - s .place .0) s) (λ s′ y. (y, x .1)) (g .1), g .2);
       }) .at s₀ (a₀, refl)
     where
+      near : Not-behind (8 * length b) (Inside e)
+      near s a = omega (arith, a .to)
+
       inner : Env
       inner = record { bytes = b; start = p; bound = further p content; uuid = t .uuid }
 
@@ -210,7 +251,7 @@ module _ (t : Asked) (w : Fitting Positive (λ r. Any) Any t) where
       At₀ : State → Type 0
       At₀ s = Inside e s × (s ≡ s₀)
 
-      marked : Go (λ s. At₀ s × ((not (eqb (total % 8) 0) || ltb total content || ltb (8 * length b) (p .0 + total) || ltb (p .0 + content) (s .place .0)) ≡ false))
+      marked : Go (8 * length b) (λ s. At₀ s × ((not (eqb (total % 8) 0) || ltb total content || ltb (8 * length b) (p .0 + total) || ltb (p .0 + content) (s .place .0)) ≡ false))
           (mark 3 total content) (λ s. Inside inner s × Lengths b (p .0) total content s₀)
       marked = go-mark 3 total content (λ s x.
           let l : Lengths b (p .0) total content s = lengths b (p .0) total content s (x .1) in
@@ -226,28 +267,32 @@ module _ (t : Asked) (w : Fitting Positive (λ r. Any) Any t) where
   Behind b p s = (p + 8 ≤ s .place .0) × (s .place .0 % 8 ≡ 0) × (s .place .0 ≤ 8 * length b)
 
   pub go-packet : (b : List ℕ) (k : ℕ) (i : Stated) (s₀ : State) → s₀ .place .0 < 8 * length b → s₀ .place .0 % 8 ≡ 0
-      → RiseOut (s₀ .place .0) (readPacket t b k i s₀) × Onward (Behind b (s₀ .place .0)) (readPacket t b k i s₀)
+      → Goes (8 * length b) (Behind b (s₀ .place .0)) (s₀ .place .0) (readPacket t b k i s₀)
   unfolding readPacket
   go-packet b k i s₀ l z =
-      (go-due ⨾ᵍ marked ⨾ᵍ started ⨾ᵍ inside e (rise-root e (t .header)) (bound-root e (t .header) (w .header)) ⨾ᵍ go-same _ StreamClassChanged ⨾ᵍ go-due
+      (go-due {A = Here} (λ s a. let q : s .place .0 ≡ s₀ .place .0 = ap (λ y. y .0) a in omega arith) ⨾ᵍ marked ⨾ᵍ started
+      ⨾ᵍ inside e (le-refl _) (rise-root e (t .header)) (bound-root e (t .header) (w .header)) ⨾ᵍ go-same near _ StreamClassChanged ⨾ᵍ go-due near
       ⨾ᵍ record { at = λ s a. look s a (t .stream (s .said .stream)) refl }) .at s₀ refl
     where
       e : Env
       e = record { bytes = b; start = s₀ .place; bound = bitPlace (8 * length b); uuid = t .uuid }
 
+      near : Not-behind (8 * length b) (Inside e)
+      near s a = a .to
+
       Here : State → Type 0
       Here s = s .place ≡ s₀ .place
 
-      marked : Go Here (mark 1 0 k) Here
+      marked : Go (8 * length b) Here (mark 1 0 k) Here
       marked = go-mark 1 0 k (λ s a. a)
 
-      started : Go Here (change startPacket) (Inside e)
+      started : Go (8 * length b) Here (change startPacket) (Inside e)
       started = unfold startPacket nothingSaid in go-change _ (λ s. refl) (λ s a.
           let p : s .place .0 ≡ s₀ .place .0 = ap (λ y. y .0) a in
           record { from = omega arith; to = omega arith; moved = inl (refl, refl) })
 
-      second : (v : ℕ) → Go (Inside e) (mark 2 0 v) (Inside e)
-      second v = inside e (rise-mark 2 0 v) (bound-mark e 2 0 v)
+      second : (v : ℕ) → Go (8 * length b) (Inside e) (mark 2 0 v) (Inside e)
+      second v = inside e (le-refl _) (rise-mark 2 0 v) (bound-mark e 2 0 v)
 
       rest : ℕ
       rest = 8 * length b - s₀ .place .0
@@ -279,15 +324,14 @@ module _ (t : Asked) (w : Fitting Positive (λ r. Any) Any t) where
           omega arith
 
       look : (s : State) → Inside e s → (x : Option StreamClass) → t .stream (s .said .stream) ≡ x
-          → RiseOut (s .place .0) (withStream (s .said .stream) x (λ c. mark 2 0 (s .said .stream) ⨾ readRoot e (c .context) ⨾ λ s. readContent t c b (s₀ .place) (totalOf s) (contentOf s) s) s)
-          × Onward (Behind b (s₀ .place .0)) (withStream (s .said .stream) x (λ c. mark 2 0 (s .said .stream) ⨾ readRoot e (c .context) ⨾ λ s. readContent t c b (s₀ .place) (totalOf s) (contentOf s) s) s)
-      look s a none p = unfold withStream in go-refuse {A = Inside e} (StreamClassUnknown (s .said .stream)) .at s a
+          → Goes (8 * length b) (Behind b (s₀ .place .0)) (s .place .0) (withStream (s .said .stream) x (λ c. mark 2 0 (s .said .stream) ⨾ readRoot e (c .context) ⨾ λ s. readContent t c b (s₀ .place) (totalOf s) (contentOf s) s) s)
+      look s a none p = unfold withStream in go-refuse {A = Inside e} near (StreamClassUnknown (s .said .stream)) .at s a
       look s a (some c) p = unfold withStream in
-          (second (s .said .stream) ⨾ᵍ inside e (rise-root e (c .context)) (bound-root e (c .context) (w .context _ c p))
+          (second (s .said .stream) ⨾ᵍ inside e (le-refl _) (rise-root e (c .context)) (bound-root e (c .context) (w .context _ c p))
           ⨾ᵍ record {
             at = λ s a.
-                let g = go-content _ c p b (s₀ .place) (totalOf s) (contentOf s) e refl s a in
-                (g .0, onward-map _ (Behind b (s₀ .place .0)) (readContent t c b (s₀ .place) (totalOf s) (contentOf s) s) (λ s′ x. behind s s′ a x) (g .1));
+                let g = go-content _ c p b (s₀ .place) (totalOf s) (contentOf s) e refl refl s a in
+                (g .0, onward-map _ (Behind b (s₀ .place .0)) (readContent t c b (s₀ .place) (totalOf s) (contentOf s) s) (λ s′ x. behind s s′ a x) (g .1), g .2);
           }) .at s a
 
   -- The packet loop
@@ -312,24 +356,21 @@ module _ (t : Asked) (w : Fitting Positive (λ r. Any) Any t) where
       (λ q. packets-agree (Behind b (s .place .0)) (readPacket t b k i s) _ _ (go-packet b k i s (ltb-true _ _ q) z .1)
       (λ s′ x. let x0 = x .0 in packet-rounds b (k + 1) (As (s′ .said .stream)) left more s′ (x .1) (omega arith))))
 
-  -- the place rises through all packets, and a reading that goes through ends at the stream's end
+  -- the place rises through all packets, a reading that goes through ends at the stream's end, and one that stops does so before it or there
   pub go-packets : (b : List ℕ) (k : ℕ) (i : Stated) (left : ℕ) (s : State) → s .place .0 % 8 ≡ 0 → s .place .0 ≤ 8 * length b → 8 * length b ≤ s .place .0 + 8 * left
-      → RiseOut (s .place .0) (readPackets t b k i left s) × Onward (λ s. s .place .0 ≡ 8 * length b) (readPackets t b k i left s)
+      → Goes (8 * length b) (λ s. s .place .0 ≡ 8 * length b) (s .place .0) (readPackets t b k i left s)
   unfolding readPackets _⨾_
-  go-packets b k i zero s z u h = unfold pass in (le-refl (s .place .0), omega arith)
+  go-packets b k i zero s z u h = unfold pass in (le-refl (s .place .0), omega arith, tt)
   go-packets b k i (suc left) s z u h = by (ltb (s .place .0) (8 * length b)) refl
       (λ s′ x. let x0 = x .0 in go-packets b (k + 1) (As (s′ .said .stream)) left s′ (x .1) (x .2) (omega arith))
     where
       next : Step
       next s = readPackets t b (k + 1) (As (s .said .stream)) left s
 
-      by : (c : Bool) → ltb (s .place .0) (8 * length b) ≡ c
-          → ((s′ : State) → Behind b (s .place .0) s′ → RiseOut (s′ .place .0) (next s′) × Onward (λ s. s .place .0 ≡ 8 * length b) (next s′))
-          → RiseOut (s .place .0) (elim c [ true ↦ after (readPacket t b k i s) next | false ↦ pass s ])
-          × Onward (λ s. s .place .0 ≡ 8 * length b) (elim c [ true ↦ after (readPacket t b k i s) next | false ↦ pass s ])
-      by true q r =
-          let g = go-packet b k i s (ltb-true _ _ q) z in (
-            rise-after (Behind b (s .place .0)) (s .place .0) (readPacket t b k i s) next (g .0) (g .1) (λ s′ x. r s′ x .0),
-            onward-after (Behind b (s .place .0)) _ (readPacket t b k i s) next (g .1) (λ s′ x. r s′ x .1),
-          )
-      by false q r = unfold pass in let g : 8 * length b ≤ s .place .0 = ltb-false _ _ q in (le-refl (s .place .0), omega arith)
+      AtEnd : State → Type 0
+      AtEnd s = s .place .0 ≡ 8 * length b
+
+      by : (c : Bool) → ltb (s .place .0) (8 * length b) ≡ c → ((s′ : State) → Behind b (s .place .0) s′ → Goes (8 * length b) AtEnd (s′ .place .0) (next s′))
+          → Goes (8 * length b) AtEnd (s .place .0) (elim c [ true ↦ after (readPacket t b k i s) next | false ↦ pass s ])
+      by true q r = goes-after (8 * length b) (Behind b (s .place .0)) AtEnd (s .place .0) (readPacket t b k i s) next (go-packet b k i s (ltb-true _ _ q) z) r
+      by false q r = unfold pass in let g : 8 * length b ≤ s .place .0 = ltb-false _ _ q in (le-refl (s .place .0), omega arith, tt)

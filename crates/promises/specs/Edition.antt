@@ -53,6 +53,10 @@ module _ (ks : ℕ → Bool) (ke : ℕ → ℕ → Bool) where
   unfoldable pub leave : List ℕ → List ℕ
   leave x = leaveRecords (length x) true x
 
+-- where every class stays, so does every byte
+abbrev pub NothingLeft : Type 0
+NothingLeft = (x : List ℕ) → leave (λ i. true) (λ i j. true) x ≡ x
+
 -- an accepted table's edition is accepted, and says what it said without the classes left out
 abbrev pub Editions : Type 0
 Editions =

@@ -64,6 +64,8 @@ pub record Laws (x : List ℕ) (t : Table) : Type 0 where
   pub stays : (i : ℕ) (c : StreamClass) → (asked t) .stream i ≡ some c → (e : Env) (n : ℕ) (s : State) → Inside e s → Within e (readEvent (asked t) c e n s)
   -- a reading that goes through ends at the stream's last bit
   pub ends : (b : List ℕ) (room : ℕ) → numberOf ((readAll x b room) .verdict) ≡ 0 → placeOf ((readAll x b room) .verdict) ≡ 8 * length b
+  -- none ends behind it
+  pub place-in : (b : List ℕ) (room : ℕ) → placeOf ((readAll x b room) .verdict) ≤ 8 * length b
   -- each entry takes its words of the room; and where the number is 40, there is none for one more
   pub spends : (b : List ℕ) (room : ℕ) → SpentReading room (readAll x b room)
   -- more room gives the same reading, or the first one has number 40 and its entries come first in the other

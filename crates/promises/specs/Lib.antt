@@ -2,5 +2,11 @@ pub mod Figures
 pub mod Words
 pub mod Edition
 pub mod Missing
+pub mod Clocks
+pub mod Demands
+pub mod Only
+pub mod OnlyRan
 pub mod Laws
 pub mod Cases
+pub mod Rejected
+pub mod Standard

@@ -4,7 +4,7 @@ use Prim.Native.Nat.{ℕ, suc}
 use mathlib.Core.List.{List, [], _∷_}
 use mathlib.Core.Bool.{Bool, true, false, not, _&&_}
 use mathlib.Core.Option.{Option, none, some}
-use lib.ListN.{take}
+use lib.ListN.{length, take}
 use lib.Dec.{eqb}
 use Rattle.rules.specs.declared.Entry.{Entry}
 use Rattle.rules.specs.declared.Refusal.the-variants.{StreamClassUnknown, EventClassUnknown}
@@ -12,10 +12,12 @@ use Rattle.rules.specs.declared.Stop.{Stop}
 use Rattle.rules.specs.declared.Verdict.the-variants.{Refused}
 use Rattle.rules.specs.Verdict.{stopAt}
 use Rattle.rules.specs.Entry.{streamClassFound, eventClassFound}
-use Rattle.rules.specs.Table.{Table, findStream, findEvent}
-use Rattle.rules.specs.Parse.{good, parse}
-use Rattle.rules.specs.Read.{Reading, readAll}
-use Rattle.promises.specs.Edition.{keep, both, leave}
+use Rattle.rules.specs.declared.Checked.the-variants.{Accepted}
+use Rattle.rules.specs.Place.{bitPlace, byteLength}
+use Rattle.rules.specs.Parse.{checked}
+use Rattle.rules.specs.Read.{Reading, readAll, resultOf}
+use Rattle.promises.specs.Figures.{table40, stream1}
+use Rattle.promises.specs.Edition.{both, leave}
 
 -- an entry of a list, by its number from 0, and the refusal that names the class of which it is the finding
 pub record Lost : Type 0 where
@@ -49,34 +51,34 @@ module _ (gs : ℕ → Bool) (ge : ℕ → ℕ → Bool) where
   firstLost i [] = none
   firstLost i (e ∷ es) = front (lost i e) (firstLost (under i e) es)
 
-unfoldable pub has : {A : Type 0} → Option A → Bool
-has none = false
-has (some a) = true
+-- a stream class that does not stay; an event class that does not, or whose stream class does not
+unfoldable pub goneStream : (ℕ → Bool) → ℕ → Bool
+goneStream ks i = not (ks i)
 
--- a class that a table has, and that does not stay; an event class goes with its stream class
-unfoldable pub goneStream : (ℕ → Bool) → Table → ℕ → Bool
-goneStream ks t i = has (findStream (t .streams) i) && not (ks i)
+unfoldable pub goneEvent : (ℕ → Bool) → (ℕ → ℕ → Bool) → ℕ → ℕ → Bool
+goneEvent ks ke i j = not (both ks ke i j)
 
-unfoldable pub goneEvent : (ℕ → Bool) → (ℕ → ℕ → Bool) → Table → ℕ → ℕ → Bool
-goneEvent ks ke t i j = has (findEvent (t .events) i j) && not (ks i && ke i j)
+-- the first finding of a class left out in a list, where ks and ke say which classes stay. An entry 5 stands behind an entry 2, so that
+-- the 0 is not used
+unfoldable pub missed : (ℕ → Bool) → (ℕ → ℕ → Bool) → List Entry → Option Lost
+missed ks ke es = firstLost (goneStream ks) (goneEvent ks ke) 0 es
 
--- the first finding of a class left out in a reading's list. An entry 5 stands behind an entry 2, so that the 0 is not used
-unfoldable pub missed : (ℕ → Bool) → (ℕ → ℕ → Bool) → Table → Reading → Option Lost
-missed ks ke t r = firstLost (goneStream ks t) (goneEvent ks ke t) 0 (r .entries)
+-- an accepted table
+abbrev pub Good : List ℕ → Type 0
+Good x = checked x ≡ Accepted (byteLength (length x))
 
--- a table x, accepted as t; a stream b; room for a list
-pub record MissingClass (ks : ℕ → Bool) (ke : ℕ → ℕ → Bool) (x : List ℕ) (t : Table) (b : List ℕ) (room : ℕ) : Type 0 where
+-- a table x, a stream b, and room for a list
+pub record MissingClass (ks : ℕ → Bool) (ke : ℕ → ℕ → Bool) (x b : List ℕ) (room : ℕ) : Type 0 where
   -- the rest is accepted
-  pub accepted : parse (leave ks ke x) ≡ good (keep ks (both ks ke) t) []
+  pub accepted : Good (leave ks ke x)
   -- the full reading lists the finding of a class that was left out
-  pub cut : (l : Lost) → missed ks ke t (readAll x b room) ≡ some l
+  pub cut : (l : Lost) → missed ks ke ((readAll x b room) .entries) ≡ some l
       → ((readAll (leave ks ke x) b room) .entries ≡ take (l .index) ((readAll x b room) .entries)) × ((readAll (leave ks ke x) b room) .verdict ≡ Refused (l .refusal))
   -- it lists none
-  pub same : missed ks ke t (readAll x b room) ≡ none → readAll (leave ks ke x) b room ≡ readAll x b room
+  pub same : missed ks ke ((readAll x b room) .entries) ≡ none → readAll (leave ks ke x) b room ≡ readAll x b room
 
 abbrev pub Demand3 : Type 0
-Demand3 = (ks : ℕ → Bool) (ke : ℕ → ℕ → Bool) (x : List ℕ) (t : Table) (y : List ℕ) → parse x ≡ good t y → (b : List ℕ) (room : ℕ)
-    → MissingClass ks ke x t b room
+Demand3 = (ks : ℕ → Bool) (ke : ℕ → ℕ → Bool) (x : List ℕ) → Good x → (b : List ℕ) (room : ℕ) → MissingClass ks ke x b room
 
 -- the same as one equation: the short reading is a function of the whole one
 unfoldable pub shortened : Option Lost → Reading → Reading
@@ -84,5 +86,16 @@ shortened none r = r
 shortened (some l) r = record { entries = take (l .index) (r .entries); verdict = Refused (l .refusal) }
 
 abbrev pub Demand3≡ : Type 0
-Demand3≡ = (ks : ℕ → Bool) (ke : ℕ → ℕ → Bool) (x : List ℕ) (t : Table) (y : List ℕ) → parse x ≡ good t y → (b : List ℕ) (room : ℕ)
-    → readAll (leave ks ke x) b room ≡ shortened (missed ks ke t (readAll x b room)) (readAll x b room)
+Demand3≡ = (ks : ℕ → Bool) (ke : ℕ → ℕ → Bool) (x : List ℕ) → Good x → (b : List ℕ) (room : ℕ)
+    → readAll (leave ks ke x) b room ≡ shortened (missed ks ke ((readAll x b room) .entries)) (readAll x b room)
+
+-- the figure's table "with the event class left out: 37, four entries, ids 0 and 0"; and with its stream class left out
+pub record Demand3Figures : Type 0 where
+  pub event-bytes : leave (λ i. true) (λ i j. false) table40 ≡ take 12 table40
+  pub event-missed : missed (λ i. true) (λ i j. false) ((readAll table40 stream1 32) .entries)
+      ≡ some (record { index = 4; refusal = stopAt (EventClassUnknown 0 0) (bitPlace 0) })
+  pub event-result : resultOf (readAll (take 12 table40) stream1 32) ≡ record { number = 37; entries = 4; place = 0; first = 0; second = 0 }
+  pub stream-bytes : leave (λ i. false) (λ i j. true) table40 ≡ take 2 table40
+  pub stream-missed : missed (λ i. false) (λ i j. true) ((readAll table40 stream1 32) .entries)
+      ≡ some (record { index = 1; refusal = stopAt (StreamClassUnknown 0) (bitPlace 0) })
+  pub stream-result : resultOf (readAll (take 2 table40) stream1 32) ≡ record { number = 33; entries = 1; place = 0; first = 0; second = 0 }

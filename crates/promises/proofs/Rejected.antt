@@ -1,0 +1,145 @@
+-- Readers that are no good fail on the figure's table and stream: by computation.
+use mathlib.Core.Path.{_≡_, refl, sym, ap, _∙_}
+use mathlib.Core.Logic.{_⊎_, inl, inr}
+use Prim.Native.Nat.{ℕ}
+use native.Mathlib.Omega.{arith}
+use mathlib.Core.List.{List, [], _∷_}
+use mathlib.Core.Bool.{not, true}
+use mathlib.Core.Option.{none}
+use lib.ListN.{length, getD, replicate}
+use lib.Dec.{eqb}
+use Rattle.rules.specs.Verdict.{numberOf}
+use Rattle.rules.specs.Table.{Table}
+use Rattle.rules.specs.Parse.{Parsed, bad, good, parse}
+use Rattle.rules.specs.Read.{readStream, readAll, resultOf, listAfter}
+use Rattle.rules.specs.Opened.{opened}
+use Rattle.promises.specs.Figures.{table40, stream1}
+use Rattle.promises.specs.Cases.{numbered}
+use Rattle.promises.specs.Edition.{keep, both, keepStreams, keepEvents}
+use Rattle.promises.specs.Missing.{missed, shortened, goneStream, goneEvent, firstLost, lost, front, later, under}
+use Rattle.promises.specs.Rejected.{Reader, Meets, Refusing, Fixed, Silent, AtOnce, WholeOrNone, Demand3By, nearestEvent, nearest, Rejected}
+use Rattle.promises.proofs.Exact.{left-out}
+
+-- lists of 32 words and of 31
+abbrev zeros : ℕ → List ℕ
+zeros n = replicate n 0
+
+-- the figure's result, and words of its list
+accepts : (resultOf (readAll table40 stream1 32)) .number ≡ 0
+unfolding opened
+accepts = refl
+
+entries-32 : (resultOf (readAll table40 stream1 32)) .entries ≡ 8
+unfolding opened
+entries-32 = refl
+
+entries-31 : (resultOf (readAll table40 stream1 31)) .entries ≡ 7
+unfolding opened
+entries-31 = refl
+
+word : ℕ → ℕ → ℕ
+word v i = getD (listAfter (readAll table40 (v ∷ []) 32) (zeros 32)) i 0
+
+first-kind : word 42 0 ≡ 1
+unfolding opened word
+first-kind = refl
+
+first-place : word 42 1 ≡ 0
+unfolding opened word
+first-place = refl
+
+last-place : word 42 29 ≡ 8
+unfolding opened word
+last-place = refl
+
+value-42 : word 42 27 ≡ 42
+unfolding opened word
+value-42 = refl
+
+value-43 : word 43 27 ≡ 43
+unfolding opened word
+value-43 = refl
+
+module _ (f : Reader) (m : Meets f) where
+  result-of : (n : ℕ) → length (zeros n) ≡ n → (f table40 stream1 (zeros n)) .0 ≡ resultOf (readAll table40 stream1 n)
+  result-of n h = m table40 stream1 (zeros n) .result ∙ ap (λ z. resultOf (readAll table40 stream1 z)) h
+
+  word-of : (v i : ℕ) → getD ((f table40 (v ∷ []) (zeros 32)) .1) i 0 ≡ word v i
+  unfolding word
+  word-of v i = ap (λ l. getD l i 0) (m table40 (v ∷ []) (zeros 32) .list)
+
+  eight : (f table40 stream1 (zeros 32)) .0 .entries ≡ 8
+  eight = ap (λ r. r .entries) (result-of 32 refl) ∙ entries-32
+
+  seven-31 : (f table40 stream1 (zeros 31)) .0 .entries ≡ 7
+  seven-31 = ap (λ r. r .entries) (result-of 31 refl) ∙ entries-31
+
+  no-refusing : Refusing f → ⊥
+  no-refusing h = h table40 stream1 (zeros 32) (ap (λ r. r .number) (result-of 32 refl) ∙ accepts)
+
+  no-fixed : Fixed f → ⊥
+  no-fixed h =
+      let p : _≡_ {A = ℕ} 42 43 = sym (word-of 42 27 ∙ value-42) ∙ ap (λ l. getD l 27 0) (h table40 table40 (42 ∷ []) (43 ∷ []) (zeros 32)) ∙ (word-of 43 27 ∙ value-43) in
+      omega arith
+
+  no-silent : Silent f → ⊥
+  no-silent h = let p : _≡_ {A = ℕ} 1 0 = sym (word-of 42 0 ∙ first-kind) ∙ ap (λ l. getD l 0 0) (h table40 stream1 (zeros 32)) in omega arith
+
+  no-at-once : AtOnce f → ⊥
+  no-at-once h =
+      let p : _≡_ {A = ℕ} 8 0 = sym (word-of 42 29 ∙ last-place) ∙ h table40 (zeros 32) 42 7 (omega (arith, eight)) ∙ (word-of 42 1 ∙ first-place) in
+      omega arith
+
+  no-whole : WholeOrNone f → ⊥
+  no-whole h = by (h table40 (zeros 32) (zeros 31) 42 (omega arith))
+    where
+      by : ((f table40 stream1 (zeros 31)) .0 .entries ≡ (f table40 stream1 (zeros 32)) .0 .entries) ⊎ ((f table40 stream1 (zeros 31)) .0 .entries ≡ 0) → ⊥
+      by (inl p) = let q = sym seven-31 ∙ p ∙ eight in omega arith
+      by (inr p) = let q = sym seven-31 ∙ p in omega arith
+
+-- Event classes 0 and 2, and an event that says 1: the nearest is 2. Where that is left out, no entry names it, and yet the short reading is
+-- refused
+
+tableOf : Parsed Table → Table
+tableOf (bad n x) = record { uuid = []; header = none; streams = []; events = [] }
+tableOf (good t x) = t
+
+abbrev two : Table
+two = tableOf (parse numbered)
+
+is-two : parse numbered ≡ good two []
+unfolding opened tableOf
+is-two = refl
+
+full-number : numberOf ((readStream (nearest two) (1 ∷ []) 400) .verdict) ≡ 0
+unfolding opened tableOf nearest nearestEvent
+full-number = refl
+
+full-missed : missed (λ i. true) (λ i j. not (eqb j 2)) ((readStream (nearest two) (1 ∷ []) 400) .entries) ≡ none
+unfolding opened tableOf nearest nearestEvent missed goneStream goneEvent both firstLost lost front later under
+full-missed = refl
+
+short-number : numberOf ((readStream (nearest (keep (λ i. true) (both (λ i. true) (λ i j. not (eqb j 2))) two)) (1 ∷ []) 400) .verdict) ≡ 37
+unfolding opened tableOf nearest nearestEvent keep both keepStreams keepEvents
+short-number = refl
+
+no-nearest : Demand3By nearest → ⊥
+unfolding shortened
+no-nearest h =
+    let d = h (λ i. true) (λ i j. not (eqb j 2)) numbered two [] is-two (1 ∷ []) 400 in
+    let e = d ∙ ap (λ o. shortened o (readStream (nearest two) (1 ∷ []) 400)) full-missed in
+    let p : _≡_ {A = ℕ} 37 0 = sym short-number ∙ ap (λ r. numberOf (r .verdict)) e ∙ full-number in
+    omega arith
+
+pub rejected : Rejected
+unfolding missed
+rejected = record {
+  admitted = λ x b ws. record { result = refl; list = refl };
+  refusing = λ f h m. no-refusing f m h;
+  fixed = λ f h m. no-fixed f m h;
+  silent = λ f h m. no-silent f m h;
+  at-once = λ f h m. no-at-once f m h;
+  whole-or-none = λ f h m. no-whole f m h;
+  exact-id = λ ks ke x t y p b room. left-out ks ke t 0 b room;
+  nearest-id = no-nearest;
+}
