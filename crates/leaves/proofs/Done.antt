@@ -36,11 +36,11 @@ use Rattle.listing.specs.declared.State.{State}
 use Rattle.listing.specs.declared.Went.the-variants.{On, Stopped}
 use Rattle.listing.specs.declared.role.Roled.{Roled}
 use Rattle.listing.specs.Did.{full, RoleDid}
-use Rattle.listing.proofs.Roles.{went-no-further}
+use Rattle.listing.proofs.Roles.{went-no-further, went-listing}
 use Rattle.listing.proofs.Parts.{Part, lent, merged, part-last-on, part-last-stopped, back-room}
 use Rattle.leaves.specs.Settled.{Then, settle, listing, thenBits, thenFixed, thenLeb, forLength}
 use Rattle.leaves.specs.declared.Leaf.{Leaf}
-use Rattle.leaves.specs.Done.{LeafDid, thenSet, behindState, stoppedLeaf}
+use Rattle.leaves.specs.Done.{LeafDid, thenSet, withoutRole, behindState, stoppedLeaf}
 
 module _ (x : Entry) (o : LastOrder) (i : ℕ) (c : Content) (r : Role) (w : ℕ) (st : State) (ws ws₁ : List ℕ)
     (h : 4 ≤ length ws) (e : ws₁ ≡ words (x ∷ []) ++ drop 4 ws) where
@@ -78,6 +78,23 @@ pub same-did : {m m′ : Step} {st : State} {d : Leaf} {ws ws′ : List ℕ}
     → LeafDid m st d ws ws′ → LeafDid m′ st d ws ws′
 same-did same did = record { at = λ l n. rw (← same l n) (did .at l n); none = did .none }
 
+-- Where there is no role: entry and slot
+
+module _ (x : Entry) (o : LastOrder) (i : ℕ) (c : Content) where
+  pub without-role-did : (st : State) {ws ws′ : List ℕ} → 4 ≤ length ws → ws′ ≡ words (x ∷ []) ++ drop 4 ws
+      → LeafDid (withoutRole x o i c) st (record { went = On; used = 4; state = behindState x o st; slot = i; content = c }) ws ws′
+  unfolding withoutRole _⨾_ after onto listed change withOrder store withSlots
+  without-role-did st h e = record {
+    at = λ l n. went-listing _ st (behindState x o st) (setSlot l i c) x _ _ refl e h;
+    none = λ v k. let z : _≡_ {A = ℕ} 0 1 = cc in absurd (omega arith);
+  }
+
+  -- a role that is none does nothing, whatever the width
+  pub no-role-did : (w : ℕ) {st : State} {d : Leaf} {ws ws′ : List ℕ} → LeafDid (withoutRole x o i c) st d ws ws′
+      → LeafDid (thenSet x o i c noRole w) st d ws ws′
+  unfolding withoutRole thenSet _⨾_ after onto listed change withOrder store withSlots role pass
+  no-role-did w did = same-did (λ l n. refl) did
+
 -- nothing is set past the end
 set-past : (l : Slots) (i : ℕ) (x : Slot) → length l ≤ i → set l i x ≡ l
 set-past [] i x h = refl
@@ -99,10 +116,10 @@ module _ {x y : Found} (is : x ≡ y) where
     unfolding settle thenFixed thenSet listing
     fixed-did k o i r did = rw (← is, e) did
 
-    pub bits-did : (k : ℕ) (o : Order) → LeafDid (thenSet (entry k p n v) (Was o) noSlot Unset noRole n) st d ws ws′
+    pub bits-did : (k : ℕ) (o : Order) → LeafDid (withoutRole (entry k p n v) (Was o) noSlot Unset) st d ws ws′
         → LeafDid (settle y (thenBits k o)) st d ws ws′
     unfolding settle thenBits thenSet listing
-    bits-did k o did = rw (← is, e) did
+    bits-did k o did = rw (← is, e) (no-role-did (entry k p n v) (Was o) noSlot Unset n did)
 
     -- where the order stays the packet's last
     pub leb-did : (k : ℕ) (c : ℕ → Content) (i : ℕ) (r : Role)
@@ -111,10 +128,10 @@ module _ {x y : Found} (is : x ≡ y) where
     leb-did k c i r did = rw (← is, e) (same-did (λ l h. ap (onto (entry k p n v ∷ [])) (onto-nil _)) did)
 
     -- with no slot and no role
-    pub plain-did : (k w : ℕ) → LeafDid (thenSet (entry k p n v) (st .order) noSlot Unset noRole w) st d ws ws′
+    pub plain-did : (k : ℕ) → LeafDid (withoutRole (entry k p n v) (st .order) noSlot Unset) st d ws ws′
         → LeafDid (settle y (listing k)) st d ws ws′
-    unfolding settle thenSet listing _⨾_ after onto listed change withOrder store withSlots role pass setSlot
-    plain-did k w did = rw (← is, e) (same-did (λ l h. rw (set-past l noSlot _ (omega arith)) refl) did)
+    unfolding settle withoutRole listing _⨾_ after onto listed change withOrder store withSlots setSlot
+    plain-did k did = rw (← is, e) (same-did (λ l h. rw (set-past l noSlot _ (omega arith)) refl) did)
 
 -- A length that a slot gives, or none
 

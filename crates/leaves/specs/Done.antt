@@ -32,5 +32,9 @@ stoppedLeaf v n st = record { went = Stopped v; used = n; state = st; slot = 255
 unfoldable pub thenSet : Entry → LastOrder → ℕ → Content → Role → ℕ → Step
 thenSet x o i c r w = listed x (further (x .place) (x .bits)) ⨾ change (withOrder o) ⨾ store i c ⨾ role r w (x .value)
 
+-- the same where there is no role: entry and slot
+unfoldable pub withoutRole : Entry → LastOrder → ℕ → Content → Step
+withoutRole x o i c = listed x (further (x .place) (x .bits)) ⨾ change (withOrder o) ⨾ store i c
+
 abbrev pub behindState : Entry → LastOrder → State → State
 behindState x o st = record { place = further (x .place) (x .bits); order = o; clock = st .clock; last = st .last; said = st .said }

@@ -15,7 +15,7 @@ ghost use lib.ListN.{length};
 ghost use Rattle.rules.specs.Faults.{roleOf};
 ghost use Rattle.rules.specs.Verdict.{stopAt};
 ghost use Rattle.listing.specs.Roled.{Stamp};
-ghost use Rattle.leaves.specs.Done.{LeafDid, thenSet, behindState, stoppedLeaf};
+ghost use Rattle.leaves.specs.Done.{LeafDid, thenSet, withoutRole, behindState, stoppedLeaf};
 
 pub const NO_SLOT: u8 = 255;
 
@@ -61,6 +61,29 @@ pub fn finish(
             }
         }
         Went::Stopped(stop) => stopped(stop, 4 + done.used, st),
+    }
+}
+
+// The same of a leaf that has no role, as most have none.
+pub fn finish_without_role(
+    entry: Entry,
+    order: LastOrder,
+    slot: u8,
+    content: Content,
+    st: State,
+    list: &mut [u64],
+) -> Leaf
+    requires { ⌜ 4 ≤ length (now list) ⌝ }
+    requires { ⌜ entry .place .0 + entry .bits < 2 ^ 64 ⌝ }
+    ensures { λ r. ⌜ LeafDid (withoutRole entry order slot content) st r (now (list .entry)) (now (list .exit)) ⌝ }
+{
+    entry::write(list, entry);
+    Leaf {
+        went: Went::On,
+        used: 4,
+        state: behind(entry, order, st),
+        slot,
+        content,
     }
 }
 

@@ -6,6 +6,7 @@ use leaves::Leaf;
 use leaves::after::NO_ROLE;
 use leaves::after::NO_SLOT;
 use leaves::after::finish;
+use leaves::after::finish_without_role;
 use leaves::after::refused;
 use listing::State;
 use rules::Content;
@@ -99,7 +100,7 @@ fn read_bits(
     let last = st.order;
     match find::find_bits(stream, frame, from, last, width, order, exponent) {
         Found::Refused(why) => refused(why, st),
-        Found::At { place, bits, value } => finish(
+        Found::At { place, bits, value } => finish_without_role(
             Entry {
                 kind,
                 place,
@@ -109,8 +110,6 @@ fn read_bits(
             LastOrder::Was(order),
             NO_SLOT,
             Content::Unset,
-            NO_ROLE,
-            bits,
             st,
             list,
         ),
@@ -140,7 +139,7 @@ pub fn read_boolean(
     let last = st.order;
     match find::find_bits(stream, frame, from, last, width, order, exponent) {
         Found::Refused(why) => refused(why, st),
-        Found::At { place, bits, value } => finish(
+        Found::At { place, bits, value } => finish_without_role(
             Entry {
                 kind: BOOLEAN,
                 place,
@@ -150,8 +149,6 @@ pub fn read_boolean(
             LastOrder::Was(order),
             slot,
             Content::Flag(any_bit(value)),
-            NO_ROLE,
-            bits,
             st,
             list,
         ),
@@ -194,21 +191,28 @@ pub fn read_unsigned(
     let last = st.order;
     match find::find_bits(stream, frame, from, last, width, order, exponent) {
         Found::Refused(why) => refused(why, st),
-        Found::At { place, bits, value } => finish(
-            Entry {
+        Found::At { place, bits, value } => {
+            let entry = Entry {
                 kind: UNSIGNED,
                 place,
                 bits,
                 value,
-            },
-            LastOrder::Was(order),
-            slot,
-            Content::Unsigned(value),
-            role,
-            bits,
-            st,
-            list,
-        ),
+            };
+            let content = Content::Unsigned(value);
+            if role == NO_ROLE {
+                return finish_without_role(entry, LastOrder::Was(order), slot, content, st, list);
+            }
+            finish(
+                entry,
+                LastOrder::Was(order),
+                slot,
+                content,
+                role,
+                bits,
+                st,
+                list,
+            )
+        }
     }
 }
 
@@ -241,7 +245,7 @@ pub fn read_signed(
             value: number,
         } => {
             let value = bits::sign_extend(number, bits);
-            finish(
+            finish_without_role(
                 Entry {
                     kind: SIGNED,
                     place,
@@ -251,8 +255,6 @@ pub fn read_signed(
                 LastOrder::Was(order),
                 slot,
                 Content::Signed(value),
-                NO_ROLE,
-                bits,
                 st,
                 list,
             )

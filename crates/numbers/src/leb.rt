@@ -5,6 +5,7 @@ use finding::find::Found;
 use leaves::Leaf;
 use leaves::after::NO_ROLE;
 use leaves::after::finish;
+use leaves::after::finish_without_role;
 use leaves::after::refused;
 use listing::State;
 use rules::Content;
@@ -43,21 +44,19 @@ pub fn read_unsigned_leb(
     let last = st.order;
     match find::find_unsigned(stream, frame, from) {
         Found::Refused(why) => refused(why, st),
-        Found::At { place, bits, value } => finish(
-            Entry {
+        Found::At { place, bits, value } => {
+            let entry = Entry {
                 kind: UNSIGNED_LEB,
                 place,
                 bits,
                 value,
-            },
-            last,
-            slot,
-            Content::Unsigned(value),
-            role,
-            7 * (bits / 8),
-            st,
-            list,
-        ),
+            };
+            let content = Content::Unsigned(value);
+            if role == NO_ROLE {
+                return finish_without_role(entry, last, slot, content, st, list);
+            }
+            finish(entry, last, slot, content, role, 7 * (bits / 8), st, list)
+        }
     }
 }
 
@@ -74,7 +73,7 @@ pub fn read_signed_leb(slot: u8, stream: &[u8], frame: Frame, st: State, list: &
     let last = st.order;
     match find::find_signed(stream, frame, from) {
         Found::Refused(why) => refused(why, st),
-        Found::At { place, bits, value } => finish(
+        Found::At { place, bits, value } => finish_without_role(
             Entry {
                 kind: SIGNED_LEB,
                 place,
@@ -84,8 +83,6 @@ pub fn read_signed_leb(slot: u8, stream: &[u8], frame: Frame, st: State, list: &
             last,
             slot,
             Content::Signed(value),
-            NO_ROLE,
-            bits,
             st,
             list,
         ),

@@ -33,7 +33,7 @@ use Rattle.listing.specs.Did.{outOf}
 use Rattle.listing.proofs.Checks.{check-stops, check-goes}
 use Rattle.leaves.specs.declared.Leaf.{Leaf}
 use Rattle.leaves.specs.Settled.{settle, listing, thenBlob}
-use Rattle.leaves.specs.Done.{LeafDid, thenSet, stoppedLeaf}
+use Rattle.leaves.specs.Done.{LeafDid, withoutRole, stoppedLeaf}
 use Rattle.leaves.proofs.Settled.{settle-same, listing-goes}
 use Rattle.leaves.proofs.Done.{same-did, plain-did}
 
@@ -127,12 +127,12 @@ module _ (b uuid : List ℕ) (f : Frame) where
       unfolding bytesAt
       is-role = rw (value) (rw (byte) at told)
 
-      pub uuid-did : t ≡ true → (w : ℕ) {st : State} {d : Leaf} {ws ws′ : List ℕ}
-          → LeafDid (thenSet (entry 25 p n v) (st .order) noSlot Unset noRole w) st d ws ws′
+      pub uuid-did : t ≡ true → {st : State} {d : Leaf} {ws ws′ : List ℕ}
+          → LeafDid (withoutRole (entry 25 p n v) (st .order) noSlot Unset) st d ws ws′
           → LeafDid (settle y (thenBlob env 25 uuidRole)) st d ws ws′
       unfolding settle thenBlob blobRole
-      uuid-did e w did = rw (← is, at)
-          (same-did (λ l i. sym (listing-goes 25 p n v _ _ (check-goes _ WrongUuid _ (rw (← is-role, e) refl)))) (plain-did refl refl 25 w did))
+      uuid-did e did = rw (← is, at)
+          (same-did (λ l i. sym (listing-goes 25 p n v _ _ (check-goes _ WrongUuid _ (rw (← is-role, e) refl)))) (plain-did refl refl 25 did))
 
       pub wrong-uuid-did : t ≡ false → (st : State) {ws ws′ : List ℕ} → 4 ≤ length ws → ws′ ≡ words (entry 25 p n v ∷ []) ++ drop 4 ws
           → LeafDid (settle y (thenBlob env 25 uuidRole)) st (stoppedLeaf (stopAt WrongUuid (further p n)) 4 st) ws ws′

@@ -5,9 +5,8 @@ use finding::find::Found;
 use finding::slots;
 use finding::slots::Length;
 use leaves::Leaf;
-use leaves::after::NO_ROLE;
 use leaves::after::NO_SLOT;
-use leaves::after::finish;
+use leaves::after::finish_without_role;
 use leaves::after::refused;
 use leaves::after::stopped;
 use listing::State;
@@ -137,16 +136,7 @@ fn read_uuid(
             };
             let at = places::bytes_before(place);
             if same(stream, at.0, bytes.0, uuid) {
-                return finish(
-                    entry,
-                    last,
-                    NO_SLOT,
-                    Content::Unset,
-                    NO_ROLE,
-                    bits,
-                    st,
-                    list,
-                );
+                return finish_without_role(entry, last, NO_SLOT, Content::Unset, st, list);
             }
             entry::write(list, entry);
             let behind = places::further(place, bits);
@@ -243,7 +233,7 @@ fn list_found(kind: u64, found: Found, st: State, list: &mut [u64]) -> Leaf
     let last = st.order;
     match found {
         Found::Refused(why) => refused(why, st),
-        Found::At { place, bits, value } => finish(
+        Found::At { place, bits, value } => finish_without_role(
             Entry {
                 kind,
                 place,
@@ -253,8 +243,6 @@ fn list_found(kind: u64, found: Found, st: State, list: &mut [u64]) -> Leaf
             last,
             NO_SLOT,
             Content::Unset,
-            NO_ROLE,
-            bits,
             st,
             list,
         ),

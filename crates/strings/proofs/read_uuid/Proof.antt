@@ -4,7 +4,7 @@ use Rattle.strings.proofs.read_uuid.Statement.{statement}
 use Rattle.strings.proofs.read_uuid.Tie as tie
 use Rattle.strings.proofs.read_uuid.Reads as reads
 use Rattle.strings.proofs.read_uuid.Lts as lts
-use Rattle.leaves.proofs.after.finish.Reads as finish-reads
+use Rattle.leaves.proofs.after.finish_without_role.Reads as finish-without-role-reads
 use Rattle.leaves.proofs.after.refused.Reads as refused-reads
 use Rattle.leaves.proofs.after.stopped.Reads as stopped-reads
 use Rattle.strings.proofs.same.Reads as same-reads
@@ -12,8 +12,6 @@ use Rattle.listing.proofs.entry.write.Reads as write-reads
 use Rattle.finding.proofs.find.find_blob.Reads as find-blob-reads
 use Rattle.places.proofs.bytes_before.Reads as bytes-before-reads
 use Rattle.places.proofs.further.Reads as further-reads
-use native.Mathlib.Omega.{arith}
-use Rattle.rules.specs.Faults.{roles, roleOf}
 use Rattle.leaves.proofs.Done.{refused-did}
 use Rattle.finding.proofs.Lies.{blob-lies}
 use Rattle.strings.proofs.Uuid.{uuid-did, wrong-uuid-did}
@@ -36,15 +34,14 @@ bytes-before-requires c κs = search needs
 same-requires : tie.Need-same-requires
 same-requires c κs = rw (c .bytes-before .ensures) (blob-lies (c .before .before .before .before .before .before .before .before .before .pre .0) (c .before .before .place .given .1) _ (c .before .before .before .before .find-blob .ensures) .1)
 
-finish-requires : tie.Need-finish-requires
-finish-requires c κs = (c .before .before .before .before .before .before .before .before .before .before .before .before .pre .1 .1, (blob-lies (c .before .before .before .before .before .before .before .before .before .before .before .before .pre .0) (c .before .before .before .before .before .place .given .1) _ (c .before .before .before .before .before .before .before .find-blob .ensures) .0, λ e. absurd (omega arith)))
+finish-without-role-requires : tie.Need-finish-without-role-requires
+finish-without-role-requires c κs = (c .before .before .before .before .before .before .before .before .before .before .before .before .pre .1 .1, blob-lies (c .before .before .before .before .before .before .before .before .before .before .before .before .pre .0) (c .before .before .before .before .before .place .given .1) _ (c .before .before .before .before .before .before .before .find-blob .ensures) .0)
 
 same-length : tie.Need-same-length
 same-length c = search needs
 
 returns : tie.Need-returns
-unfolding roleOf roles
-returns c = uuid-did _ _ _ (c .before .before .before .before .before .before .before .before .before .before .find-blob .ensures) (c .before .before .before .before .before .before .before .before .place .given .1) (c .before .before .before .before .before .before .bytes-before .ensures) (blob-lies (c .before .before .before .before .before .before .before .before .before .before .before .before .before .before .before .pre .0) (c .before .before .before .before .before .before .before .before .place .given .1) _ (c .before .before .before .before .before .before .before .before .before .before .find-blob .ensures) .2) (c .before .before .before .before .before .same .ensures) (c .before .before .before .before .if1 .taken) _ (c .before .before .finish .ensures)
+returns c = uuid-did _ _ _ (c .before .before .before .before .before .before .before .before .before .before .find-blob .ensures) (c .before .before .before .before .before .before .before .before .place .given .1) (c .before .before .before .before .before .before .bytes-before .ensures) (blob-lies (c .before .before .before .before .before .before .before .before .before .before .before .before .before .before .before .pre .0) (c .before .before .before .before .before .before .before .before .place .given .1) _ (c .before .before .before .before .before .before .before .before .before .before .find-blob .ensures) .2) (c .before .before .before .before .before .same .ensures) (c .before .before .before .before .if1 .taken) (c .before .before .finish-without-role .ensures)
 
 write-requires : tie.Need-write-requires
 write-requires c κs = c .before .before .before .before .before .before .before .before .before .before .before .before .pre .1 .1
@@ -75,7 +72,7 @@ read-uuid-spec =
     enum-known-place
     bytes-before-requires
     same-requires
-    finish-requires
+    finish-without-role-requires
     same-length
     returns
     write-requires

@@ -4,11 +4,9 @@ use Rattle.numbers.proofs.fixed.read_bits.Statement.{statement}
 use Rattle.numbers.proofs.fixed.read_bits.Tie as tie
 use Rattle.numbers.proofs.fixed.read_bits.Reads as reads
 use Rattle.numbers.proofs.fixed.read_bits.Lts as lts
-use Rattle.leaves.proofs.after.finish.Reads as finish-reads
+use Rattle.leaves.proofs.after.finish_without_role.Reads as finish-without-role-reads
 use Rattle.leaves.proofs.after.refused.Reads as refused-reads
 use Rattle.finding.proofs.find.find_bits.Reads as find-bits-reads
-use native.Mathlib.Omega.{arith}
-use Rattle.rules.specs.Faults.{roles, roleOf}
 use Rattle.leaves.proofs.Done.{refused-did, bits-did}
 use Rattle.finding.proofs.Lies.{bits-lie}
 
@@ -24,9 +22,9 @@ refused-requires c κs = search needs
 enum-known-place : tie.Need-enum-known-place
 enum-known-place c = search needs
 
-finish-requires : tie.Need-finish-requires
-finish-requires c κs = let lies = bits-lie (c .before .before .before .before .before .before .before .before .pre .0) (c .before .before .place .given .1) _ _ _ _ (c .before .before .before .before .find-bits .ensures) in
-    (c .before .before .before .before .before .before .before .before .pre .1 .1, (lies .0, λ e. absurd (omega arith)))
+finish-without-role-requires : tie.Need-finish-without-role-requires
+finish-without-role-requires c κs = let lies = bits-lie (c .before .before .before .before .before .before .before .before .pre .0) (c .before .before .place .given .1) _ _ _ _ (c .before .before .before .before .find-bits .ensures) in
+    (c .before .before .before .before .before .before .before .before .pre .1 .1, lies .0)
 
 returns : tie.Need-returns
 returns c = rw (c .refused .ensures) (refused-did (c .before .before .before .before .find-bits .ensures) (c .before .before .why .given .1) _ _ _)
@@ -35,8 +33,7 @@ same-length : tie.Need-same-length
 same-length c = search needs
 
 returns-2 : tie.Need-returns-2
-unfolding roleOf roles
-returns-2 c = bits-did (c .before .before .before .before .before .before .before .find-bits .ensures) (c .before .before .before .before .before .place .given .1) _ _ (c .before .before .finish .ensures)
+returns-2 c = bits-did (c .before .before .before .before .before .before .before .find-bits .ensures) (c .before .before .before .before .before .place .given .1) _ _ (c .before .before .finish-without-role .ensures)
 
 pub read-bits-spec : {M : Type 1} → statement M
 read-bits-spec =
@@ -46,7 +43,7 @@ read-bits-spec =
     enum-known-why
     refused-requires
     enum-known-place
-    finish-requires
+    finish-without-role-requires
     returns
     same-length
     returns-2)

@@ -5,14 +5,13 @@ use Rattle.numbers.proofs.fixed.read_signed.Tie as tie
 use Rattle.numbers.proofs.fixed.read_signed.Reads as reads
 use Rattle.numbers.proofs.fixed.read_signed.Lts as lts
 use Rattle.bits.proofs.sign_extend.Reads as sign-extend-reads
-use Rattle.leaves.proofs.after.finish.Reads as finish-reads
+use Rattle.leaves.proofs.after.finish_without_role.Reads as finish-without-role-reads
 use Rattle.leaves.proofs.after.refused.Reads as refused-reads
 use Rattle.finding.proofs.find.find_bits.Reads as find-bits-reads
 use native.Mathlib.Omega.{arith}
 use Rattle.rules.specs.Class.{signedInt, kindOf}
 use Rattle.rules.specs.Field.{valueOf, slotOf}
-use Rattle.rules.specs.Faults.{roles, roleOf}
-use Rattle.leaves.proofs.Done.{refused-did, fixed-did}
+use Rattle.leaves.proofs.Done.{refused-did, fixed-did, no-role-did}
 use Rattle.finding.proofs.Lies.{bits-lie}
 
 find-bits-requires : tie.Need-find-bits-requires
@@ -31,9 +30,9 @@ sign-extend-requires : tie.Need-sign-extend-requires
 sign-extend-requires c κs = let lies = bits-lie (c .before .before .before .before .before .before .before .pre .0) (c .before .place .given .1) _ _ _ _ (c .before .before .before .find-bits .ensures) in
     (omega (arith, lies .2, c .before .before .before .before .before .before .before .pre .1 .0 .0), omega (arith, lies .2, c .before .before .before .before .before .before .before .pre .1 .0 .1), lies .1)
 
-finish-requires : tie.Need-finish-requires
-finish-requires c κs = let lies = bits-lie (c .before .before .before .before .before .before .before .before .before .pre .0) (c .before .before .before .place .given .1) _ _ _ _ (c .before .before .before .before .before .find-bits .ensures) in
-    (c .before .before .before .before .before .before .before .before .before .pre .1 .1, (lies .0, λ e. absurd (omega arith)))
+finish-without-role-requires : tie.Need-finish-without-role-requires
+finish-without-role-requires c κs = let lies = bits-lie (c .before .before .before .before .before .before .before .before .before .pre .0) (c .before .before .before .place .given .1) _ _ _ _ (c .before .before .before .before .before .find-bits .ensures) in
+    (c .before .before .before .before .before .before .before .before .before .pre .1 .1, lies .0)
 
 returns : tie.Need-returns
 returns c = rw (c .refused .ensures) (refused-did (c .before .before .before .before .find-bits .ensures) (c .before .before .why .given .1) _ _ _)
@@ -42,8 +41,8 @@ same-length : tie.Need-same-length
 same-length c = search needs
 
 returns-2 : tie.Need-returns-2
-unfolding kindOf valueOf slotOf roleOf roles
-returns-2 c = fixed-did (c .before .before .before .before .before .before .before .before .find-bits .ensures) (c .before .before .before .before .before .before .place .given .1) signedInt _ _ _ (rw (c .before .before .before .before .sign-extend .ensures) at (c .before .before .finish .ensures))
+unfolding kindOf valueOf slotOf
+returns-2 c = fixed-did (c .before .before .before .before .before .before .before .before .find-bits .ensures) (c .before .before .before .before .before .before .place .given .1) signedInt _ _ _ (no-role-did _ _ _ _ _ (rw (c .before .before .before .before .sign-extend .ensures) at (c .before .before .finish-without-role .ensures)))
 
 pub read-signed-spec : {M : Type 1} → statement M
 read-signed-spec =
@@ -54,7 +53,7 @@ read-signed-spec =
     refused-requires
     enum-known-place
     sign-extend-requires
-    finish-requires
+    finish-without-role-requires
     returns
     same-length
     returns-2)

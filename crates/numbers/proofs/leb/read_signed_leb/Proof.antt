@@ -4,15 +4,11 @@ use Rattle.numbers.proofs.leb.read_signed_leb.Statement.{statement}
 use Rattle.numbers.proofs.leb.read_signed_leb.Tie as tie
 use Rattle.numbers.proofs.leb.read_signed_leb.Reads as reads
 use Rattle.numbers.proofs.leb.read_signed_leb.Lts as lts
-use Rattle.leaves.proofs.after.finish.Reads as finish-reads
+use Rattle.leaves.proofs.after.finish_without_role.Reads as finish-without-role-reads
 use Rattle.leaves.proofs.after.refused.Reads as refused-reads
 use Rattle.finding.proofs.find.find_signed.Reads as find-signed-reads
-use native.Mathlib.Omega.{arith}
 use Rattle.rules.specs.declared.Content.the-variants.{Signed}
-use Rattle.rules.specs.Faults.{roles, roleOf}
-use Rattle.rules.specs.Field.{role}
-use Rattle.leaves.specs.Done.{thenSet}
-use Rattle.leaves.proofs.Done.{refused-did, leb-did}
+use Rattle.leaves.proofs.Done.{refused-did, leb-did, no-role-did}
 use Rattle.finding.proofs.Lies.{signed-lies}
 
 find-signed-requires : tie.Need-find-signed-requires
@@ -27,8 +23,8 @@ refused-requires c κs = search needs
 enum-known-place : tie.Need-enum-known-place
 enum-known-place c = search needs
 
-finish-requires : tie.Need-finish-requires
-finish-requires c κs = (c .before .before .before .before .before .before .before .before .pre .1, (signed-lies (c .before .before .before .before .before .before .before .before .pre .0) (c .before .before .place .given .1) (c .before .before .before .before .find-signed .ensures), λ e. absurd (omega arith)))
+finish-without-role-requires : tie.Need-finish-without-role-requires
+finish-without-role-requires c κs = (c .before .before .before .before .before .before .before .before .pre .1, signed-lies (c .before .before .before .before .before .before .before .before .pre .0) (c .before .before .place .given .1) (c .before .before .before .before .find-signed .ensures))
 
 returns : tie.Need-returns
 returns c = rw (c .refused .ensures) (refused-did (c .before .before .before .before .find-signed .ensures) (c .before .before .why .given .1) _ _ _)
@@ -37,8 +33,7 @@ same-length : tie.Need-same-length
 same-length c = search needs
 
 returns-2 : tie.Need-returns-2
-unfolding roleOf roles thenSet role
-returns-2 c = leb-did (c .before .before .before .before .before .before .before .find-signed .ensures) (c .before .before .before .before .before .place .given .1) 22 Signed _ _ (c .before .before .finish .ensures)
+returns-2 c = leb-did (c .before .before .before .before .before .before .before .find-signed .ensures) (c .before .before .before .before .before .place .given .1) 22 Signed _ _ (no-role-did _ _ _ _ _ (c .before .before .finish-without-role .ensures))
 
 pub read-signed-leb-spec : {M : Type 1} → statement M
 read-signed-leb-spec =
@@ -48,7 +43,7 @@ read-signed-leb-spec =
     enum-known-why
     refused-requires
     enum-known-place
-    finish-requires
+    finish-without-role-requires
     returns
     same-length
     returns-2)
