@@ -24,7 +24,7 @@ use Rattle.listing.proofs.Parts.{Part, part-last-on, part-last-stopped, back-ro
 use Rattle.classes.specs.declared.Found.{Found}
 use Rattle.classes.specs.declared.Found.the-variants.{At, Nothing}
 use Rattle.classes.specs.Fragments.{mapOption, rootPlace, streamClassAt, eventClassAt, findEventAt, fragmentsOf, isEvent, askedAt}
-use Rattle.classes.specs.Sizes.{foundOf, SizedFragment}
+use Rattle.classes.specs.Sizes.{foundOf, SizedFragment, Sized}
 use Rattle.classes.specs.Notes.{Notes}
 use Rattle.classes.proofs.Lookups.{found-some, found-none, first-holds}
 use Rattle.parts.specs.declared.Ran.{Ran}
@@ -74,27 +74,9 @@ module _ (a : Asked) (c : StreamClass) (e : Env) (st : State) (l : Slots) (room 
   unfolding withEvent
   body-found d h k n = looked h k ∙ rw (n) refl
 
--- entry 5 stands in front, and m, which keeps slots 0 to 15, is lent the rest
-module _ (k v : ℕ) (M m : Step) (st mid : State) (l : Slots) (ws ws₁ : List ℕ) (h : 4 ≤ length ws)
-    (e : ws₁ ≡ words (entry k (mid .place) 0 v ∷ []) ++ drop 4 ws)
-    (o : M (full st l (length ws)) ≡ (mark k 0 v ⨾ m) (full mid l (length ws))) where
-  entry-part : Part (M (full st l (length ws))) m ws ws₁ 4 mid l
-  unfolding _⨾_ after mark listed
-  entry-part = record { listed = entry k (mid .place) 0 v ∷ []; list = e; counted = refl; room = h; rest = o }
-
-  module _ {r : Ran} {ys : List ℕ} (did : EventDid m mid l r (lent 4 ws₁) ys) where
-    pub behind-room : 4 + r .used ≤ length ws
-    behind-room = back-room m entry-part (did .did)
-
-    pub behind-on : r .went ≡ On → EventDid M st l (record { went = On; used = 4 + r .used; state = r .state }) ws (merged 4 ws₁ ys)
-    behind-on on = record { slots = did .slots; kept = did .kept; did = part-last-on m entry-part (did .did) st on }
-
-    pub behind-stops : (x : Stop) → r .went ≡ Stopped x → EventDid M st l (stoppedRan x (4 + r .used) st) ws (merged 4 ws₁ ys)
-    behind-stops x off = record { slots = l; kept = refl; did = part-last-stopped m entry-part (did .did) x st l off }
-
 -- What the lookup finds
 
-module _ (t : List ℕ) (x : Notes) (w : Asking) (j : ℕ) (ready : Ready t x) (of : OfStream t w) where
+module _ (t s : List ℕ) (w : Asking) (j : ℕ) (sized : Sized t s) (of : OfStream t w) where
   abbrev Class : StreamClass
   Class = streamClassAt t (w .class)
 
@@ -111,40 +93,8 @@ module _ (t : List ℕ) (x : Notes) (w : Asking) (j : ℕ) (ready : Ready t x) (
     unfolding mapOption
     event-found = asked-id ∙ rw (found-some _ p e) refl
 
-    pub event-stands : SizedFragment t (x .sizes) p
-    event-stands = first-holds (SizedFragment t (x .sizes)) (isEvent t (w .id) j) (fragmentsOf t) p (found-some _ p e) (ready .noted .sized .each) .1
-
-    pub specific-stands : PartStands t (foundOf (rootPlace t p 0))
-    unfolding eventClassAt
-    specific-stands = record {
-      stands = root-stands t p 0 (foundOf (rootPlace t p 0)) (event-stands .stands) refl;
-      keeps = rw (root-class t p 0 (foundOf (rootPlace t p 0)) refl) (ready .keeps .specific (Class .id) j (eventClassAt t p) event-found);
-    }
-
-    pub payload-stands : PartStands t (foundOf (rootPlace t p 1))
-    unfolding eventClassAt
-    payload-stands = record {
-      stands = root-stands t p 1 (foundOf (rootPlace t p 1)) (event-stands .stands) refl;
-      keeps = rw (root-class t p 1 (foundOf (rootPlace t p 1)) refl) (ready .keeps .payload (Class .id) j (eventClassAt t p) event-found);
-    }
-
-  pub common-stands : PartStands t (w .common)
-  common-stands = record { stands = of .commonStands; keeps = rw (of .common) (ready .keeps .common (w .id) Class (of .found)) }
-
-  -- the roots by the places that were found
-  pub found-parts : (p : ℕ) → At p ≡ foundOf (findEventAt t (fragmentsOf t) (w .id) j) → (specific payload : Found)
-      → specific ≡ foundOf (rootPlace t p 0) → payload ≡ foundOf (rootPlace t p 1) → (e : Env) (st : State) (l : Slots) (room : ℕ)
-      → st .said .event ≡ j
-      → (Class .timed && ltb (st .clock .value) (st .last)) ≡ false → 4 ≤ room
-      → bodyOf (askedAt t) Class e (full st l room)
-      ≡ (mark eventClassFound 0 (st .said .event) ⨾ partsOf e (classOf t (w .common)) (classOf t specific) (classOf t payload)) (full (lastState st) l room)
-  found-parts p found specific payload h k e st l room says back some? =
-      body-found (askedAt t) Class e st l room (eventClassAt t p) back some? (ap (λ i. (askedAt t) .event (Class .id) i) says ∙ event-found p found)
-      ∙ ap (λ m. (mark eventClassFound 0 (st .said .event) ⨾ m) (full (lastState st) l room)) same
-    where
-      same : partsOf e (Class .common) ((eventClassAt t p) .specific) ((eventClassAt t p) .payload)
-          ≡ partsOf e (classOf t (w .common)) (classOf t specific) (classOf t payload)
-      same = unfold eventClassAt in rw (h, k, root-class t p 0 (foundOf (rootPlace t p 0)) refl, root-class t p 1 (foundOf (rootPlace t p 1)) refl, of .common) refl
+    pub event-stands : SizedFragment t s p
+    event-stands = first-holds (SizedFragment t s) (isEvent t (w .id) j) (fragmentsOf t) p (found-some _ p e) (sized .each) .1
 
   pub back-is : (st : State) (r b : Bool) → r ≡ (w .timed && ltb (st .clock .value) (st .last)) → r ≡ b
       → (Class .timed && ltb (st .clock .value) (st .last)) ≡ b

@@ -45,7 +45,7 @@ use Rattle.parts.proofs.Marks.{part-same, change-on}
 use Rattle.parts.proofs.Parted.{Parted}
 
 -- steps in a row, however they are bracketed
-seq-same : (m g g′ : Step) (s : Full) → ((s : Full) → g s ≡ g′ s) → (m ⨾ g) s ≡ (m ⨾ g′) s
+pub seq-same : (m g g′ : Step) (s : Full) → ((s : Full) → g s ≡ g′ s) → (m ⨾ g) s ≡ (m ⨾ g′) s
 unfolding _⨾_ after
 seq-same m g g′ s h = by (m s)
   where
@@ -53,7 +53,7 @@ seq-same m g g′ s h = by (m s)
     by (stop es v) = refl
     by (go es s) = ap (onto es) (h s)
 
-seq-assoc : (a b c : Step) (s : Full) → ((a ⨾ b) ⨾ c) s ≡ (a ⨾ (b ⨾ c)) s
+pub seq-assoc : (a b c : Step) (s : Full) → ((a ⨾ b) ⨾ c) s ≡ (a ⨾ (b ⨾ c)) s
 unfolding _⨾_ after
 seq-assoc a b c s = by (a s)
   where

@@ -1,5 +1,7 @@
 pub mod Unset
-pub mod Bodies
-pub mod Evented
 pub mod Moving
+pub mod Evented
+pub mod Bodies
+pub mod Openings
+pub mod Turning
 pub mod Rounding

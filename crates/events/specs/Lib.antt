@@ -1,2 +1,3 @@
 pub mod Ready
 pub mod Event
+pub mod Turns

@@ -1,17 +1,16 @@
 // One event, step by step as the paper lists them: "entry 4; event header; 39; entry 5 and the lookup of the id; common, specific,
 // payload; 38 if the place did not move". Its slots go in by value, and none come back.
 use crate::Asking;
-use classes::Found;
-use contradictions::went_back;
+use crate::opening::open_turn;
+use bytes::size_at;
+use fields::kinds::leaf_slot;
+use fields::kinds::read_leaf;
+use fields::walk::read_field;
 use finding::Frame;
 use listing::State;
 use listing::Went;
 use listing::entry::write;
-use lookups::find_event_class;
-use lookups::root_place;
 use parts::Ran;
-use parts::read_parts;
-use parts::root::read_root;
 use parts::stopped;
 use rules::Content;
 use rules::Entry;
@@ -27,11 +26,15 @@ ghost use Rattle.classes.specs.Notes.{notes};
 ghost use Rattle.classes.specs.Fragments.{streamClassAt, askedAt};
 ghost use Rattle.parts.specs.Ran.{EventDid};
 ghost use Rattle.events.specs.Ready.{Ready, OfStream};
-ghost use Rattle.events.specs.Event.{bodyOf, startState, lastState};
+ghost use Rattle.events.specs.Event.{startState};
 
 const EVENT_STARTS: u64 = 4;
 
-const EVENT_CLASS_FOUND: u64 = 5;
+// Header, the lookup of the id, common, specific, payload.
+const TURNS: usize = 5;
+
+// Kinds from here on hold fields.
+const FIRST_THAT_HOLDS: u8 = 28;
 
 const PACKET_SLOTS: usize = 16;
 
@@ -81,181 +84,131 @@ pub fn read_event(
             value: number,
         },
     );
-    let header = with.header;
-    let h = read_root(
-        table,
-        sizes,
-        aligns,
-        uuid,
-        stream,
-        frame,
-        header,
-        fresh(begun),
-        event_slots(given),
-        &mut list[4..],
-    );
-    let used = 4 + h.used;
-    let went = h.went;
-    match went {
-        Went::Stopped(stop) => {
-            return stopped(stop, used, begun);
+    let mut state = fresh(begun);
+    let mut slots = event_slots(given);
+    let mut used: usize = 4;
+    let mut class: usize = 0;
+    let mut turn: usize = 0;
+    while turn < TURNS {
+        let o = open_turn(
+            table,
+            sizes,
+            aligns,
+            index,
+            frame,
+            with,
+            turn,
+            class,
+            state,
+            &mut list[used..],
+        );
+        used = used + o.used;
+        let went = o.went;
+        match went {
+            Went::Stopped(stop) => {
+                return stopped(stop, used, begun);
+            }
+            Went::On => {}
         }
-        Went::On => {}
-    }
-    let state = h.state;
-    let slots = h.slots;
-    let r = read_body(
-        table,
-        sizes,
-        aligns,
-        index,
-        uuid,
-        stream,
-        frame,
-        with,
-        state,
-        slots,
-        &mut list[used..],
-    );
-    let all = used + r.used;
-    let went = r.went;
-    match went {
-        Went::Stopped(stop) => {
-            return stopped(stop, all, begun);
-        }
-        Went::On => {}
-    }
-    let last = r.state;
-    if last.place.0 == begun.place.0 {
-        let place = last.place;
-        return stopped(
-            Stop {
-                why: Refusal::EventTookNoBits,
-                place,
-            },
-            all,
-            begun,
-        );
-    }
-    Ran {
-        went: Went::On,
-        used: all,
-        state: last,
-    }
-}
-
-// Behind the header: 39, the lookup of the id, and the other roots.
-fn read_body(
-    table: &[u8],
-    sizes: &[u16],
-    aligns: &[u8],
-    index: &[u32],
-    uuid: &[u8],
-    stream: &[u8],
-    frame: Frame,
-    with: Asking,
-    st: State,
-    slots: [Slot; 64],
-    list: &mut [u64],
-) -> Ran
-    requires { ⌜ Ready (now table) (notes (now sizes) (now aligns)) ⌝ }
-    requires { ⌜ OfStream (now table) with ⌝ }
-    requires { ⌜ Framed (now stream) frame (st .place) ⌝ }
-    ensures { λ r. ⌜
-        EventDid
-        (bodyOf (askedAt (now (table .entry))) (streamClassAt (now (table .entry)) (with .class))
-        (envOf (now (stream .entry)) (now (uuid .entry)) frame))
-        st slots r (now (list .entry)) (now (list .exit))
-        ⌝ }
-{
-    let place = st.place;
-    if went_back(with.timed, st.clock.value, st.last) {
-        return stopped(
-            Stop {
-                why: Refusal::ClockWentBack,
-                place,
-            },
-            0,
-            st,
-        );
-    }
-    if list.len() < 4 {
-        return stopped(
-            Stop {
-                why: Refusal::ListFull,
-                place,
-            },
-            0,
-            st,
-        );
-    }
-    let id = st.said.event;
-    match find_event_class(table, sizes, index, with.id, id) {
-        Found::Nothing => stopped(
-            Stop {
-                why: Refusal::EventClassUnknown(with.id, id),
-                place,
-            },
-            0,
-            st,
-        ),
-        Found::At(class) => {
-            write(
-                list,
-                Entry {
-                    kind: EVENT_CLASS_FOUND,
-                    place,
-                    bits: 0,
-                    value: id,
-                },
-            );
-            let common = with.common;
-            let specific = root_place(table, sizes, class, 0);
-            let payload = root_place(table, sizes, class, 1);
-            let r = read_parts(
+        let entered = o.state;
+        state = entered;
+        class = o.class;
+        turn = turn + 1;
+        let left = o.left;
+        let mut next = o.from;
+        let mut todo = o.count;
+        while 0 < todo {
+            if list.len() - used < 4 {
+                let place = state.place;
+                return stopped(
+                    Stop {
+                        why: Refusal::ListFull, // 40, at the member's place
+                        place,
+                    },
+                    used,
+                    begun,
+                );
+            }
+            if table[next] < FIRST_THAT_HOLDS {
+                let mut content = Content::Unset;
+                let i = leaf_slot(table, next);
+                if i < 64 {
+                    let slot = slots[i];
+                    content = slot.content;
+                }
+                let r = read_leaf(
+                    table,
+                    next,
+                    uuid,
+                    stream,
+                    frame,
+                    state,
+                    content,
+                    &mut list[used..],
+                );
+                used = used + r.used;
+                let went = r.went;
+                match went {
+                    Went::Stopped(stop) => {
+                        return stopped(stop, used, begun);
+                    }
+                    Went::On => {}
+                }
+                next = next + size_at(sizes, next);
+                todo = todo - 1;
+                let changed = r.state;
+                state = changed;
+                let to = r.slot as usize;
+                if to < 64 {
+                    let content = r.content;
+                    slots[to] = Slot { content };
+                }
+                continue;
+            }
+            let r = read_field(
                 table,
                 sizes,
                 aligns,
                 uuid,
                 stream,
                 frame,
-                common,
-                specific,
-                payload,
-                settled(st),
+                next,
+                left,
+                state,
                 slots,
-                &mut list[4..],
+                &mut list[used..],
             );
+            used = used + r.used;
             let went = r.went;
             match went {
-                Went::Stopped(stop) => stopped(stop, 4 + r.used, st),
-                Went::On => {
-                    let state = r.state;
-                    Ran {
-                        went: Went::On,
-                        used: 4 + r.used,
-                        state,
-                    }
+                Went::Stopped(stop) => {
+                    return stopped(stop, used, begun);
                 }
+                Went::On => {}
             }
+            next = next + size_at(sizes, next);
+            todo = todo - 1;
+            let changed = r.state;
+            state = changed;
+            let held = r.slots;
+            slots = held;
         }
     }
-}
-
-// The event's clock is the one that the next event's is held to.
-fn settled(st: State) -> State
-    ensures { λ r. ⌜ r ≡ lastState st ⌝ }
-{
-    let place = st.place;
-    let order = st.order;
-    let clock = st.clock;
-    let said = st.said;
-    State {
-        place,
-        order,
-        clock,
-        last: st.clock.value,
-        said,
+    if state.place.0 == begun.place.0 {
+        let place = state.place;
+        return stopped(
+            Stop {
+                why: Refusal::EventTookNoBits,
+                place,
+            },
+            used,
+            begun,
+        );
+    }
+    Ran {
+        went: Went::On,
+        used,
+        state,
     }
 }
 

@@ -26,6 +26,7 @@ ghost use Rattle.events.specs.Ready.{Ready, OfStream};
 ghost use Rattle.events.specs.Event.{atPlace};
 
 mod event;
+mod opening;
 
 const PACKET_ENDS: u64 = 7;
 
