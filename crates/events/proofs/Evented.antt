@@ -1,6 +1,6 @@
--- One event: its entry and header, its body, and 38.
+-- One event: its entry, what is left behind it, and 38.
 use mathlib.Core.Path.{_≡_, refl, ap, sym, _∙_}
-use Prim.Native.Nat.{ℕ, _+_, _-_, _≤_, _<_}
+use Prim.Native.Nat.{ℕ, _-_, _≤_, _<_}
 use native.Mathlib.Omega.{arith}
 use mathlib.Core.List.{List, [], _∷_, _++_, append-nil}
 use mathlib.Core.Bool.{_&&_}
@@ -27,16 +27,7 @@ use Rattle.listing.specs.declared.Went.the-variants.{On, Stopped}
 use Rattle.finding.specs.Framed.{Framed, envOf}
 use Rattle.listing.specs.Did.{full, outOf}
 use Rattle.listing.proofs.Checks.{check-stops, check-goes, room-first, no-room-first}
-use Rattle.listing.proofs.Parts.{Part, part-step, part-stop, back-room, lent, merged}
-use Rattle.laws.specs.Kept.{RootKeeps}
-use Rattle.classes.specs.Fragments.{streamClassAt}
-use Rattle.classes.specs.Notes.{Notes}
-use Rattle.fields.specs.declared.Field.{Field}
-use Rattle.fields.specs.Reads.{FieldReads}
-use Rattle.events.specs.declared.Asking.{Asking}
-use Rattle.parts.specs.Roots.{classOf}
-use Rattle.events.specs.Ready.{Ready, OfStream}
-use Rattle.parts.specs.declared.Ran.{Ran}
+use Rattle.listing.proofs.Parts.{Part}
 use Rattle.parts.specs.Ran.{EventDid, stoppedRan}
 use Rattle.events.specs.Event.{startState}
 use Rattle.parts.specs.Roots.{partsOf}
@@ -45,7 +36,7 @@ use Rattle.parts.proofs.Marks.{part-same, change-on}
 use Rattle.parts.proofs.Parted.{Parted}
 
 -- steps in a row, however they are bracketed
-pub seq-same : (m g g′ : Step) (s : Full) → ((s : Full) → g s ≡ g′ s) → (m ⨾ g) s ≡ (m ⨾ g′) s
+seq-same : (m g g′ : Step) (s : Full) → ((s : Full) → g s ≡ g′ s) → (m ⨾ g) s ≡ (m ⨾ g′) s
 unfolding _⨾_ after
 seq-same m g g′ s h = by (m s)
   where
@@ -124,21 +115,6 @@ module _ (a : Asked) (c : StreamClass) (b u : List ℕ) (f : Frame) (n : ℕ) (s
     part = part-same _ (behindStart a c (envOf b u f) st) (change-on startEvent _ (full st l (length ws - 4))) listed-part;
   }
 
--- the body, and then g
-module _ (B g M : Step) (b : List ℕ) (f : Frame) (came : State) (l₀ : Slots) {ws₀ ws : List ℕ} {used : ℕ} {st : State} {l : Slots}
-    (w : Parted b f M (B ⨾ g) came l₀ ws₀ ws used st l) {r : Ran} {ys : List ℕ} (did : EventDid B st l r (lent used ws) ys) where
-  pub body-room : used + r .used ≤ length ws₀
-  body-room = back-room B (w .part) (did .did)
-
-  pub body-stops : (v : Stop) → r .went ≡ Stopped v → EventDid M came l₀ (stoppedRan v (used + r .used) came) ws₀ (merged used ws ys)
-  body-stops v off = record { slots = l₀; kept = refl; did = part-stop B g (w .part) (did .did) v came l₀ off }
-
-  pub body-goes : r .went ≡ On → Part (M (full came l₀ (length ws₀))) g ws₀ (merged used ws ys) (used + r .used) (r .state) (did .slots)
-  body-goes on = part-step B g (w .part) (did .did) on
-
-  pub body-kept : packetSlots (did .slots) ≡ packetSlots l₀
-  body-kept = did .kept ∙ w .kept
-
 -- what is left lists nothing: it stops, or the event is done
 module _ (m M : Step) (came : State) (l₀ : Slots) {ws₀ ws : List ℕ} {used : ℕ} {st : State} {l : Slots}
     (p : Part (M (full came l₀ (length ws₀))) m ws₀ ws used st l) where
@@ -181,12 +157,3 @@ module _ (st₀ st : State) (l : Slots) (room : ℕ) where
   pub has-moved : (st .place .0 ≡ st₀ .place .0 → ⊥) → moved st₀ (full st l room) ≡ go [] (full st l room)
   unfolding moved
   has-moved h = check-goes _ EventTookNoBits (full st l room) (ne-eqb _ _ h)
-
--- the header, read from the event's own state and slots on
-module _ (t : List ℕ) (w : Asking) (of : OfStream t w) where
-  pub header-read : (e : Env) {st st′ : State} {l l′ : Slots} {r : Field} {ws ys : List ℕ} → st ≡ st′ → l ≡ l′
-      → FieldReads (readRoot e (classOf t (w .header))) st l r ws ys → FieldReads (readRoot e ((streamClassAt t (w .class)) .header)) st′ l′ r ws ys
-  header-read e h k did = rw (← h, ← k, ← (of .header)) did
-
-  pub header-kept : (x : Notes) → Ready t x → RootKeeps ((streamClassAt t (w .class)) .header)
-  header-kept x ready = ready .keeps .header (w .id) (streamClassAt t (w .class)) (of .found)

@@ -53,7 +53,7 @@ pub struct Turn {
 }
 
 // One turn of an event.
-pub fn open_turn(
+pub(crate) fn open_turn(
     table: &[u8],
     sizes: &[u16],
     aligns: &[u8],

@@ -30,6 +30,3 @@ partsOf e c d p = readRoot e c ⨾ readRoot e d ⨾ readRoot e p
 pub record PartStands (t : List ℕ) (f : Found) : Type 0 where
   pub stands : RootStands t f
   pub keeps : RootKeeps (classOf t f)
-
-abbrev pub PartsStand : List ℕ → Found → Found → Found → Type 0
-PartsStand t c d p = PartStands t c × PartStands t d × PartStands t p
