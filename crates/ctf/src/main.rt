@@ -39,7 +39,7 @@ fn main() {
 }
 
 fn check_named() {
-    let mut table = table_room();
+    let mut table = file_room();
     let filled = load(TABLE, &mut table);
     if filled.failed {
         return;
@@ -48,12 +48,12 @@ fn check_named() {
 }
 
 fn read_named() {
-    let mut table = table_room();
+    let mut table = file_room();
     let by = load(TABLE, &mut table);
     if by.failed {
         return;
     }
-    let mut stream = stream_room();
+    let mut stream = file_room();
     let filled = load(STREAM, &mut stream);
     if filled.failed {
         return;
@@ -139,15 +139,8 @@ fn fill(file: i32, room: &mut [u8]) -> Filled
     }
 }
 
-// One byte more than a table may have: so a table of any greater length is seen to be too long.
-fn table_room() -> [u8; 65537]
-    ensures { λ r. ⌜ 65537 ≡ length r ⌝ }
-{
-    [0; 65537]
-}
-
-// One byte more than STREAM_ROOM, for the same reason.
-fn stream_room() -> [u8; 65537]
+// One byte more than a table may have, or than there is room for of a stream: so what is longer is seen to be.
+fn file_room() -> [u8; 65537]
     ensures { λ r. ⌜ 65537 ≡ length r ⌝ }
 {
     [0; 65537]

@@ -5,8 +5,8 @@ use Rattle.ctf.proofs.check_named.Statement.{statement}
 use Rattle.ctf.proofs.check_named.Tie as tie
 use lib.Seq.{length-take-le}
 
-table-room-requires : tie.Need-table-room-requires
-table-room-requires c κs = search needs
+file-room-requires : tie.Need-file-room-requires
+file-room-requires c κs = search needs
 
 slice-aggregate-load : tie.Need-slice-aggregate-load
 slice-aggregate-load c = search needs
@@ -36,7 +36,7 @@ pub check-named-spec : {M : Type 1} → statement M
 check-named-spec =
     tie.close
     (tie.spec
-    table-room-requires
+    file-room-requires
     slice-aggregate-load
     load-requires
     returns

@@ -5,8 +5,8 @@ use Rattle.ctf.proofs.read_named.Statement.{statement}
 use Rattle.ctf.proofs.read_named.Tie as tie
 use lib.Seq.{length-take-le}
 
-table-room-requires : tie.Need-table-room-requires
-table-room-requires c κs = search needs
+file-room-requires : tie.Need-file-room-requires
+file-room-requires c κs = search needs
 
 slice-aggregate-load : tie.Need-slice-aggregate-load
 slice-aggregate-load c = search needs
@@ -17,8 +17,8 @@ load-requires c κs = search needs
 returns : tie.Need-returns
 returns c = search needs
 
-stream-room-requires : tie.Need-stream-room-requires
-stream-room-requires c κs = search needs
+file-room-requires-2 : tie.Need-file-room-requires-2
+file-room-requires-2 c κs = search needs
 
 slice-aggregate-load-2 : tie.Need-slice-aggregate-load-2
 slice-aggregate-load-2 c = search needs
@@ -60,11 +60,11 @@ pub read-named-spec : {M : Type 1} → statement M
 read-named-spec =
     tie.close
     (tie.spec
-    table-room-requires
+    file-room-requires
     slice-aggregate-load
     load-requires
     returns
-    stream-room-requires
+    file-room-requires-2
     slice-aggregate-load-2
     load-requires-2
     returns-2
