@@ -26,7 +26,7 @@ use Rattle.listing.specs.declared.State.{State}
 use Rattle.leaves.specs.declared.Leaf.{Leaf}
 use Rattle.finding.specs.Framed.{envOf}
 use Rattle.finding.specs.Found.{foundBits, foundUnsigned, foundSigned, foundString, foundText, foundBlob}
-use Rattle.finding.specs.Lengths.{lengthOf}
+use Rattle.slots.specs.Taken.{lengthOf}
 use Rattle.leaves.specs.Settled.{settle, listing, thenFixed, thenLeb, thenBlob, forLength}
 use Rattle.leaves.specs.Done.{LeafDid}
 use Rattle.listing.specs.Did.{full}

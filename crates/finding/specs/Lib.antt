@@ -1,3 +1,2 @@
 pub mod Framed
 pub mod Found
-pub mod Lengths

@@ -1,9 +1,7 @@
-// Where a leaf stands and what it says, before anything of it is listed. In order: find, kinds 16 to 27; slots, what a slot's content is
-// taken as.
+// Where a leaf stands and what it says, before anything of it is listed: kinds 16 to 27.
 use rules::BitPlace;
 
 pub mod find;
-pub mod slots;
 
 // The packet's start, and the bound.
 pub struct Frame {

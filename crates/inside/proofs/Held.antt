@@ -19,16 +19,16 @@ use Rattle.places.proofs.Multiple.{align-near}
 use Rattle.finding.specs.declared.Frame.{Frame}
 use Rattle.finding.specs.Framed.{Framed}
 use Rattle.finding.specs.Found.{alignedAt}
-use Rattle.finding.specs.Lengths.{lengthOf}
+use Rattle.slots.specs.Taken.{lengthOf, numberOf}
 use Rattle.classes.specs.Trees.{shapeOf, shapes, recordSize, rangesAt, signAt, optionClass, Stood, stoodAt, wholeMembers, wholeOptions, wholeIn, whole}
 use Rattle.classes.specs.Notes.{Notes, Prepared}
-use Rattle.inside.specs.declared.choice.Choice.{Choice}
-use Rattle.inside.specs.declared.choice.Choice.the-variants.{Class, Nothing, Refused as NotTold}
-use Rattle.inside.specs.declared.choice.Number.{Number}
-use Rattle.inside.specs.declared.choice.Number.the-variants.{Of as Told, NotOf as NoNumber}
+use Rattle.choices.specs.declared.Choice.{Choice}
+use Rattle.choices.specs.declared.Choice.the-variants.{Class, Nothing, Refused as NotTold}
+use Rattle.slots.specs.declared.Number.{Number}
+use Rattle.slots.specs.declared.Number.the-variants.{Of as Told, NotOf as NoNumber}
 use Rattle.inside.specs.declared.look.Inside.{Inside}
 use Rattle.inside.specs.declared.look.Inside.the-variants.{Members, Elements, Refused}
-use Rattle.inside.specs.Choice.{numberOf, byNumber, presentAt, byFlag, byRanges, optionalClass, optionalAt, optionFrom, variantIn}
+use Rattle.choices.specs.Choice.{byNumber, presentAt, byFlag, byRanges, optionalClass, optionalAt, optionFrom, variantIn}
 use Rattle.inside.specs.Inside.{within, standing, byLength, optionalInside, variantInside, bitsNoted, insideIn, insideOf}
 use Rattle.inside.specs.Held.{Placed, HeldMembers, HeldElements, Held}
 use Rattle.inside.proofs.Holders.{five}

@@ -12,12 +12,12 @@ use Rattle.rules.specs.Limits.{noSlot}
 use Rattle.rules.specs.Record.{u8, u16}
 use Rattle.facts.proofs.Cases.{below, _▷_}
 use Rattle.finding.specs.declared.Frame.{Frame}
-use Rattle.finding.specs.declared.slots.Length.the-variants.{Of, NotOf}
-use Rattle.finding.specs.Lengths.{lengthOf}
+use Rattle.slots.specs.declared.Length.the-variants.{Of, NotOf}
+use Rattle.slots.specs.Taken.{lengthOf}
 use Rattle.classes.specs.Trees.{shapeOf, shapes, recordSize, wholeIn}
 use Rattle.classes.specs.Notes.{Notes, endNoted}
 use Rattle.inside.specs.declared.look.Inside.the-variants.{Refused}
-use Rattle.inside.specs.Choice.{InTable, optionalAt, variantAt, WholeOptional, WholeVariant}
+use Rattle.choices.specs.Choice.{InTable, optionalAt, variantAt, WholeOptional, WholeVariant}
 use Rattle.inside.specs.Inside.{slotReadIn, slotReadAt, standing, membersFrom, elementsFrom, byLength, optionalInside, variantInside, bitsNoted, insideIn, insideOf, Opens}
 
 -- a law of the five, one after the other

@@ -1,6 +1,3 @@
-pub mod Search
-pub mod Signs
-pub mod Choosing
 pub mod Standing
 pub mod Holders
 pub mod Noted

@@ -10,8 +10,8 @@ use Rattle.classes.specs.Trees.{shapeOf, rangesAt, optionClass, Stood, stoodAt,
 use Rattle.classes.specs.Notes.{Notes, endNoted, Prepared}
 use Rattle.classes.proofs.Turns.{whole-inside}
 use Rattle.classes.proofs.Aligned.{aligned}
-use Rattle.inside.specs.declared.choice.Choice.the-variants.{Class}
-use Rattle.inside.specs.Choice.{InTable, optionFrom}
+use Rattle.choices.specs.declared.Choice.the-variants.{Class}
+use Rattle.choices.specs.Choice.{InTable, optionFrom}
 use Rattle.inside.specs.Inside.{Opens}
 
 -- f and f′ agree on where the classes end that stand whole by g, and these do by g′ too

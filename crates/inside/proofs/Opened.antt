@@ -24,19 +24,19 @@ use Rattle.facts.proofs.Steps.{onto-nil, after-pass}
 use Rattle.finding.specs.declared.Frame.{Frame}
 use Rattle.finding.specs.Framed.{Framed, envOf}
 use Rattle.finding.specs.Found.{alignedAt}
-use Rattle.finding.specs.Lengths.{lengthOf}
+use Rattle.slots.specs.Taken.{lengthOf, numberOf}
 use Rattle.listing.proofs.Checks.{check-stops, check-goes, room-first}
 use Rattle.classes.specs.Trees.{shapeOf, shapes, rangesAt, signAt, optionClass, optionalOf, Stood, membersAt, optionsAt, classIn, stoodAt, classAt, wholeOptions, wholeIn, whole}
 use Rattle.classes.specs.Notes.{Notes, endNoted, Prepared}
 use Rattle.classes.proofs.Turns.{whole-inside}
 use Rattle.classes.proofs.Aligned as aligned
-use Rattle.inside.specs.declared.choice.Choice.{Choice}
-use Rattle.inside.specs.declared.choice.Choice.the-variants.{Refused as NotTold}
-use Rattle.inside.specs.declared.choice.Number.{Number}
-use Rattle.inside.specs.declared.choice.Number.the-variants.{Of, NotOf}
+use Rattle.choices.specs.declared.Choice.{Choice}
+use Rattle.choices.specs.declared.Choice.the-variants.{Refused as NotTold}
+use Rattle.slots.specs.declared.Number.{Number}
+use Rattle.slots.specs.declared.Number.the-variants.{Of, NotOf}
 use Rattle.inside.specs.declared.look.Inside.{Inside}
 use Rattle.inside.specs.declared.look.Inside.the-variants.{Members, Refused}
-use Rattle.inside.specs.Choice.{InTable, numberOf, byNumber, presentAt, byFlag, byRanges, optionalClass, optionalAt, optionFrom, variantIn, variantAt}
+use Rattle.choices.specs.Choice.{InTable, byNumber, presentAt, byFlag, byRanges, optionalClass, optionalAt, optionFrom, variantIn, variantAt}
 use Rattle.inside.specs.Inside.{slotReadIn, slotReadAt, within, standing, membersFrom, elementsFrom, byLength, optionalInside, variantInside, bitsNoted, insideIn, insideOf, opened}
 use Rattle.inside.proofs.Holders.{five}
 use Rattle.inside.proofs.Noted.{option-same, end-same}

@@ -14,17 +14,17 @@ use Rattle.rules.specs.Entry.{entry}
 use Rattle.rules.specs.Step.{Step, _⨾_, refuse, listed}
 use Rattle.rules.specs.Field.{Env, times, read, readMembers}
 use Rattle.finding.specs.declared.Frame.{Frame}
-use Rattle.finding.specs.declared.slots.Length.{Length}
-use Rattle.finding.specs.declared.slots.Length.the-variants.{Of, NotOf}
+use Rattle.slots.specs.declared.Length.{Length}
+use Rattle.slots.specs.declared.Length.the-variants.{Of, NotOf}
 use Rattle.finding.specs.Found.{alignedAt}
-use Rattle.finding.specs.Lengths.{lengthOf}
+use Rattle.slots.specs.Taken.{lengthOf}
 use Rattle.classes.specs.Trees.{shapeOf, membersAt, stoodAt, classAt, Whole}
 use Rattle.classes.specs.Notes.{Notes, endNoted}
-use Rattle.inside.specs.declared.choice.Choice.{Choice}
-use Rattle.inside.specs.declared.choice.Choice.the-variants.{Class, Nothing, Refused as NotTold}
+use Rattle.choices.specs.declared.Choice.{Choice}
+use Rattle.choices.specs.declared.Choice.the-variants.{Class, Nothing, Refused as NotTold}
 use Rattle.inside.specs.declared.look.Inside.{Inside}
 use Rattle.inside.specs.declared.look.Inside.the-variants.{Members, Elements, Refused}
-use Rattle.inside.specs.Choice.{InTable, optionalAt, variantAt}
+use Rattle.choices.specs.Choice.{InTable, optionalAt, variantAt}
 
 -- the slot that a class reads, at a byte
 unfoldable pub slotReadIn : List ℕ → ℕ → Shape → ℕ

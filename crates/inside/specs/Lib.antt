@@ -1,3 +1,2 @@
-pub mod Choice
 pub mod Inside
 pub mod Held

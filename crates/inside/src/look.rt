@@ -1,16 +1,16 @@
 // What a field of kinds 28 to 32 holds, once its slot and its alignment have passed: so many classes one behind the other, or one class so
 // many times; with the place and the value of its own entry. Nothing is listed here, and no field inside is read.
-use crate::choice::Choice;
-use crate::choice::choose_option;
-use crate::choice::choose_optional;
 use bytes::count_at;
 use bytes::u16_at;
+use choices::Choice;
+use choices::choose_option;
+use choices::choose_optional;
 use finding::Frame;
-use finding::slots::Length;
-use finding::slots::length_of;
 use rules::BitPlace;
 use rules::Content;
 use rules::Refusal;
+use slots::Length;
+use slots::length_of;
 ghost use mathlib.Core.Path.{_≡_};
 ghost use Prim.Native.Nat.{_+_, _≤_, _<_, _^_};
 ghost use lib.ListN.{length};

@@ -29,9 +29,9 @@ use Rattle.rules.specs.Field.{store, role, valueOf, slotOf}
 use Rattle.facts.proofs.Steps.{onto-nil}
 use Rattle.finding.specs.declared.find.Found.{Found}
 use Rattle.finding.specs.declared.find.Found.the-variants.{At, Refused}
-use Rattle.finding.specs.Lengths.{lengthOf}
-use Rattle.finding.specs.declared.slots.Length.{Length}
-use Rattle.finding.specs.declared.slots.Length.the-variants.{Of, NotOf}
+use Rattle.slots.specs.Taken.{lengthOf}
+use Rattle.slots.specs.declared.Length.{Length}
+use Rattle.slots.specs.declared.Length.the-variants.{Of, NotOf}
 use Rattle.listing.specs.declared.State.{State}
 use Rattle.listing.specs.declared.Went.the-variants.{On, Stopped}
 use Rattle.listing.specs.declared.role.Roled.{Roled}

@@ -24,13 +24,13 @@ use Rattle.rules.specs.Step.{State, Step, go, _⨾_, onto, after, pass, refuse,
 use Rattle.rules.specs.Field.{aligned, fit, ahead, bytesAt, field, turned, fromSlot, asNumber, asLength, readFixed, readLeb, readZero, readText, blobRole, readBlob, read}
 use Rattle.facts.proofs.Steps.{onto-nil}
 use Rattle.finding.specs.declared.Frame.{Frame}
-use Rattle.finding.specs.declared.slots.Length.{Length}
-use Rattle.finding.specs.declared.slots.Length.the-variants.{Of, NotOf}
+use Rattle.slots.specs.declared.Length.{Length}
+use Rattle.slots.specs.declared.Length.the-variants.{Of, NotOf}
 use Rattle.finding.specs.declared.find.Found.{Found}
 use Rattle.finding.specs.declared.find.Found.the-variants.{At, Refused}
 use Rattle.finding.specs.Framed.{envOf}
 use Rattle.finding.specs.Found.{alignedAt, unless, within, bytesAhead, foundBits, foundLeb, foundUnsigned, foundSigned, foundZero, foundString, foundText, foundBlob}
-use Rattle.finding.specs.Lengths.{lengthOf}
+use Rattle.slots.specs.Taken.{lengthOf}
 use Rattle.listing.proofs.Checks.{check-stops, check-goes, room-first}
 use Rattle.leaves.specs.Settled.{Then, settle, listing, thenFixed, thenLeb, thenBlob, forLength}
 

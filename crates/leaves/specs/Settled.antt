@@ -11,8 +11,8 @@ use Rattle.rules.specs.Class.{Role, noRole, Sort, kindOf}
 use Rattle.rules.specs.Entry.{entry}
 use Rattle.rules.specs.Step.{Step, _⨾_, refuse, listed, change, withOrder}
 use Rattle.rules.specs.Field.{Env, bytesAt, store, role, blobRole, valueOf, slotOf}
-use Rattle.finding.specs.declared.slots.Length.{Length}
-use Rattle.finding.specs.declared.slots.Length.the-variants.{Of, NotOf}
+use Rattle.slots.specs.declared.Length.{Length}
+use Rattle.slots.specs.declared.Length.the-variants.{Of, NotOf}
 use Rattle.finding.specs.declared.find.Found.{Found}
 use Rattle.finding.specs.declared.find.Found.the-variants.{At, Refused}
 

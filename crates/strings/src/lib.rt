@@ -2,8 +2,6 @@
 use finding::Frame;
 use finding::find;
 use finding::find::Found;
-use finding::slots;
-use finding::slots::Length;
 use leaves::Leaf;
 use leaves::after::NO_SLOT;
 use leaves::after::finish_without_role;
@@ -16,6 +14,8 @@ use rules::Content;
 use rules::Entry;
 use rules::Refusal;
 use rules::Stop;
+use slots::Length;
+use slots::length_of;
 ghost use mathlib.Core.Path.{_≡_};
 ghost use Prim.Native.Nat.{_+_, _≤_};
 ghost use lib.ListN.{length, take, drop};
@@ -24,7 +24,7 @@ ghost use Rattle.rules.specs.Class.{uuid as uuidRole};
 ghost use Rattle.rules.specs.Field.{sameBytes};
 ghost use Rattle.finding.specs.Framed.{Framed, envOf};
 ghost use Rattle.finding.specs.Found.{Ends, foundString, foundText, foundBlob};
-ghost use Rattle.finding.specs.Lengths.{lengthOf};
+ghost use Rattle.slots.specs.Taken.{lengthOf};
 ghost use Rattle.leaves.specs.Settled.{settle, listing, thenBlob, forLength};
 ghost use Rattle.leaves.specs.Done.{LeafDid};
 
@@ -186,7 +186,7 @@ pub fn read_dynamic_string(
         ⌝ }
 {
     let from = st.place;
-    match slots::length_of(content) {
+    match length_of(content) {
         Length::NotOf(why) => refused(why, st),
         Length::Of(bytes) => list_found(
             DYNAMIC_STRING,
@@ -213,7 +213,7 @@ pub fn read_dynamic_blob(
         ⌝ }
 {
     let from = st.place;
-    match slots::length_of(content) {
+    match length_of(content) {
         Length::NotOf(why) => refused(why, st),
         Length::Of(bytes) => list_found(
             DYNAMIC_BLOB,
