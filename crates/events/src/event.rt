@@ -2,9 +2,10 @@
 // payload; 38 if the place did not move". Its slots go in by value, and none come back.
 use crate::Asking;
 use crate::opening::open_turn;
+use bykind::FIRST_THAT_HOLDS;
+use bykind::leaf_slot;
+use bykind::read_leaf;
 use bytes::size_at;
-use fields::kinds::leaf_slot;
-use fields::kinds::read_leaf;
 use fields::walk::read_field;
 use finding::Frame;
 use listing::State;
@@ -32,9 +33,6 @@ const EVENT_STARTS: u64 = 4;
 
 // Header, the lookup of the id, common, specific, payload.
 const TURNS: usize = 5;
-
-// Kinds from here on hold fields.
-const FIRST_THAT_HOLDS: u8 = 28;
 
 const PACKET_SLOTS: usize = 16;
 

@@ -30,7 +30,8 @@ use Rattle.listing.specs.Did.{Did, full, outOf}
 use Rattle.listing.proofs.Checks.{no-room-first}
 use Rattle.listing.proofs.Parts.{Part, part-start, part-step, part-stop, part-end, part-length, back-room, lent, merged}
 use Rattle.fields.specs.declared.Field.{Field}
-use Rattle.fields.specs.Reads.{LeafReads, FieldReads, stoppedField}
+use Rattle.bykind.specs.Reads.{LeafReads}
+use Rattle.fields.specs.Reads.{FieldReads, stoppedField}
 use Rattle.fields.proofs.Standing.{First, no-member}
 use Rattle.laws.proofs.Between.{read-between}
 

@@ -4,8 +4,9 @@
 //
 // What stopped hands back state and slots as they came, whatever was read inside it; only the list keeps what was listed.
 use crate::Field;
-use crate::kinds::leaf_slot;
-use crate::kinds::read_leaf;
+use bykind::FIRST_THAT_HOLDS;
+use bykind::leaf_slot;
+use bykind::read_leaf;
 use bytes::size_at;
 use bytes::wide64;
 use finding::Frame;
@@ -32,9 +33,6 @@ ghost use Rattle.finding.specs.Framed.{Framed, envOf};
 ghost use Rattle.classes.specs.Trees.{whole, wholeMembers, stoodAt, classAt, membersAt};
 ghost use Rattle.classes.specs.Notes.{notes, Prepared};
 ghost use Rattle.fields.specs.Reads.{FieldReads, stoppedField, openedState};
-
-// Kinds from here on hold fields.
-const FIRST_THAT_HOLDS: u8 = 28;
 
 // The field of the class at a byte, which holds fields, where there is room for its entry. `left` depths are left, its own among them.
 pub fn read_field(

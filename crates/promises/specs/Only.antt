@@ -13,7 +13,8 @@ use Rattle.listing.specs.declared.State.{State}
 use Rattle.listing.specs.Did.{RoleDid}
 use Rattle.leaves.specs.declared.Leaf.{Leaf}
 use Rattle.leaves.specs.Done.{LeafDid}
-use Rattle.fields.specs.Reads.{LeafReads, FieldReads}
+use Rattle.bykind.specs.Reads.{LeafReads}
+use Rattle.fields.specs.Reads.{FieldReads}
 use Rattle.classes.specs.declared.openings.Opening.{Opening}
 use Rattle.classes.specs.Sizes.{Opens}
 use Rattle.classes.specs.Notes.{Notes, Made}

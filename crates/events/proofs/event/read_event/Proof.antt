@@ -7,8 +7,8 @@ use Rattle.bytes.proofs.size_at.Reads as size-at-reads
 use Rattle.events.proofs.event.event_slots.Reads as event-slots-reads
 use Rattle.events.proofs.event.fresh.Reads as fresh-reads
 use Rattle.events.proofs.opening.open_turn.Reads as open-turn-reads
-use Rattle.fields.proofs.kinds.leaf_slot.Reads as leaf-slot-reads
-use Rattle.fields.proofs.kinds.read_leaf.Reads as read-leaf-reads
+use Rattle.bykind.proofs.leaf_slot.Reads as leaf-slot-reads
+use Rattle.bykind.proofs.read_leaf.Reads as read-leaf-reads
 use Rattle.fields.proofs.walk.read_field.Reads as read-field-reads
 use Rattle.listing.proofs.entry.write.Reads as write-reads
 use Rattle.parts.proofs.stopped.Reads as stopped-reads

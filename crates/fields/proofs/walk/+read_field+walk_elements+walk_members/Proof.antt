@@ -15,8 +15,8 @@ use Rattle.fields.proofs.walk.walk_members.Kinds as walk-members-kinds
 use Rattle.fields.proofs.walk.+read_field+walk_elements+walk_members.Lts-walk_members as walk-members-lts
 use Rattle.bytes.proofs.size_at.Reads as size-at-reads
 use Rattle.bytes.proofs.wide64.Reads as wide64-reads
-use Rattle.fields.proofs.kinds.leaf_slot.Reads as leaf-slot-reads
-use Rattle.fields.proofs.kinds.read_leaf.Reads as read-leaf-reads
+use Rattle.bykind.proofs.leaf_slot.Reads as leaf-slot-reads
+use Rattle.bykind.proofs.read_leaf.Reads as read-leaf-reads
 use Rattle.fields.proofs.walk.enter.Reads as enter-reads
 use Rattle.fields.proofs.walk.stopped.Reads as stopped-reads
 use Rattle.inside.proofs.look.look.Reads as look-reads

@@ -1,11 +1,11 @@
 -- Length, order and align are read once; each kind hands them to its own reading, with its slot and role.
 use borrow.Author.Needs.{needs}
-use Rattle.fields.proofs.kinds.read_bits.Statement.{statement}
-use Rattle.fields.proofs.kinds.read_bits.Tie as tie
-use Rattle.fields.proofs.kinds.read_bits.Reads as reads
-use Rattle.fields.proofs.kinds.read_bits.Lts as lts
+use Rattle.bykind.proofs.read_bits.Statement.{statement}
+use Rattle.bykind.proofs.read_bits.Tie as tie
+use Rattle.bykind.proofs.read_bits.Reads as reads
+use Rattle.bykind.proofs.read_bits.Lts as lts
 use Rattle.bytes.proofs.wide64.Reads as wide64-reads
-use Rattle.fields.proofs.kinds.order_of.Reads as order-of-reads
+use Rattle.bykind.proofs.order_of.Reads as order-of-reads
 use Rattle.numbers.proofs.fixed.read_bit_array.Reads as read-bit-array-reads
 use Rattle.numbers.proofs.fixed.read_boolean.Reads as read-boolean-reads
 use Rattle.numbers.proofs.fixed.read_float.Reads as read-float-reads
@@ -16,8 +16,8 @@ use lib.ListN.{length}
 use native.Mathlib.Omega.{arith}
 use Rattle.rules.specs.Record.{u8}
 use Rattle.classes.specs.Trees.{recordSize, shapeOf, shapes}
-use Rattle.fields.proofs.ByKind.{BitsSay, bits-there, bits-say, record-there, is-float}
-use Rattle.fields.proofs.ByKind.{bit-array-reads, boolean-reads, unsigned-reads, signed-reads, float-reads}
+use Rattle.bykind.proofs.ByKind.{BitsSay, bits-there, bits-say, record-there, is-float}
+use Rattle.bykind.proofs.ByKind.{bit-array-reads, boolean-reads, unsigned-reads, signed-reads, float-reads}
 
 there : (c : tie.Start) → c .args .at + 4 ≤ length (c .args .table .now)
 there c = bits-there _ _ (c .pre .0) (c .pre .1 .0)

@@ -33,7 +33,7 @@ use Rattle.listing.specs.Did.{full}
 use Rattle.leaves.proofs.Settled.{fixed-settles, unsigned-settles, signed-settles, string-settles, static-string-settles}
 use Rattle.leaves.proofs.Settled.{static-blob-settles, dynamic-string-settles, dynamic-blob-settles}
 use Rattle.classes.specs.Trees.{shapes, shapeOf, recordSize, stoodAt, classIn, classAt, whole, wholeIn}
-use Rattle.fields.specs.Reads.{LeafReads, leafSlot}
+use Rattle.bykind.specs.Reads.{LeafReads, leafSlot}
 
 -- a kind that is none of the n kinds from a on, as `match` says it
 abbrev pub NoneOf : ℕ → ℕ → ℕ → Type 0

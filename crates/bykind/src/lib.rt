@@ -29,7 +29,7 @@ ghost use Rattle.rules.specs.Parse.{orderOf};
 ghost use Rattle.rules.specs.Field.{read};
 ghost use Rattle.finding.specs.Framed.{Framed, envOf};
 ghost use Rattle.classes.specs.Trees.{whole, classAt};
-ghost use Rattle.fields.specs.Reads.{LeafReads, BitsRead, leafSlot};
+ghost use Rattle.bykind.specs.Reads.{LeafReads, BitsRead, leafSlot};
 
 const BIT_ARRAY: u8 = 16;
 
@@ -50,6 +50,9 @@ const STATIC_STRING: u8 = 24;
 const STATIC_BLOB: u8 = 25;
 
 const DYNAMIC_STRING: u8 = 26;
+
+// Kinds from here on hold fields.
+pub const FIRST_THAT_HOLDS: u8 = 28;
 
 const NO_SLOT: usize = 255;
 

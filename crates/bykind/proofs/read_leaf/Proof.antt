@@ -1,11 +1,11 @@
 -- Each kind hands the numbers of its record to its own reading: a law of ByKind says that this is the reading of the class there.
 use borrow.Author.Needs.{needs}
-use Rattle.fields.proofs.kinds.read_leaf.Statement.{statement}
-use Rattle.fields.proofs.kinds.read_leaf.Tie as tie
-use Rattle.fields.proofs.kinds.read_leaf.Reads as reads
-use Rattle.fields.proofs.kinds.read_leaf.Lts as lts
+use Rattle.bykind.proofs.read_leaf.Statement.{statement}
+use Rattle.bykind.proofs.read_leaf.Tie as tie
+use Rattle.bykind.proofs.read_leaf.Reads as reads
+use Rattle.bykind.proofs.read_leaf.Lts as lts
 use Rattle.bytes.proofs.u16_at.Reads as u16-at-reads
-use Rattle.fields.proofs.kinds.read_bits.Reads as read-bits-reads
+use Rattle.bykind.proofs.read_bits.Reads as read-bits-reads
 use Rattle.strings.proofs.read_dynamic_blob.Reads as read-dynamic-blob-reads
 use Rattle.strings.proofs.read_dynamic_string.Reads as read-dynamic-string-reads
 use Rattle.strings.proofs.read_static_blob.Reads as read-static-blob-reads
@@ -16,12 +16,12 @@ use Rattle.numbers.proofs.leb.read_unsigned_leb.Reads as read-unsigned-leb-read
 use native.Mathlib.Omega.{arith}
 use Rattle.rules.specs.Record.{u8}
 use Rattle.classes.specs.Trees.{recordSize, shapeOf, shapes}
-use Rattle.fields.proofs.ByKind.{record-there, is-dynamic-blob, unsigned-leb-reads, signed-leb-reads, string-reads}
-use Rattle.fields.proofs.ByKind.{static-string-reads, static-blob-reads, dynamic-string-reads, dynamic-blob-reads}
-use Rattle.fields.proofs.Standing.{stands-within}
+use Rattle.bykind.proofs.ByKind.{record-there, is-dynamic-blob, unsigned-leb-reads, signed-leb-reads, string-reads}
+use Rattle.bykind.proofs.ByKind.{static-string-reads, static-blob-reads, dynamic-string-reads, dynamic-blob-reads}
+use Rattle.classes.proofs.Turns.{whole-inside}
 
 shared-slice-read-if1 : tie.Need-shared-slice-read-if1
-shared-slice-read-if1 c = stands-within _ _ _ (c .before .before .before .before .before .pre .0)
+shared-slice-read-if1 c = whole-inside _ _ _ (c .before .before .before .before .before .pre .0)
 
 read-bits-requires : tie.Need-read-bits-requires
 unfolding u8
@@ -36,7 +36,7 @@ returns : tie.Need-returns
 returns c = c .before .before .read-bits .ensures _ _
 
 shared-slice-read-match : tie.Need-shared-slice-read-match
-shared-slice-read-match c = stands-within _ _ _ (c .before .before .before .before .before .before .before .pre .0)
+shared-slice-read-match c = whole-inside _ _ _ (c .before .before .before .before .before .before .before .pre .0)
 
 add-read-unsigned-leb : tie.Need-add-read-unsigned-leb
 unfolding recordSize shapeOf shapes u8

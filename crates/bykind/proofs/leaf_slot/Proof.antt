@@ -1,20 +1,20 @@
 -- Kinds 26 and 27 name a slot behind their kind; the others read none.
 use borrow.Author.Needs.{needs}
-use Rattle.fields.proofs.kinds.leaf_slot.Statement.{statement}
-use Rattle.fields.proofs.kinds.leaf_slot.Tie as tie
-use Rattle.fields.proofs.kinds.leaf_slot.Reads as reads
-use Rattle.fields.proofs.kinds.leaf_slot.Lts as lts
+use Rattle.bykind.proofs.leaf_slot.Statement.{statement}
+use Rattle.bykind.proofs.leaf_slot.Tie as tie
+use Rattle.bykind.proofs.leaf_slot.Reads as reads
+use Rattle.bykind.proofs.leaf_slot.Lts as lts
 use Rattle.bytes.proofs.wide.Reads as wide-reads
 use native.Mathlib.Omega.{arith}
 use mathlib.Core.Path.{refl}
 use borrow.Author.Tests.{lt-ltb, le-ltb}
 use Rattle.rules.specs.Record.{u8}
-use Rattle.fields.specs.Reads.{leafSlot}
-use Rattle.fields.proofs.ByKind.{slot-there}
-use Rattle.fields.proofs.Standing.{stands-within}
+use Rattle.bykind.specs.Reads.{leafSlot}
+use Rattle.bykind.proofs.ByKind.{slot-there}
+use Rattle.classes.proofs.Turns.{whole-inside}
 
 shared-slice-read-if1 : tie.Need-shared-slice-read-if1
-shared-slice-read-if1 c = stands-within _ _ _ (c .before .before .pre .0)
+shared-slice-read-if1 c = whole-inside _ _ _ (c .before .before .pre .0)
 
 returns : tie.Need-returns
 unfolding leafSlot u8

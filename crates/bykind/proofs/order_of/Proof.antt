@@ -1,11 +1,11 @@
 -- Two cases, as in the rules.
-use Rattle.fields.proofs.kinds.order_of.Statement.{statement}
-use Rattle.fields.proofs.kinds.order_of.Tie as tie
-use Rattle.fields.proofs.kinds.order_of.Reads as reads
-use Rattle.fields.proofs.kinds.order_of.Lts as lts
+use Rattle.bykind.proofs.order_of.Statement.{statement}
+use Rattle.bykind.proofs.order_of.Tie as tie
+use Rattle.bykind.proofs.order_of.Reads as reads
+use Rattle.bykind.proofs.order_of.Lts as lts
 use mathlib.Core.Path.{_≡_, refl}
 use Rattle.rules.specs.Parse.{orderOf}
-use Rattle.fields.proofs.ByKind.{big-order}
+use Rattle.bykind.proofs.ByKind.{big-order}
 
 returns : tie.Need-returns
 unfolding orderOf
