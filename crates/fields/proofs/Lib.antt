@@ -1,4 +1,3 @@
-pub mod Standing
 pub mod ByKind
 pub mod Turns
 pub mod Holds

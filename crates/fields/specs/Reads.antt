@@ -5,7 +5,6 @@ use mathlib.Core.List.{List}
 use mathlib.Core.Bool.{true, false}
 use lib.ListN.{length}
 use lib.Dec.{ltb}
-use Rattle.rules.specs.declared.BitPlace.{BitPlace}
 use Rattle.rules.specs.declared.Stop.{Stop}
 use Rattle.rules.specs.declared.Content.{Content}
 use Rattle.rules.specs.declared.Content.the-variants.{Unset}
@@ -45,7 +44,3 @@ pub record FieldReads (m : Step) (st : State) (l : Slots) (r : Field) (ws ws′ 
 
 abbrev pub stoppedField : Stop → ℕ → State → Slots → Field
 stoppedField v n st l = record { went = Stopped v; used = n; state = st; slots = l }
-
--- the state at a place, where a field's entry has been listed
-abbrev pub openedState : BitPlace → State → State
-openedState p st = record { place = p; order = st .order; clock = st .clock; last = st .last; said = st .said }

@@ -11,7 +11,7 @@ use borrow.Author.Tests.{lt-ltb, le-ltb}
 use Rattle.rules.specs.Record.{u8}
 use Rattle.fields.specs.Reads.{leafSlot}
 use Rattle.fields.proofs.ByKind.{slot-there}
-use Rattle.fields.proofs.Standing.{stands-within}
+use Rattle.classes.proofs.Standing.{stands-within}
 
 shared-slice-read-if1 : tie.Need-shared-slice-read-if1
 shared-slice-read-if1 c = stands-within _ _ _ (c .before .before .pre .0)

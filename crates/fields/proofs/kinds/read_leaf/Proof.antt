@@ -18,7 +18,7 @@ use Rattle.rules.specs.Record.{u8}
 use Rattle.classes.specs.Trees.{recordSize, shapeOf, shapes}
 use Rattle.fields.proofs.ByKind.{record-there, is-dynamic-blob, unsigned-leb-reads, signed-leb-reads, string-reads}
 use Rattle.fields.proofs.ByKind.{static-string-reads, static-blob-reads, dynamic-string-reads, dynamic-blob-reads}
-use Rattle.fields.proofs.Standing.{stands-within}
+use Rattle.classes.proofs.Standing.{stands-within}
 
 shared-slice-read-if1 : tie.Need-shared-slice-read-if1
 shared-slice-read-if1 c = stands-within _ _ _ (c .before .before .before .before .before .pre .0)
