@@ -2,6 +2,7 @@ pub mod Records
 pub mod ClassRecords
 pub mod Sound
 pub mod Stands
+pub mod Standing
 pub mod One
 pub mod Aligned
 pub mod Ends

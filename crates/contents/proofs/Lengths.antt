@@ -14,7 +14,7 @@ use Rattle.rules.specs.Table.{StreamClass, Asked}
 use Rattle.rules.specs.Packet.{readEvents, readContent, above}
 use Rattle.contradictions.specs.Lengths.{contradicts}
 use Rattle.listing.proofs.Checks.{room-first}
-use Rattle.parts.proofs.Marks.{check-stop, check-on, due-stop, mark-on, less}
+use Rattle.listing.proofs.Marks.{check-stop, check-on, due-stop, mark-on, less}
 use Rattle.facts.proofs.Truth.{or-false}
 use borrow.Author.Tests.{ltb-false, eqb-true, not-false}
 

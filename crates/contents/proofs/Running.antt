@@ -24,12 +24,12 @@ use Rattle.classes.specs.declared.Found.{Found}
 use Rattle.classes.specs.Fragments.{askedAt, streamClassAt}
 use Rattle.fields.specs.declared.Field.{Field}
 use Rattle.fields.specs.Reads.{FieldReads}
-use Rattle.parts.specs.Roots.{classOf}
+use Rattle.turns.specs.Roots.{classOf}
 use Rattle.parts.specs.Ran.{RanDid, stoppedRan}
 use Rattle.contradictions.specs.Lengths.{contradicts}
 use Rattle.contents.specs.Pieces.{wholeFrame, packetEnv, behindFound}
 use Rattle.parts.proofs.Parted.{root-framed}
-use Rattle.parts.proofs.Marks.{refused-ran, marked-part, part-same, part-first, first-stopped}
+use Rattle.parts.proofs.Lists.{refused-ran, marked-part, part-same, part-first, first-stopped}
 use Rattle.contents.proofs.Lengths.{Lengths, lengths, content-full, content-lengths, content-clocks, content-marked}
 
 -- Content

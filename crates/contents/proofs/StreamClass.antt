@@ -15,9 +15,9 @@ use Rattle.classes.specs.declared.Found.the-variants.{At}
 use Rattle.classes.specs.Fragments.{askedAt, streamClassAt, findStreamAt, fragmentsOf, mapOption, rootPlace, openingSize, isStream}
 use Rattle.classes.specs.Sizes.{foundOf, Sized, SizedFragment}
 use Rattle.classes.proofs.Lookups.{found-some, first-holds}
-use Rattle.parts.specs.Roots.{classOf}
-use Rattle.events.specs.Ready.{OfStream}
-use Rattle.parts.proofs.Looked.{root-class, root-stands}
+use Rattle.turns.specs.Roots.{classOf}
+use Rattle.turns.specs.Ready.{OfStream}
+use Rattle.turns.proofs.Looked.{root-class, root-stands}
 
 pub context-class : (t : List ℕ) (o : ℕ) (x : Found) → x ≡ foundOf (rootPlace t o 0) → classOf t x ≡ (streamClassAt t o) .context
 unfolding streamClassAt

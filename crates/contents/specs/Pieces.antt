@@ -13,7 +13,7 @@ use Rattle.rules.specs.Packet.{readRoot, orElse, readContent}
 use Rattle.finding.specs.declared.Frame.{Frame}
 use Rattle.classes.specs.Fragments.{askedAt}
 use Rattle.classes.specs.Notes.{Notes}
-use Rattle.events.specs.Ready.{Ready}
+use Rattle.turns.specs.Ready.{Ready}
 
 -- "The bound is the stream's end until the packet's lengths are known"
 abbrev pub wholeFrame : List ℕ → BitPlace → Frame

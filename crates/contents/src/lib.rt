@@ -2,7 +2,6 @@
 use contradictions::above;
 use contradictions::contradict;
 use contradictions::or_else;
-use events::Asking;
 use events::read_events;
 use finding::Frame;
 use listing::State;
@@ -17,6 +16,7 @@ use rules::Entry;
 use rules::Refusal;
 use rules::Slot;
 use rules::Stop;
+use turns::Asking;
 ghost use mathlib.Core.Path.{_≡_};
 ghost use Prim.Native.Nat.{_≤_};
 ghost use lib.ListN.{length};
@@ -29,7 +29,7 @@ ghost use Rattle.classes.specs.Fragments.{streamClassAt, askedAt, findStreamAt,
 ghost use Rattle.classes.specs.declared.Found.the-variants.{At};
 ghost use Rattle.classes.specs.Sizes.{Sized, foundOf};
 ghost use Rattle.parts.specs.Ran.{RanDid};
-ghost use Rattle.events.specs.Ready.{OfStream};
+ghost use Rattle.turns.specs.Ready.{OfStream};
 ghost use Rattle.contents.specs.Pieces.{wholeFrame, behindFound, Within};
 
 const LENGTHS_SETTLED: u64 = 3;

@@ -23,15 +23,16 @@ use Rattle.listing.specs.declared.State.{State}
 use Rattle.listing.specs.declared.Went.{Went}
 use Rattle.listing.specs.declared.Went.the-variants.{On, Stopped}
 use Rattle.finding.specs.Framed.{Framed, envOf}
-use Rattle.listing.specs.Did.{Did, full, outOf}
+use Rattle.listing.specs.Did.{Did, full, outOf, atPlace}
 use Rattle.listing.proofs.Checks.{room-first, no-room-first}
 use Rattle.listing.proofs.Roles.{went-listing}
 use Rattle.listing.proofs.Parts.{Part, part-start, part-step, part-stop, part-last-on, part-length, back-room, lent, merged, lent-room}
 use Rattle.parts.specs.declared.Ran.{Ran}
 use Rattle.parts.specs.Ran.{RanDid, EventDid, stoppedRan}
-use Rattle.events.specs.Event.{startState, atPlace}
-use Rattle.parts.proofs.Marks.{part-same, change-on}
-use Rattle.events.proofs.Evented.{behindStart, event-full, event-starts}
+use Rattle.event.specs.Start.{startState}
+use Rattle.parts.proofs.Lists.{part-same}
+use Rattle.listing.proofs.Marks.{change-on}
+use Rattle.event.proofs.Evented.{behindStart, event-full, event-starts}
 use Rattle.events.proofs.Moving.{event-moves, onward-out, MovedOn}
 
 module _ (a : Asked) (c : StreamClass) (b u : List ℕ) (f : Frame) (to : BitPlace) (o : Out) (given : Slots) where

@@ -1,6 +1,4 @@
-// A packet's events: "While the place is below the content's end". Then "entry 7; the place becomes P plus total". In order: event,
-// one event.
-use classes::Found;
+// A packet's events: "While the place is below the content's end". Then "entry 7; the place becomes P plus total".
 use event::read_event;
 use finding::Frame;
 use listing::State;
@@ -13,31 +11,19 @@ use rules::Entry;
 use rules::Refusal;
 use rules::Slot;
 use rules::Stop;
+use turns::Asking;
 ghost use mathlib.Core.Path.{_≡_};
 ghost use Prim.Native.Nat.{_-_, _≤_};
 ghost use lib.ListN.{length};
 ghost use Rattle.rules.specs.Packet.{readEvents};
 ghost use Rattle.finding.specs.Framed.{Framed, envOf};
-ghost use Rattle.listing.specs.Did.{full};
+ghost use Rattle.listing.specs.Did.{full, atPlace};
 ghost use Rattle.classes.specs.Notes.{notes};
 ghost use Rattle.classes.specs.Fragments.{streamClassAt, askedAt};
 ghost use Rattle.parts.specs.Ran.{RanDid};
-ghost use Rattle.events.specs.Ready.{Ready, OfStream};
-ghost use Rattle.events.specs.Event.{atPlace};
-
-mod event;
-mod opening;
+ghost use Rattle.turns.specs.Ready.{Ready, OfStream};
 
 const PACKET_ENDS: u64 = 7;
-
-// What a packet's events ask of their stream class: where it stands, its id, whether it has a clock, and two of its roots.
-pub struct Asking {
-    pub class: usize,
-    pub id: u64,
-    pub timed: bool,
-    pub header: Found,
-    pub common: Found,
-}
 
 // The events from a state on, up to the bound; and then the padding up to a place.
 pub fn read_events(

@@ -29,12 +29,12 @@ use Rattle.finding.specs.declared.Frame.{Frame}
 use Rattle.finding.specs.Framed.{Framed, envOf}
 use Rattle.listing.specs.declared.State.{State}
 use Rattle.listing.specs.declared.Went.the-variants.{On, Stopped}
-use Rattle.listing.specs.Did.{full}
+use Rattle.listing.specs.Did.{full, atPlace}
 use Rattle.listing.proofs.Roles.{went-no-further}
 use Rattle.listing.proofs.Parts.{Part, part-last-on, part-last-stopped, part-length, back-room, lent, merged}
 use Rattle.fields.specs.declared.Field.{Field}
-use Rattle.fields.specs.Reads.{FieldReads, openedState}
-use Rattle.fields.proofs.Standing.{depth-some}
+use Rattle.fields.specs.Reads.{FieldReads}
+use Rattle.classes.proofs.Standing.{depth-some}
 use Rattle.fields.proofs.Turns.{Call, call, outcome, CallReads, stoppedCall, classRead, membersRead, elementsRead, did-length}
 
 -- kinds 28 to 32 have a byte or more behind their kind
@@ -120,8 +120,8 @@ module _ {b u : List ℕ} {f : Frame} {t : List ℕ} {x : Notes} {d at : ℕ} {c
 
   -- the field is its entry, and then m
   module _ {p : BitPlace} (v : ℕ) {m : Step} {ws₁ ys : List ℕ} {r : Field} (o : outcome this ≡ (listed (entry (u8 t at) p 0 v) p ⨾ m) s)
-      (e : ws₁ ≡ words (entry (u8 t at) p 0 v ∷ []) ++ drop 4 ws) (did : FieldReads m (openedState p st) l r (lent 4 ws₁) ys) where
-    entry-part : Part (outcome this) m ws ws₁ 4 (openedState p st) l
+      (e : ws₁ ≡ words (entry (u8 t at) p 0 v ∷ []) ++ drop 4 ws) (did : FieldReads m (atPlace p st) l r (lent 4 ws₁) ys) where
+    entry-part : Part (outcome this) m ws ws₁ 4 (atPlace p st) l
     unfolding _⨾_ after listed
     entry-part = record { listed = entry (u8 t at) p 0 v ∷ []; list = e; counted = refl; room = h .room; rest = o }
 
@@ -139,12 +139,12 @@ module _ {b u : List ℕ} {f : Frame} {t : List ℕ} {x : Notes} {d at : ℕ} {c
 
   pub members-closed : {o : Inside} {p : BitPlace} {v at′ n : ℕ} {ws₁ ys : List ℕ} {r : Field}
       → o ≡ insideOf t x at f (st .place) c → o ≡ Members p v at′ n → ws₁ ≡ words (entry (u8 t at) p 0 v ∷ []) ++ drop 4 ws
-      → FieldReads (membersRead (d - 1) t at′ n (envOf b u f)) (openedState p st) l r (lent 4 ws₁) ys → Closed this ws₁ ys r
+      → FieldReads (membersRead (d - 1) t at′ n (envOf b u f)) (atPlace p st) l r (lent 4 ws₁) ys → Closed this ws₁ ys r
   unfolding opened
   members-closed look e = closed _ (opened-read ∙ rw (sym look ∙ e) refl)
 
   pub elements-closed : {o : Inside} {p : BitPlace} {v at′ n : ℕ} {ws₁ ys : List ℕ} {r : Field}
       → o ≡ insideOf t x at f (st .place) c → o ≡ Elements p v at′ n → ws₁ ≡ words (entry (u8 t at) p 0 v ∷ []) ++ drop 4 ws
-      → FieldReads (elementsRead (d - 1) t at′ n (envOf b u f)) (openedState p st) l r (lent 4 ws₁) ys → Closed this ws₁ ys r
+      → FieldReads (elementsRead (d - 1) t at′ n (envOf b u f)) (atPlace p st) l r (lent 4 ws₁) ys → Closed this ws₁ ys r
   unfolding opened
   elements-closed look e = closed _ (opened-read ∙ rw (sym look ∙ e) refl)

@@ -1,15 +1,13 @@
 -- A walk, turn by turn: no room, or a leaf or a field that holds others, which stops the walk or goes on.
 -- In order: calls of the cycle; what a walk keeps; one turn; the walk's end; slots past the sixty-four.
-use mathlib.Core.Path.{_≡_, refl, ap, sym, _∙_}
-use mathlib.Core.Logic.{⊎-elim, _⊎_}
+use mathlib.Core.Path.{_≡_, refl, ap, _∙_}
 use mathlib.Core.List.{List, [], _∷_, append-nil}
 use Prim.Native.Nat.{ℕ, zero, suc, _+_, _-_, _≤_, _<_}
 use native.Mathlib.Omega.{arith}
 use borrow.Rule.Slice.PartMut.{same-len-mid}
-use lib.ListN.{length, set, getD, length-set}
+use lib.ListN.{length, set, length-set}
 use Rattle.rules.specs.declared.Stop.{Stop}
 use Rattle.rules.specs.declared.Content.{Content}
-use Rattle.rules.specs.declared.Content.the-variants.{Unset}
 use Rattle.rules.specs.declared.Slot.{Slot}
 use Rattle.rules.specs.declared.Refusal.the-variants.{ListFull}
 use Rattle.rules.specs.Limits.{slotCount}
@@ -32,7 +30,7 @@ use Rattle.listing.proofs.Parts.{Part, part-start, part-step, part-stop, part-e
 use Rattle.fields.specs.declared.Field.{Field}
 use Rattle.bykind.specs.Reads.{LeafReads}
 use Rattle.fields.specs.Reads.{FieldReads, stoppedField}
-use Rattle.fields.proofs.Standing.{First, no-member}
+use Rattle.classes.proofs.Standing.{First, no-member}
 use Rattle.laws.proofs.Between.{read-between}
 
 -- a call of the cycle: it reads `all`, from `came` and `given` on, and lists into `list`
@@ -222,17 +220,3 @@ set-past (y ∷ l) (suc i) x h = ap (λ t. y ∷ t) (set-past l i x (omega arith
 pub no-slot : (l : Slots) (i : ℕ) (x : Content) → length l ≡ slotCount → slotCount ≤ i → setSlot l i x ≡ l
 unfolding setSlot
 no-slot l i x n h = set-past l i _ (omega arith)
-
-get-past : (l : Slots) (i : ℕ) (x : Slot) → length l ≤ i → getD l i x ≡ x
-get-past [] i x h = refl
-get-past (y ∷ l) zero x h = absurd (omega arith)
-get-past (y ∷ l) (suc i) x h = get-past l i x (omega arith)
-
-no-content : (l : Slots) (i : ℕ) → length l ≡ slotCount → slotCount ≤ i → slotAt l i ≡ Unset
-unfolding slotAt
-no-content l i n h = ap (λ x. x .content) (get-past l i _ (omega arith))
-
--- the content of the slot that a field reads: nothing is there past the sixty-four
-pub content-met : (l : Slots) {i j : ℕ} {x : Content} {A B : Type 0} → length l ≡ slotCount → i ≡ j → (A → x ≡ slotAt l i)
-    → (B → (slotCount ≤ i) × (x ≡ Unset)) → A ⊎ B → slotAt l j ≡ x
-content-met l {i} n e a b h = ap (slotAt l) (sym e) ∙ ⊎-elim (λ y. sym (a y)) (λ y. no-content l i n (b y .0) ∙ sym (b y .1)) h

@@ -3,7 +3,6 @@ use Prim.Native.Nat.{ℕ}
 use mathlib.Core.Path.{_≡_}
 use mathlib.Core.List.{List}
 use lib.ListN.{length}
-use Rattle.rules.specs.declared.BitPlace.{BitPlace}
 use Rattle.rules.specs.declared.Stop.{Stop}
 use Rattle.rules.specs.Limits.{slotCount}
 use Rattle.rules.specs.Slots.{Slots}
@@ -21,7 +20,3 @@ pub record FieldReads (m : Step) (st : State) (l : Slots) (r : Field) (ws ws′ 
 
 abbrev pub stoppedField : Stop → ℕ → State → Slots → Field
 stoppedField v n st l = record { went = Stopped v; used = n; state = st; slots = l }
-
--- the state at a place, where a field's entry has been listed
-abbrev pub openedState : BitPlace → State → State
-openedState p st = record { place = p; order = st .order; clock = st .clock; last = st .last; said = st .said }

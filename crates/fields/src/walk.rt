@@ -32,7 +32,8 @@ ghost use Rattle.rules.specs.Field.{read, readMembers, times};
 ghost use Rattle.finding.specs.Framed.{Framed, envOf};
 ghost use Rattle.classes.specs.Trees.{whole, wholeMembers, stoodAt, classAt, membersAt};
 ghost use Rattle.classes.specs.Notes.{notes, Prepared};
-ghost use Rattle.fields.specs.Reads.{FieldReads, stoppedField, openedState};
+ghost use Rattle.fields.specs.Reads.{FieldReads, stoppedField};
+ghost use Rattle.listing.specs.Did.{atPlace};
 
 // The field of the class at a byte, which holds fields, where there is room for its entry. `left` depths are left, its own among them.
 pub fn read_field(
@@ -371,7 +372,7 @@ fn walk_elements(
 // The entry of a field that holds fields: it has no bits of its own. Gives the state at the field's place.
 fn enter(kind: u64, place: BitPlace, value: u64, st: State, list: &mut [u64]) -> State
     requires { ⌜ 4 ≤ length (now list) ⌝ }
-    ensures { λ r. ⌜ r ≡ openedState place st ⌝ }
+    ensures { λ r. ⌜ r ≡ atPlace place st ⌝ }
     ensures { λ _. ⌜ now (list .exit) ≡ words (record { kind = kind; place = place; bits = 0; value = value } ∷ []) ++ drop 4 (now (list .entry)) ⌝ }
 {
     entry::write(

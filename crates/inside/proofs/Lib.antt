@@ -3,3 +3,4 @@ pub mod Holders
 pub mod Noted
 pub mod Opened
 pub mod Held
+pub mod Slots

@@ -1,3 +1,4 @@
 pub mod Checks
+pub mod Marks
 pub mod Parts
 pub mod Roles

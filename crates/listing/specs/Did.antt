@@ -3,6 +3,7 @@ use Prim.Native.Nat.{ℕ, _-_, _*_, _≤_}
 use mathlib.Core.Path.{_≡_}
 use mathlib.Core.List.{List, _++_}
 use lib.ListN.{length, drop}
+use Rattle.rules.specs.declared.BitPlace.{BitPlace}
 use Rattle.rules.specs.declared.Entry.{Entry}
 use Rattle.rules.specs.declared.Stop.{Stop}
 use Rattle.rules.specs.Slots.{Slots}
@@ -24,6 +25,10 @@ full st l room = record {
   last = st .last;
   said = st .said;
 }
+
+-- the same state at a place
+abbrev pub atPlace : BitPlace → State → State
+atPlace p st = record { place = p; order = st .order; clock = st .clock; last = st .last; said = st .said }
 
 unfoldable pub outOf : List Entry → Went → State → Slots → ℕ → Out
 outOf es On st l room = go es (full st l room)

@@ -16,7 +16,7 @@ use Rattle.classes.specs.Fragments.{askedAt, streamClassAt, findStreamAt, fragm
 use Rattle.classes.specs.Sizes.{Sized, SizedFragment}
 use Rattle.classes.specs.Notes.{Notes}
 use Rattle.classes.proofs.Lookups.{first-holds}
-use Rattle.parts.specs.Roots.{classOf, RootStands}
+use Rattle.turns.specs.Roots.{classOf, RootStands}
 use Rattle.packets.specs.Pieces.{Lent}
 
 abbrev pub Positive : ℕ → Type 0

@@ -30,7 +30,7 @@ use Rattle.contents.specs.Pieces.{packetEnv, behindFound}
 use Rattle.packets.specs.Pieces.{behindHeader}
 use Rattle.events.proofs.Moving.{Onward, onward-onto, onward-after}
 use Rattle.listing.proofs.Checks.{room-first}
-use Rattle.parts.proofs.Marks.{due-stop, less}
+use Rattle.listing.proofs.Marks.{due-stop, less}
 use Rattle.contents.proofs.Lengths.{eventsOf, content-full, content-lengths, content-clocks, content-marked}
 use Rattle.packets.proofs.Packeted.{behindStart, header-differs, header-full, header-unknown, header-marked, packet-full, packet-marked}
 use Rattle.contents.proofs.Lengths.{Lengths, lengths}

@@ -15,7 +15,7 @@ use Rattle.rules.specs.Packet.{mark, readRoot, readPacket, differs, withStream,
 use Rattle.contents.specs.Pieces.{packetEnv, behindFound}
 use Rattle.packets.specs.Pieces.{behindHeader}
 use Rattle.listing.proofs.Checks.{room-first}
-use Rattle.parts.proofs.Marks.{check-stop, check-on, due-stop, mark-on, change-on, less}
+use Rattle.listing.proofs.Marks.{check-stop, check-on, due-stop, mark-on, change-on, less}
 
 module _ (t : Asked) (b : List ℕ) (p : BitPlace) (i : Stated) (s : Whole) where
   pub header-differs : differs (s .said .stream) i ≡ true → behindHeader t b p i s ≡ stop [] (stopAt StreamClassChanged (s .place))

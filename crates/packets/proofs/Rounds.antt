@@ -20,7 +20,7 @@ use Rattle.listing.proofs.Parts.{Part, part-start, part-step, part-stop, part-e
 use Rattle.parts.specs.declared.Ran.{Ran}
 use Rattle.parts.specs.Ran.{RanDid, stoppedRan}
 use Rattle.packets.specs.Pieces.{firstState, Starts, PacketDid}
-use Rattle.parts.proofs.Marks.{part-same}
+use Rattle.parts.proofs.Lists.{part-same}
 use Rattle.packets.proofs.Fitted.{Fit}
 use Rattle.events.proofs.Moving.{Onward}
 use Rattle.packets.proofs.Onward.{Behind, packet-onward}

@@ -30,12 +30,12 @@ use Rattle.classes.specs.Notes.{Notes}
 use Rattle.classes.proofs.Lookups.{found-some, found-none}
 use Rattle.fields.specs.declared.Field.{Field}
 use Rattle.fields.specs.Reads.{FieldReads}
-use Rattle.parts.specs.Roots.{classOf}
+use Rattle.turns.specs.Roots.{classOf}
 use Rattle.parts.specs.Ran.{RanDid, stoppedRan}
 use Rattle.contents.specs.Pieces.{wholeFrame, behindFound}
 use Rattle.packets.specs.Pieces.{behindHeader, freshState, Lent, Starts}
 use Rattle.parts.proofs.Parted.{root-framed}
-use Rattle.parts.proofs.Marks.{refused-ran, marked-part}
+use Rattle.parts.proofs.Lists.{refused-ran, marked-part}
 use Rattle.packets.proofs.Packeted.{header-differs, header-full, header-unknown, header-marked, packet-full, packet-marked}
 
 -- where a packet starts, up to the stream's end

@@ -21,8 +21,8 @@ use Rattle.classes.specs.Fragments.{askedAt}
 use Rattle.classes.specs.Notes.{Notes}
 use Rattle.parts.specs.declared.Ran.{Ran}
 use Rattle.parts.specs.Ran.{RanDid}
-use Rattle.parts.specs.Roots.{classOf, RootStands}
-use Rattle.events.specs.Ready.{Ready}
+use Rattle.turns.specs.Roots.{classOf, RootStands}
+use Rattle.turns.specs.Ready.{Ready}
 use Rattle.contents.specs.Pieces.{behindFound}
 
 -- behind the header: 32, the lookup and the rest

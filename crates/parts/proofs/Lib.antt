@@ -1,4 +1,3 @@
-pub mod Marks
-pub mod Looked
+pub mod Lists
 pub mod Rooted
 pub mod Parted

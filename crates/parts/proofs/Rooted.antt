@@ -16,39 +16,34 @@ use Rattle.listing.specs.declared.Went.the-variants.{On}
 use Rattle.listing.specs.Did.{full, outOf}
 use Rattle.classes.specs.declared.Found.{Found}
 use Rattle.classes.specs.declared.Found.the-variants.{At, Nothing}
-use Rattle.classes.specs.Trees.{stoodAt, membersAt, whole, wholeMembers}
+use Rattle.classes.specs.Trees.{stoodAt, membersAt}
 use Rattle.fields.specs.declared.Field.{Field}
 use Rattle.fields.specs.Reads.{FieldReads}
-use Rattle.parts.specs.Roots.{classOf, RootStands}
+use Rattle.turns.specs.Roots.{classOf}
 
-module _ (t : List ℕ) (root : Found) where
-  pub one-member : (p : ℕ) → root ≡ At p → RootStands t root → wholeMembers (whole depthLimit t) (stoodAt depthLimit t) p 1
-  unfolding RootStands wholeMembers
-  one-member p e w = (rw (e) at w, tt)
+module _ (t : List ℕ) (root : Found) (e : Env) (st : State) (l : Slots) where
+  pub no-root : (ws : List ℕ) → length l ≡ slotCount → root ≡ Nothing
+      → FieldReads (readRoot e (classOf t root)) st l (record { went = On; used = 0; state = st; slots = l }) ws ws
+  unfolding classOf readRoot pass outOf words
+  no-root ws n h =
+      let all : length ws - 0 ≡ length ws = omega arith in
+      record {
+        did = record {
+          listed = [];
+          out = rw (h, all) refl;
+          counted = refl;
+          list = refl;
+          room = omega arith;
+          kept = λ w k. let z : _≡_ {A = ℕ} 0 1 = cc in absurd (omega arith);
+        };
+        kept = λ v k. refl;
+        many = n;
+      }
 
-  module _ (e : Env) (st : State) (l : Slots) where
-    pub no-root : (ws : List ℕ) → length l ≡ slotCount → root ≡ Nothing
-        → FieldReads (readRoot e (classOf t root)) st l (record { went = On; used = 0; state = st; slots = l }) ws ws
-    unfolding classOf readRoot pass outOf words
-    no-root ws n h =
-        let all : length ws - 0 ≡ length ws = omega arith in
-        record {
-          did = record {
-            listed = [];
-            out = rw (h, all) refl;
-            counted = refl;
-            list = refl;
-            room = omega arith;
-            kept = λ w k. let z : _≡_ {A = ℕ} 0 1 = cc in absurd (omega arith);
-          };
-          kept = λ v k. refl;
-          many = n;
-        }
+  root-reads : (p : ℕ) → root ≡ At p → (s : _) → readMembers e (membersAt (stoodAt depthLimit t) p 1) s ≡ readRoot e (classOf t root) s
+  unfolding classOf readRoot readMembers membersAt _⨾_
+  root-reads p h s = rw (h) (after-pass _)
 
-    root-reads : (p : ℕ) → root ≡ At p → (s : _) → readMembers e (membersAt (stoodAt depthLimit t) p 1) s ≡ readRoot e (classOf t root) s
-    unfolding classOf readRoot readMembers membersAt _⨾_
-    root-reads p h s = rw (h) (after-pass _)
-
-    pub a-root : (p : ℕ) {r : Field} {ws ws′ : List ℕ} → root ≡ At p → FieldReads (readMembers e (membersAt (stoodAt depthLimit t) p 1)) st l r ws ws′
-        → FieldReads (readRoot e (classOf t root)) st l r ws ws′
-    a-root p {r} {ws} {ws′} h did = record { did = rw (root-reads p h (full st l (length ws))) at (did .did); kept = did .kept; many = did .many }
+  pub a-root : (p : ℕ) {r : Field} {ws ws′ : List ℕ} → root ≡ At p → FieldReads (readMembers e (membersAt (stoodAt depthLimit t) p 1)) st l r ws ws′
+      → FieldReads (readRoot e (classOf t root)) st l r ws ws′
+  a-root p {r} {ws} {ws′} h did = record { did = rw (root-reads p h (full st l (length ws))) at (did .did); kept = did .kept; many = did .many }

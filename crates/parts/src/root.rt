@@ -5,15 +5,13 @@ use fields::walk::walk_members;
 use finding::Frame;
 use listing::State;
 use listing::Went;
+use records::limits::DEPTH_LIMIT;
 use rules::Slot;
 ghost use Rattle.rules.specs.Packet.{readRoot};
 ghost use Rattle.finding.specs.Framed.{Framed, envOf};
 ghost use Rattle.classes.specs.Notes.{notes, Prepared};
 ghost use Rattle.fields.specs.Reads.{FieldReads};
-ghost use Rattle.parts.specs.Roots.{classOf, RootStands};
-
-// Depths that a root's structure may have, its own among them.
-const DEPTH_LIMIT: usize = 8;
+ghost use Rattle.turns.specs.Roots.{classOf, RootStands};
 
 // The fields of a root, if there is one.
 pub fn read_root(

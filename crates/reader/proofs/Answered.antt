@@ -40,13 +40,13 @@ use Rattle.classes.proofs.Asked.{asked-at}
 use Rattle.laws.specs.Kept.{KeepsEvents}
 use Rattle.laws.proofs.Kept.{accepted-keeps}
 use Rattle.parts.specs.declared.Ran.{Ran}
-use Rattle.parts.specs.Roots.{classOf, RootStands}
-use Rattle.events.specs.Ready.{Ready}
+use Rattle.turns.specs.Roots.{classOf, RootStands}
+use Rattle.turns.specs.Ready.{Ready}
 use Rattle.parts.specs.Ran.{RanDid}
 use Rattle.packets.specs.Pieces.{firstState, Lent}
 use Rattle.answers.specs.Answer.{refusedWith, answerOf}
 use Rattle.reader.specs.Answers.{Answers}
-use Rattle.parts.proofs.Looked.{root-class, root-stands}
+use Rattle.turns.proofs.Looked.{root-class, root-stands}
 
 -- What the trace class lends
 

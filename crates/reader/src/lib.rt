@@ -25,7 +25,7 @@ ghost use Rattle.rules.specs.Parse.{checked};
 ghost use Rattle.rules.specs.Read.{readAll, readStream, resultOf, listAfter};
 ghost use Rattle.classes.specs.Notes.{notes};
 ghost use Rattle.classes.specs.Fragments.{askedAt};
-ghost use Rattle.events.specs.Ready.{Ready};
+ghost use Rattle.turns.specs.Ready.{Ready};
 ghost use Rattle.answers.specs.Answer.{refusedWith};
 ghost use Rattle.reader.specs.Answers.{Answers};
 

@@ -16,7 +16,7 @@ use native.Mathlib.Omega.{arith}
 use lib.ListN.{length}
 use Prim.Native.Nat.{_-_}
 use borrow.Rule.Slice.PartMut.{same-len-mid}
-use Rattle.parts.proofs.Marks.{ran-room, ran-stopped, ran-on}
+use Rattle.parts.proofs.Lists.{ran-room, ran-stopped, ran-on}
 use Rattle.contents.proofs.Running.{content-ran-full, content-ran-lengths, content-ran-clocks, content-part, content-lengths-fine, events-framed}
 
 stopped-requires : tie.Need-stopped-requires

@@ -16,9 +16,9 @@ use lib.ListN.{length}
 use Prim.Native.Nat.{_-_}
 use borrow.Rule.Slice.PartMut.{same-len-mid}
 use Rattle.listing.proofs.Parts.{part-length}
-use Rattle.parts.proofs.Looked.{root-stands}
+use Rattle.turns.proofs.Looked.{root-stands}
 use Rattle.contents.proofs.StreamClass.{stream-sized, context-class}
-use Rattle.parts.proofs.Marks.{ran-room, ran-stopped, ran-on}
+use Rattle.parts.proofs.Lists.{ran-room, ran-stopped, ran-on}
 use Rattle.contents.proofs.Running.{context-framed, context-stopped, context-part}
 
 root-place-requires : tie.Need-root-place-requires

@@ -4,7 +4,7 @@ use Rattle.events.proofs.read_events.Tie as tie
 use Rattle.events.proofs.read_events.Reads as reads
 use Rattle.events.proofs.read_events.Lts as lts
 use Rattle.listing.proofs.entry.write.Reads as write-reads
-use Rattle.events.proofs.event.read_event.Reads as read-event-reads
+use Rattle.event.proofs.read_event.Reads as read-event-reads
 use Rattle.parts.proofs.stopped.Reads as stopped-reads
 use Rattle.events.proofs.ended.Reads as ended-reads
 use borrow.Author.Needs.{needs}

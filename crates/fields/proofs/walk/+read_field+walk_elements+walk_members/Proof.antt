@@ -40,10 +40,11 @@ use Rattle.fields.specs.declared.Field.{Field}
 use Rattle.listing.proofs.Parts.{part-length, lent-room}
 use Rattle.classes.specs.Trees.{whole, wholeMembers, stoodAt, classAt, nextAt}
 use Rattle.classes.specs.Notes.{notes, Prepared}
-use Rattle.fields.proofs.Standing.{depth-some, kind-high, stands-within, leaf-whole, leaf-class, First, first}
+use Rattle.classes.proofs.Standing.{depth-some, kind-high, stands-within, leaf-whole, leaf-class, First, first}
 use Rattle.fields.proofs.Turns.{Call, call, env, classRead, membersRead, elementsRead, Walked, walk-start, walk-end}
 use Rattle.fields.proofs.Turns.{Turn, Turned, member-turn, element-turn, turn-full, leaf-turned, field-turned}
-use Rattle.fields.proofs.Turns.{no-slot, content-met, members-end, no-times}
+use Rattle.fields.proofs.Turns.{no-slot, members-end, no-times}
+use Rattle.inside.proofs.Slots.{content-met}
 use Rattle.fields.proofs.Holds.{Holder, Closed, slot-within, can-look, members-held, elements-held}
 use Rattle.fields.proofs.Holds.{refused-reads, members-closed, elements-closed}
 

@@ -14,7 +14,7 @@ use native.Mathlib.Omega.{arith}
 use lib.ListN.{length}
 use Prim.Native.Nat.{_-_}
 use borrow.Rule.Slice.PartMut.{same-len-mid}
-use Rattle.parts.proofs.Marks.{ran-room, ran-stopped, ran-on}
+use Rattle.parts.proofs.Lists.{ran-room, ran-stopped, ran-on}
 use Rattle.packets.proofs.Running.{header-ran-differs, header-ran-full, header-ran-unknown, header-part}
 
 differs-requires : tie.Need-differs-requires

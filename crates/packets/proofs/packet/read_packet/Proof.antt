@@ -20,7 +20,7 @@ use Rattle.listing.proofs.Parts.{part-length, merged}
 use Rattle.classes.specs.Notes.{notes}
 use Rattle.rules.specs.Slots.{noSlots}
 use Rattle.packets.specs.Pieces.{freshState}
-use Rattle.parts.proofs.Marks.{ran-room, ran-stopped, ran-on}
+use Rattle.parts.proofs.Lists.{ran-room, ran-stopped, ran-on}
 use Rattle.packets.proofs.Running.{start-framed, packet-ran-full, header-framed, header-stopped, header-room, behind-part}
 
 stopped-requires : tie.Need-stopped-requires

@@ -5,7 +5,8 @@ use Rattle.parts.proofs.root.read_root.Tie as tie
 use Rattle.parts.proofs.root.read_root.Reads as reads
 use Rattle.parts.proofs.root.read_root.Lts as lts
 use Rattle.fields.proofs.walk.walk_members.Reads as walk-members-reads
-use Rattle.parts.proofs.Rooted.{one-member, no-root, a-root}
+use Rattle.turns.proofs.Looked.{one-member}
+use Rattle.parts.proofs.Rooted.{no-root, a-root}
 
 enum-told : tie.Need-enum-told
 enum-told c = search needs

@@ -1,0 +1,3 @@
+pub mod Unset
+pub mod Evented
+pub mod Turning

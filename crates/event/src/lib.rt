@@ -1,0 +1,252 @@
+// One event, step by step as the paper lists them: "entry 4; event header; 39; entry 5 and the lookup of the id; common, specific,
+// payload; 38 if the place did not move". Its slots go in by value, and none come back.
+use bykind::FIRST_THAT_HOLDS;
+use bykind::leaf_slot;
+use bykind::read_leaf;
+use bytes::size_at;
+use fields::walk::read_field;
+use finding::Frame;
+use listing::State;
+use listing::Went;
+use listing::entry::write;
+use parts::Ran;
+use parts::stopped;
+use rules::Content;
+use rules::Entry;
+use rules::Refusal;
+use rules::Said;
+use rules::Slot;
+use rules::Stop;
+use turns::Asking;
+use turns::open_turn;
+ghost use mathlib.Core.Path.{_≡_};
+ghost use Rattle.rules.specs.Slots.{packetSlots};
+ghost use Rattle.rules.specs.Packet.{readEvent};
+ghost use Rattle.finding.specs.Framed.{Framed, envOf};
+ghost use Rattle.classes.specs.Notes.{notes};
+ghost use Rattle.classes.specs.Fragments.{streamClassAt, askedAt};
+ghost use Rattle.parts.specs.Ran.{EventDid};
+ghost use Rattle.turns.specs.Ready.{Ready, OfStream};
+ghost use Rattle.event.specs.Start.{startState};
+
+const EVENT_STARTS: u64 = 4;
+
+// Header, the lookup of the id, common, specific, payload.
+const TURNS: usize = 5;
+
+const PACKET_SLOTS: usize = 16;
+
+// The event of a packet that begins at a state, the numberth.
+pub fn read_event(
+    table: &[u8],
+    sizes: &[u16],
+    aligns: &[u8],
+    index: &[u32],
+    uuid: &[u8],
+    stream: &[u8],
+    frame: Frame,
+    with: Asking,
+    number: u64,
+    begun: State,
+    given: [Slot; 64],
+    list: &mut [u64],
+) -> Ran
+    requires { ⌜ Ready (now table) (notes (now sizes) (now aligns)) ⌝ }
+    requires { ⌜ OfStream (now table) with ⌝ }
+    requires { ⌜ Framed (now stream) frame (begun .place) ⌝ }
+    ensures { λ r. ⌜
+        EventDid
+        (readEvent (askedAt (now (table .entry))) (streamClassAt (now (table .entry)) (with .class))
+        (envOf (now (stream .entry)) (now (uuid .entry)) frame) number)
+        begun given r (now (list .entry)) (now (list .exit))
+        ⌝ }
+{
+    if list.len() < 4 {
+        let place = begun.place;
+        return stopped(
+            Stop {
+                why: Refusal::ListFull,
+                place,
+            },
+            0,
+            begun,
+        );
+    }
+    let place = begun.place;
+    write(
+        list,
+        Entry {
+            kind: EVENT_STARTS,
+            place,
+            bits: 0,
+            value: number,
+        },
+    );
+    let mut state = fresh(begun);
+    let mut slots = event_slots(given);
+    let mut used: usize = 4;
+    let mut class: usize = 0;
+    let mut turn: usize = 0;
+    while turn < TURNS {
+        let o = open_turn(
+            table,
+            sizes,
+            aligns,
+            index,
+            frame,
+            with,
+            turn,
+            class,
+            state,
+            &mut list[used..],
+        );
+        used = used + o.used;
+        let went = o.went;
+        match went {
+            Went::Stopped(stop) => {
+                return stopped(stop, used, begun);
+            }
+            Went::On => {}
+        }
+        let entered = o.state;
+        state = entered;
+        class = o.class;
+        turn = turn + 1;
+        let left = o.left;
+        let mut next = o.from;
+        let mut todo = o.count;
+        while 0 < todo {
+            if list.len() - used < 4 {
+                let place = state.place;
+                return stopped(
+                    Stop {
+                        why: Refusal::ListFull, // 40, at the member's place
+                        place,
+                    },
+                    used,
+                    begun,
+                );
+            }
+            if table[next] < FIRST_THAT_HOLDS {
+                let mut content = Content::Unset;
+                let i = leaf_slot(table, next);
+                if i < 64 {
+                    let slot = slots[i];
+                    content = slot.content;
+                }
+                let r = read_leaf(
+                    table,
+                    next,
+                    uuid,
+                    stream,
+                    frame,
+                    state,
+                    content,
+                    &mut list[used..],
+                );
+                used = used + r.used;
+                let went = r.went;
+                match went {
+                    Went::Stopped(stop) => {
+                        return stopped(stop, used, begun);
+                    }
+                    Went::On => {}
+                }
+                next = next + size_at(sizes, next);
+                todo = todo - 1;
+                let changed = r.state;
+                state = changed;
+                let to = r.slot as usize;
+                if to < 64 {
+                    let content = r.content;
+                    slots[to] = Slot { content };
+                }
+                continue;
+            }
+            let r = read_field(
+                table,
+                sizes,
+                aligns,
+                uuid,
+                stream,
+                frame,
+                next,
+                left,
+                state,
+                slots,
+                &mut list[used..],
+            );
+            used = used + r.used;
+            let went = r.went;
+            match went {
+                Went::Stopped(stop) => {
+                    return stopped(stop, used, begun);
+                }
+                Went::On => {}
+            }
+            next = next + size_at(sizes, next);
+            todo = todo - 1;
+            let changed = r.state;
+            state = changed;
+            let held = r.slots;
+            slots = held;
+        }
+    }
+    if state.place.0 == begun.place.0 {
+        let place = state.place;
+        return stopped(
+            Stop {
+                why: Refusal::EventTookNoBits,
+                place,
+            },
+            used,
+            begun,
+        );
+    }
+    Ran {
+        went: Went::On,
+        used,
+        state,
+    }
+}
+
+// An event's id is 0 until its header says one.
+fn fresh(st: State) -> State
+    ensures { λ r. ⌜ r ≡ startState st ⌝ }
+{
+    let place = st.place;
+    let order = st.order;
+    let clock = st.clock;
+    let said = st.said;
+    let total = said.total;
+    let content = said.content;
+    let ending = said.ending;
+    State {
+        place,
+        order,
+        clock,
+        last: st.last,
+        said: Said {
+            stream: said.stream,
+            total,
+            content,
+            ending,
+            event: 0,
+        },
+    }
+}
+
+// Slots 16 to 63 are unset when an event starts.
+fn event_slots(given: [Slot; 64]) -> [Slot; 64]
+    ensures { λ r. ⌜ r ≡ packetSlots given ⌝ }
+{
+    let mut slots = given;
+    let mut i = PACKET_SLOTS;
+    while i < 64 {
+        slots[i] = Slot {
+            content: Content::Unset,
+        };
+        i = i + 1;
+    }
+    slots
+}

@@ -1,0 +1,3 @@
+pub mod Looked
+pub mod Bodies
+pub mod Openings

@@ -1,0 +1,122 @@
+use borrow.Author.Needs.{needs}
+use Rattle.turns.proofs.open_root.Statement.{statement}
+use Rattle.turns.proofs.open_root.Tie as tie
+use Rattle.turns.proofs.open_root.Reads as reads
+use Rattle.turns.proofs.open_root.Lts as lts
+use Rattle.turns.proofs.unopened.Reads as unopened-reads
+use Rattle.inside.proofs.look.look.Reads as look-reads
+use Rattle.listing.proofs.entry.write.Reads as write-reads
+use Rattle.classes.specs.Notes.{notes}
+use Rattle.rules.specs.Record.{u8}
+use Rattle.turns.proofs.Openings.{none-opened, one-opened, root-within, root-looks, root-entered}
+
+enum-told : tie.Need-enum-told
+enum-told c = search needs
+
+unopened-requires : tie.Need-unopened-requires
+unopened-requires c κs = search needs
+
+enum-known-root : tie.Need-enum-known-root
+enum-known-root c = search needs
+
+unopened-requires-2 : tie.Need-unopened-requires-2
+unopened-requires-2 c κs = search needs
+
+returns : tie.Need-returns
+returns c =
+    rw (c .unopened2 .ensures) (one-opened _ _ _ _ _ _ (c .before .before .before .root .given .1) (c .before .before .before .before .before .before .before .before .before .pre .0))
+
+shared-slice-read-if2 : tie.Need-shared-slice-read-if2
+shared-slice-read-if2 c =
+    let s = c .before .before .before .before .before .before .before .before .before in
+    root-within (s .args .table .now) (s .args .root) (s .args .frame) (s .args .st) (s .args .list .now) _ (c .before .before .before .root .given .1) (s .pre .0)
+    (notes (s .args .sizes .now) (s .args .aligns .now)) (s .pre .1 .0)
+
+look-requires : tie.Need-look-requires
+unfolding u8
+look-requires c κs =
+    let s = c .before .before .before .before .before .before .before .before .before .before in
+    let opens = root-looks (s .args .table .now) (s .args .root) (s .args .frame) (s .args .st) (s .args .list .now) _ (c .before .before .before .before .root .given .1)
+    (s .pre .0) _ (s .pre .1 .0) (c .if2 .taken) in
+    (opens, s .pre .1 .1)
+
+enum-known-place : tie.Need-enum-known-place
+enum-known-place c = search needs
+
+cast-t27 : tie.Need-cast-t27
+cast-t27 c = search needs
+
+write-requires : tie.Need-write-requires
+write-requires c κs = search needs
+
+sub-t30 : tie.Need-sub-t30
+sub-t30 c = search needs
+
+enum-told-2 : tie.Need-enum-told-2
+enum-told-2 c = search needs
+
+unopened-requires-3 : tie.Need-unopened-requires-3
+unopened-requires-3 c κs = search needs
+
+enum-told-3 : tie.Need-enum-told-3
+enum-told-3 c = search needs
+
+unopened-requires-4 : tie.Need-unopened-requires-4
+unopened-requires-4 c κs = search needs
+
+same-length : tie.Need-same-length
+same-length c = search needs
+
+returns-2 : tie.Need-returns-2
+unfolding u8
+returns-2 c =
+    let s = c .before .before .before .before .before .before .before .before .before .before .before .before .before .before .before .before .before .before .before .before in
+    root-entered _ _ _ _ _ _ (c .before .before .before .before .before .before .before .before .before .before .before .before .before .before .root .given .1) (s .pre .0) _ (s .pre .1 .0) (c .before .before .before .before .before .before .before .before .before .before .if2 .taken) (c .before .before .before .before .before .before .before .before .before .before .before .before .if1 .left)
+    (c .before .before .before .before .before .before .before .before .before .look .ensures) (c .before .before .before .before .before .before .before .place .given .1) (c .before .before .before .before .write .ensures)
+
+returns-3 : tie.Need-returns-3
+returns-3 c =
+    let s = c .before .before .before .before .before .before .before .before .before .before .before .before .before .before in
+    rw (c .unopened3 .ensures) (one-opened _ _ _ _ _ _ (c .before .before .before .before .before .before .before .before .root .given .1) (s .pre .0))
+
+returns-4 : tie.Need-returns-4
+returns-4 c =
+    let s = c .before .before .before .before .before .before .before .before .before .before .before .before .before .before in
+    rw (c .unopened4 .ensures) (one-opened _ _ _ _ _ _ (c .before .before .before .before .before .before .before .before .root .given .1) (s .pre .0))
+
+unopened-requires-5 : tie.Need-unopened-requires-5
+unopened-requires-5 c κs = search needs
+
+returns-5 : tie.Need-returns-5
+returns-5 c = rw (c .unopened .ensures) (none-opened _ _ _ _ _ (c .before .enum-told .given .1))
+
+returns-6 : tie.Need-returns-6
+returns-6 c =
+    rw (c .unopened5 .ensures) (one-opened _ _ _ _ _ _ (c .before .before .before .before .before .root .given .1) (c .before .before .before .before .before .before .before .before .before .before .before .pre .0))
+
+pub open-root-spec : {M : Type 1} → statement M
+open-root-spec =
+    tie.close
+    (tie.spec
+    enum-told
+    unopened-requires
+    enum-known-root
+    unopened-requires-2
+    returns
+    shared-slice-read-if2
+    look-requires
+    enum-known-place
+    cast-t27
+    write-requires
+    sub-t30
+    enum-told-2
+    unopened-requires-3
+    enum-told-3
+    unopened-requires-4
+    same-length
+    returns-2
+    returns-3
+    returns-4
+    unopened-requires-5
+    returns-5
+    returns-6)

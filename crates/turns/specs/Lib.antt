@@ -1,0 +1,4 @@
+pub mod Roots
+pub mod Ready
+pub mod Event
+pub mod Turns

@@ -1,0 +1,107 @@
+-- An event's turns: header, the lookup of the id, common, specific, payload. What each leaves to be read, and what is left behind it.
+use Prim.Native.Nat.{ℕ, zero, suc, _+_, _-_, _*_, _≤_}
+use mathlib.Core.Path.{_≡_}
+use mathlib.Core.List.{List, _++_}
+use lib.ListN.{length, drop}
+use Rattle.rules.specs.declared.Entry.{Entry}
+use Rattle.rules.specs.declared.Stop.{Stop}
+use Rattle.rules.specs.Limits.{slotCount, depthLimit}
+use Rattle.rules.specs.Slots.{Slots}
+use Rattle.rules.specs.Entry.{words}
+use Rattle.rules.specs.Step.{Out, Step, onto, _⨾_, pass}
+use Rattle.rules.specs.Field.{Env, readMembers}
+use Rattle.rules.specs.Table.{StreamClass, EventClass, Asked}
+use Rattle.rules.specs.Packet.{readRoot}
+use Rattle.finding.specs.declared.Frame.{Frame}
+use Rattle.finding.specs.Framed.{Framed, envOf}
+use Rattle.listing.specs.declared.State.{State}
+use Rattle.listing.specs.declared.Went.the-variants.{On, Stopped}
+use Rattle.listing.specs.Did.{Did, full}
+use Rattle.classes.specs.declared.Found.{Found}
+use Rattle.classes.specs.Trees.{whole, wholeMembers, stoodAt, membersAt}
+use Rattle.classes.specs.Fragments.{rootPlace, streamClassAt, eventClassAt, askedAt}
+use Rattle.classes.specs.Sizes.{foundOf, SizedFragment}
+use Rattle.turns.specs.Roots.{classOf, partsOf}
+use Rattle.turns.specs.declared.Asking.{Asking}
+use Rattle.turns.specs.declared.Opened.{Opened}
+use Rattle.turns.specs.declared.Turn.{Turn}
+use Rattle.turns.specs.Event.{bodyOf}
+
+-- what is left of an event from a turn on, where d is its class
+unfoldable pub turnsFrom : Asked → StreamClass → Env → EventClass → ℕ → Step
+turnsFrom a c e d zero = readRoot e (c .header) ⨾ bodyOf a c e
+turnsFrom a c e d (suc zero) = bodyOf a c e
+turnsFrom a c e d (suc (suc zero)) = partsOf e (c .common) (d .specific) (d .payload)
+turnsFrom a c e d (suc (suc (suc zero))) = readRoot e (d .specific) ⨾ readRoot e (d .payload)
+turnsFrom a c e d (suc (suc (suc (suc zero)))) = readRoot e (d .payload)
+turnsFrom a c e d (suc (suc (suc (suc (suc n))))) = pass
+
+-- the same of a table, where the event's class stands at a byte
+abbrev pub turnsAt : List ℕ → Asking → Env → ℕ → ℕ → Step
+turnsAt t w e class turn = turnsFrom (askedAt t) (streamClassAt t (w .class)) e (eventClassAt t class) turn
+
+-- the root whose turn it is; the lookup has none
+unfoldable pub rootFound : List ℕ → Asking → ℕ → ℕ → Found
+rootFound t w zero class = w .header
+rootFound t w (suc zero) class = w .header
+rootFound t w (suc (suc zero)) class = w .common
+rootFound t w (suc (suc (suc zero))) class = foundOf (rootPlace t class 0)
+rootFound t w (suc (suc (suc (suc zero)))) class = foundOf (rootPlace t class 1)
+rootFound t w (suc (suc (suc (suc (suc n))))) class = w .header
+
+-- behind the lookup, an event class stands at the byte
+abbrev pub Known : List ℕ → List ℕ → ℕ → ℕ → Type 0
+Known t s turn class = 2 ≤ turn → SizedFragment t s class
+
+-- n classes from a byte on
+abbrev pub membersRead : ℕ → List ℕ → ℕ → ℕ → Env → Step
+membersRead d t at n e = readMembers e (membersAt (stoodAt d t) at n)
+
+-- of the outcome o, `used` words stand in ws′, which was ws, and m is to be done at st and l
+pub record Begun (o : Out) (m : Step) (used : ℕ) (st : State) (l : Slots) (ws ws′ : List ℕ) : Type 0 where
+  pub listed : List Entry
+  pub list : ws′ ≡ words listed ++ drop used ws
+  pub counted : used ≡ 4 * length listed
+  pub room : used ≤ length ws
+  pub rest : o ≡ onto listed (m (full st l (length ws - used)))
+
+-- what the opening of a root left
+pub record OpenedAt (b u : List ℕ) (l : Slots) (t : List ℕ) (f : Frame) (root : Found) (st : State) (r : Opened) (ws ws′ : List ℕ) : Type 0 where
+  pub stands : wholeMembers (whole (r .left) t) (stoodAt (r .left) t) (r .from) (r .count)
+  pub framed : Framed b f (r .state .place)
+  pub begun : Begun (readRoot (envOf b u f) (classOf t root) (full st l (length ws))) (membersRead (r .left) t (r .from) (r .count) (envOf b u f))
+      (r .used) (r .state) l ws ws′
+
+abbrev pub RootOpened : List ℕ → Frame → Found → State → Opened → List ℕ → List ℕ → Type 0
+RootOpened t f root st r ws ws′ =
+    (b u : List ℕ) (l : Slots) → Framed b f (st .place) → length l ≡ slotCount → OpenedAt b u l t f root st r ws ws′
+
+-- what a turn left, or why it stopped
+pub record TurnAt (b u : List ℕ) (l : Slots) (t s : List ℕ) (w : Asking) (f : Frame) (turn class : ℕ) (st : State) (r : Turn)
+    (ws ws′ : List ℕ) : Type 0 where
+  pub known : r .went ≡ On → Known t s (turn + 1) (r .class)
+  pub stands : r .went ≡ On → wholeMembers (whole (r .left) t) (stoodAt (r .left) t) (r .from) (r .count)
+  pub framed : r .went ≡ On → Framed b f (r .state .place)
+  pub goes : r .went ≡ On
+      → Begun (turnsAt t w (envOf b u f) class turn (full st l (length ws)))
+      (membersRead (r .left) t (r .from) (r .count) (envOf b u f) ⨾ turnsAt t w (envOf b u f) (r .class) (turn + 1))
+      (r .used) (r .state) l ws ws′
+  pub stops : (v : Stop) → r .went ≡ Stopped v
+      → Did (turnsAt t w (envOf b u f) class turn (full st l (length ws))) st (Stopped v) (r .used) st l ws ws′
+  pub room : r .used ≤ length ws
+  pub same : length ws′ ≡ length ws
+
+abbrev pub TurnOpened : List ℕ → List ℕ → Asking → Frame → ℕ → ℕ → State → Turn → List ℕ → List ℕ → Type 0
+TurnOpened t s w f turn class st r ws ws′ =
+    (b u : List ℕ) (l : Slots) → Framed b f (st .place) → length l ≡ slotCount → TurnAt b u l t s w f turn class st r ws ws′
+
+-- the lookup's turn, whatever was thought to be the event's class
+abbrev pub ClassFound : List ℕ → List ℕ → Asking → State → Turn → List ℕ → List ℕ → Type 0
+ClassFound t s w st r ws ws′ = (f : Frame) (class : ℕ) → TurnOpened t s w f 1 class st r ws ws′
+
+-- a root of which nothing was read yet
+abbrev pub unopenedRoot : ℕ → ℕ → State → Opened
+unopenedRoot from n st = record { used = 0; state = st; from = from; count = n; left = depthLimit }
+
+abbrev pub stoppedTurn : Stop → State → Turn
+stoppedTurn v st = record { went = Stopped v; class = 0; used = 0; state = st; from = 0; count = 0; left = 0 }
