@@ -36,7 +36,8 @@ use Rattle.fields.proofs.Turns.{Call, call, Walked, Turn, Turned, turn-full, le
 use Rattle.inside.proofs.Slots.{content-met}
 use Rattle.turns.specs.Turns.{membersRead, turnsAt, Known, TurnAt}
 use Rattle.event.proofs.Evented.{nothing-did, moved, event-full, started, left-stops, not-moved}
-use Rattle.event.proofs.Turning.{event-begun, member-then, members-done, event-stopped, turn-room, turn-same, turn-stops, turn-goes, turns-done, event-done}
+use Rattle.event.proofs.Turning.{event-begun, member-then, members-done, event-stopped, turn-room, turn-same}
+use Rattle.event.proofs.Turning.{turn-stops, turn-goes, turns-done, event-done}
 
 -- The event's slots are its own, so what a loop keeps is said from its start on: whatever the event had listed there is still listed, and
 -- what is left is this.
@@ -67,141 +68,236 @@ abbrev μ-loop : tie.MeasureT-loop
 μ-loop table sizes aligns index uuid stream frame with number begun list₀ state₀ slots₀ used₀ class₀ turn₀ list state slots used class turn =
     5 - turn
 
+-- Places of the code: in front of the loops, at a turn, behind what a turn opened, at a member, behind a leaf and behind another field
+
+abbrev AtStart : Type 0
+AtStart = tie.Start Inv-loop2 μ-loop2 Inv-loop μ-loop
+
+abbrev InFront : Type 0
+InFront = tie.After-event-slots Inv-loop2 μ-loop2 Inv-loop μ-loop
+
+abbrev AtTurn : Type 0
+AtTurn = tie.In-loop Inv-loop2 μ-loop2 Inv-loop μ-loop
+
+abbrev AtOpened : Type 0
+AtOpened = tie.After-open-turn Inv-loop2 μ-loop2 Inv-loop μ-loop
+
+abbrev AtMember : Type 0
+AtMember = tie.In-loop2 Inv-loop2 μ-loop2 Inv-loop μ-loop
+
+abbrev AtLeaf : Type 0
+AtLeaf = tie.After-read-leaf Inv-loop2 μ-loop2 Inv-loop μ-loop
+
+abbrev AtField : Type 0
+AtField = tie.After-read-field Inv-loop2 μ-loop2 Inv-loop μ-loop
+
+-- and the way back from each
+
+abbrev start : InFront → AtStart
+start c = c .before .before .before .before .before .before .before .before .before .before .before .before .before .before .before
+
+abbrev in-front : AtTurn → InFront
+in-front c = c .before .before
+
+abbrev of-turn : AtOpened → AtTurn
+of-turn c = c .before .before
+
+abbrev in-turn : AtMember → AtOpened
+in-turn c = c .before .before .before .before .before .before .before .before
+
+abbrev of-leaf : AtLeaf → AtMember
+of-leaf c = c .before .before .before .before .before .before .before
+
+abbrev of-field : AtField → AtMember
+of-field c = c .before .before .before .before .before
+
+abbrev outside : AtMember → InFront
+outside c = in-front (of-turn (in-turn c))
+
 -- before the loops: entry 4 is listed
-abbrev this : tie.After-event-slots Inv-loop2 μ-loop2 Inv-loop μ-loop → (Env → Step) → Slots → List ℕ → Call
-this c M given ws = let a = c .before .before .before .before .before .before .before .before .before .before .before .before .before .before .before .args in call (a .stream .now) (a .uuid .now) (a .frame) M (a .begun) given ws
+abbrev this : InFront → (Env → Step) → Slots → List ℕ → Call
+this c M given ws = let a = start c .args in call (a .stream .now) (a .uuid .now) (a .frame) M (a .begun) given ws
 
-abbrev event : tie.After-event-slots Inv-loop2 μ-loop2 Inv-loop μ-loop → Env → Step
-event c e = let a = c .before .before .before .before .before .before .before .before .before .before .before .before .before .before .before .args in readEvent (askedAt (a .table .now)) (streamClassAt (a .table .now) (a .with .class)) e (a .number)
+abbrev event : InFront → Env → Step
+event c e =
+    let a = start c .args in
+    readEvent (askedAt (a .table .now)) (streamClassAt (a .table .now) (a .with .class)) e (a .number)
 
-abbrev all : tie.After-event-slots Inv-loop2 μ-loop2 Inv-loop μ-loop → Call
-all c = this c (event c) (c .before .before .before .before .before .before .before .before .before .before .before .before .before .before .before .args .given) (c .before .before .before .before .before .before .before .before .before .before .before .before .before .before .before .args .list .now)
+abbrev all : InFront → Call
+all c = this c (event c) (start c .args .given) (start c .args .list .now)
 
-given-many : (c : tie.After-event-slots Inv-loop2 μ-loop2 Inv-loop μ-loop) → length (c .before .before .before .before .before .before .before .before .before .before .before .before .before .before .before .args .given) ≡ 64
-given-many c = c .before .before .before .before .before .before .before .before .before .before .before .before .before .before .before .good .1 .1 .1 .1 .1 .1 .1 .1 .1 .1 .0 .1 .0 .1
+given-many : (c : InFront) → length (start c .args .given) ≡ 64
+given-many c = start c .good .1 .1 .1 .1 .1 .1 .1 .1 .1 .1 .0 .1 .0 .1
 
-start-walk : (c : tie.After-event-slots Inv-loop2 μ-loop2 Inv-loop μ-loop) →
-    let a = c .before .before .before .before .before .before .before .before .before .before .before .before .before .before .before .args in
-    Walked (this c (event c) (a .given) (a .list .now)) (turnsAt (a .table .now) (a .with) (envOf (a .stream .now) (a .uuid .now) (a .frame)) 0 0 ⨾ moved (a .begun))
+start-walk : (c : InFront) →
+    let a = start c .args in
+    Walked (all c) (turnsAt (a .table .now) (a .with) (envOf (a .stream .now) (a .uuid .now) (a .frame)) 0 0 ⨾ moved (a .begun))
     (c .before .before .before .before .write .last .0) 4 (c .before .fresh .result) (c .event-slots .result)
 start-walk c =
-    let a = c .before .before .before .before .before .before .before .before .before .before .before .before .before .before .before .args in
-    event-begun (a .table .now) (a .with) (a .stream .now) (a .uuid .now) (a .frame) (event c) (askedAt (a .table .now))
-    (streamClassAt (a .table .now) (a .with .class)) (a .begun) (a .given) (a .list .now) _ _ _ (given-many c)
-    (started (askedAt (a .table .now)) (streamClassAt (a .table .now) (a .with .class)) (a .stream .now) (a .uuid .now) (a .frame) (a .number) (a .begun)
-    (a .given) (a .list .now) _ (c .before .before .before .before .before .before .before .if1 .left) (given-many c) (c .before .before .before .before .before .before .before .before .before .before .before .before .before .before .before .pre .1 .1) (c .before .before .before .before .write .ensures)) (c .before .fresh .ensures) (c .event-slots .ensures) _
+    let a = start c .args in
+    let asked = askedAt (a .table .now) in
+    let class = streamClassAt (a .table .now) (a .with .class) in
+    event-begun (a .table .now) (a .with) (a .stream .now) (a .uuid .now) (a .frame) (event c) asked class (a .begun) (a .given) (a .list .now) _ _ _
+    (given-many c)
+    (started asked class (a .stream .now) (a .uuid .now) (a .frame) (a .number) (a .begun) (a .given) (a .list .now) _
+    (c .before .before .before .before .before .before .before .if1 .left) (given-many c) (start c .pre .1 .1)
+    (c .before .before .before .before .write .ensures))
+    (c .before .fresh .ensures) (c .event-slots .ensures) _
 
 -- a turn of the outer loop: what is left, whatever the event is a part of
-abbrev Outer : (c : tie.In-loop Inv-loop2 μ-loop2 Inv-loop μ-loop) → (Env → Step) → Slots → List ℕ → Type 0
+abbrev Outer : (c : AtTurn) → (Env → Step) → Slots → List ℕ → Type 0
 Outer c M given ws =
-    let a = c .before .before .before .before .before .before .before .before .before .before .before .before .before .before .before .before .before .args in
+    let a = start (in-front c) .args in
     let l = c .before .loop in
-    Walked (this (c .before .before) M given ws) (turnsAt (a .table .now) (a .with) (envOf (a .stream .now) (a .uuid .now) (a .frame)) (l .class) (l .turn) ⨾ moved (a .begun))
+    Walked (this (in-front c) M given ws)
+    (turnsAt (a .table .now) (a .with) (envOf (a .stream .now) (a .uuid .now) (a .frame)) (l .class) (l .turn) ⨾ moved (a .begun))
     (l .list) (l .used) (l .state) (l .slots)
 
-outer : (c : tie.In-loop Inv-loop2 μ-loop2 Inv-loop μ-loop) → Outer c (event (c .before .before)) (c .before .before .before .before .before .before .before .before .before .before .before .before .before .before .before .before .before .args .given) (c .before .before .before .before .before .before .before .before .before .before .before .before .before .before .before .before .before .args .list .now)
-outer c = c .before .loop .inv .2 (event (c .before .before)) _ _ (start-walk (c .before .before))
+outer : (c : AtTurn) →
+    let a = start (in-front c) .args in
+    Outer c (event (in-front c)) (a .given) (a .list .now)
+outer c = c .before .loop .inv .2 (event (in-front c)) _ _ (start-walk (in-front c))
 
-within : (c : tie.In-loop Inv-loop2 μ-loop2 Inv-loop μ-loop) →
+within : (c : AtTurn) →
     let l = c .before .loop in
-    (l .used ≤ length (l .list)) × (length (l .list) ≡ length (c .before .before .before .before .before .before .before .before .before .before .before .before .before .before .before .before .before .args .list .now)) × (8 * length (c .before .before .before .before .before .before .before .before .before .before .before .before .before .before .before .before .before .args .list .now) < 2 ^ 63)
+    let n = length (start (in-front c) .args .list .now) in
+    (l .used ≤ length (l .list)) × (length (l .list) ≡ n) × (8 * n < 2 ^ 63)
 within c =
     let p = outer c .part in
-    (omega (arith, part-length p, p .room), part-length p, omega (arith, c .before .before .before .before .before .before .before .before .before .before .before .before .before .before .before .before .before .good .1 .1 .1 .1 .1 .1 .1 .1 .1 .1 .1 .0))
+    let fits = start (in-front c) .good .1 .1 .1 .1 .1 .1 .1 .1 .1 .1 .1 .0 in
+    (omega (arith, part-length p, p .room), part-length p, omega (arith, fits))
 
-took : (c : tie.After-open-turn Inv-loop2 μ-loop2 Inv-loop μ-loop) →
-    let a = c .before .before .before .before .before .before .before .before .before .before .before .before .before .before .before .before .before .before .before .args in
-    let l = c .before .before .before .loop in
+took : (c : AtOpened) →
+    let a = start (in-front (of-turn c)) .args in
+    let l = of-turn c .before .loop in
     TurnAt (a .stream .now) (a .uuid .now) (l .slots) (a .table .now) (a .sizes .now) (a .with) (a .frame) (l .turn) (l .class) (l .state)
     (c .open-turn .result) (lent (l .used) (l .list)) (c .open-turn .last .1 .1 .1 .1 .1 .1 .1 .1 .1 .0)
-took c = c .open-turn .ensures _ _ _ (outer (c .before .before) .framed) (outer (c .before .before) .many)
+took c = c .open-turn .ensures _ _ _ (outer (of-turn c) .framed) (outer (of-turn c) .many)
 
 -- what it leaves
-abbrev Inside : (c : tie.After-open-turn Inv-loop2 μ-loop2 Inv-loop μ-loop) → (Env → Step) → Slots → List ℕ → ℕ → ℕ → List ℕ → ℕ → State → Slots → Type 0
+abbrev Inside : (c : AtOpened) → (Env → Step) → Slots → List ℕ → ℕ → ℕ → List ℕ → ℕ
+    → State → Slots → Type 0
 Inside c M given ws next todo list used state slots =
-    let a = c .before .before .before .before .before .before .before .before .before .before .before .before .before .before .before .before .before .before .before .args in
+    let a = start (in-front (of-turn c)) .args in
     let e = envOf (a .stream .now) (a .uuid .now) (a .frame) in
     let r = c .open-turn .result in
-    Walked (this (c .before .before .before .before) M given ws)
-    (membersRead (r .left) (a .table .now) next todo e ⨾ (turnsAt (a .table .now) (a .with) e (r .class) (c .before .before .before .loop .turn + 1) ⨾ moved (a .begun)))
+    Walked (this (in-front (of-turn c)) M given ws)
+    (membersRead (r .left) (a .table .now) next todo e
+    ⨾ (turnsAt (a .table .now) (a .with) e (r .class) (of-turn c .before .loop .turn + 1) ⨾ moved (a .begun)))
     list used state slots
 
-opened : (c : tie.After-open-turn Inv-loop2 μ-loop2 Inv-loop μ-loop) (M : Env → Step) (given : Slots) (ws : List ℕ) → c .open-turn .result .went ≡ On → Outer (c .before .before) M given ws →
-    let l = c .before .before .before .loop in
+opened : (c : AtOpened) (M : Env → Step) (given : Slots) (ws : List ℕ) → c .open-turn .result .went ≡ On
+    → Outer (of-turn c) M given ws →
+    let l = of-turn c .before .loop in
     let r = c .open-turn .result in
-    Inside c M given ws (r .from) (r .count) (merged (l .used) (l .list) (c .open-turn .last .1 .1 .1 .1 .1 .1 .1 .1 .1 .0)) (l .used + r .used) (r .state) (l .slots)
-opened c M given ws on h = turn-goes _ _ _ _ _ (this (c .before .before .before .before) M given ws) _ h (took c) on
+    Inside c M given ws (r .from) (r .count) (merged (l .used) (l .list) (c .open-turn .last .1 .1 .1 .1 .1 .1 .1 .1 .1 .0)) (l .used + r .used)
+    (r .state) (l .slots)
+opened c M given ws on h = turn-goes _ _ _ _ _ (this (in-front (of-turn c)) M given ws) _ h (took c) on
 
 -- a turn of the inner loop
-abbrev Now : (c : tie.In-loop2 Inv-loop2 μ-loop2 Inv-loop μ-loop) → (Env → Step) → Slots → List ℕ → Type 0
-Now c M given ws = let l = c .before .loop2 in Inside (c .before .before .before .before .before .before .before .before) M given ws (l .next) (l .todo) (l .list) (l .used) (l .state) (l .slots)
+abbrev Now : (c : AtMember) → (Env → Step) → Slots → List ℕ → Type 0
+Now c M given ws = let l = c .before .loop2 in Inside (in-turn c) M given ws (l .next) (l .todo) (l .list) (l .used) (l .state) (l .slots)
 
-inner : (c : tie.In-loop2 Inv-loop2 μ-loop2 Inv-loop μ-loop) → Now c (event (c .before .before .before .before .before .before .before .before .before .before .before .before)) (c .before .before .before .before .before .before .before .before .before .before .before .before .before .before .before .before .before .before .before .before .before .before .before .before .before .before .before .args .given) (c .before .before .before .before .before .before .before .before .before .before .before .before .before .before .before .before .before .before .before .before .before .before .before .before .before .before .before .args .list .now)
-inner c = c .before .loop2 .inv .1 (event (c .before .before .before .before .before .before .before .before .before .before .before .before)) _ _ (opened (c .before .before .before .before .before .before .before .before) (event (c .before .before .before .before .before .before .before .before .before .before .before .before)) _ _ (c .before .before .before .enum-told .given .1) (outer (c .before .before .before .before .before .before .before .before .before .before)))
+inner : (c : AtMember) →
+    let a = start (outside c) .args in
+    Now c (event (outside c)) (a .given) (a .list .now)
+inner c =
+    let m = event (outside c) in
+    c .before .loop2 .inv .1 m _ _ (opened (in-turn c) m _ _ (c .before .before .before .enum-told .given .1) (outer (of-turn (in-turn c))))
 
-m-within : (c : tie.In-loop2 Inv-loop2 μ-loop2 Inv-loop μ-loop) →
+m-within : (c : AtMember) →
     let l = c .before .loop2 in
-    (l .used ≤ length (l .list)) × (length (l .list) ≡ length (c .before .before .before .before .before .before .before .before .before .before .before .before .before .before .before .before .before .before .before .before .before .before .before .before .before .before .before .args .list .now)) × (8 * length (c .before .before .before .before .before .before .before .before .before .before .before .before .before .before .before .before .before .before .before .before .before .before .before .before .before .before .before .args .list .now) < 2 ^ 63)
+    let n = length (start (outside c) .args .list .now) in
+    (l .used ≤ length (l .list)) × (length (l .list) ≡ n) × (8 * n < 2 ^ 63)
 m-within c =
     let p = inner c .part in
-    (omega (arith, part-length p, p .room), part-length p, omega (arith, c .before .before .before .before .before .before .before .before .before .before .before .before .before .before .before .before .before .before .before .before .before .before .before .before .before .before .before .good .1 .1 .1 .1 .1 .1 .1 .1 .1 .1 .1 .0))
+    (omega (arith, part-length p, p .room), part-length p, within (of-turn (in-turn c)) .2)
 
-m-first : (c : tie.In-loop2 Inv-loop2 μ-loop2 Inv-loop μ-loop) →
-    let t = c .before .before .before .before .before .before .before .before .before .before .before .before .before .before .before .before .before .before .before .before .before .before .before .before .before .before .before .args .table .now in
-    let left = c .before .before .before .before .before .before .before .before .open-turn .result .left in
+m-first : (c : AtMember) →
+    let t = start (outside c) .args .table .now in
+    let left = in-turn c .open-turn .result .left in
     First (whole left t) (stoodAt left t) (c .before .loop2 .next) (c .before .loop2 .todo)
 m-first c = first _ _ _ _ (c .loop2-test .taken) (c .before .loop2 .inv .0)
 
-abbrev rest : (c : tie.In-loop2 Inv-loop2 μ-loop2 Inv-loop μ-loop) → Step
+abbrev rest : (c : AtMember) → Step
 rest c =
-    let a = c .before .before .before .before .before .before .before .before .before .before .before .before .before .before .before .before .before .before .before .before .before .before .before .before .before .before .before .args in
+    let a = start (outside c) .args in
     let e = envOf (a .stream .now) (a .uuid .now) (a .frame) in
-    let r = c .before .before .before .before .before .before .before .before .open-turn .result in
+    let r = in-turn c .open-turn .result in
     let l = c .before .loop2 in
     membersRead (r .left) (a .table .now) (nextAt (r .left) (a .table .now) (l .next)) (l .todo - 1) e
-    ⨾ (turnsAt (a .table .now) (a .with) e (r .class) (c .before .before .before .before .before .before .before .before .before .before .before .loop .turn + 1) ⨾ moved (a .begun))
+    ⨾ (turnsAt (a .table .now) (a .with) e (r .class) (of-turn (in-turn c) .before .loop .turn + 1) ⨾ moved (a .begun))
 
-m-turn : (c : tie.In-loop2 Inv-loop2 μ-loop2 Inv-loop μ-loop) (M : Env → Step) (given : Slots) (ws : List ℕ) → Now c M given ws →
+m-turn : (c : AtMember) (M : Env → Step) (given : Slots) (ws : List ℕ) → Now c M given ws →
     let l = c .before .loop2 in
-    Turn (this (c .before .before .before .before .before .before .before .before .before .before .before .before) M given ws) (classAt (c .before .before .before .before .before .before .before .before .open-turn .result .left) (c .before .before .before .before .before .before .before .before .before .before .before .before .before .before .before .before .before .before .before .before .before .before .before .before .before .before .before .args .table .now) (l .next)) (rest c) (l .list) (l .used) (l .state) (l .slots)
+    Turn (this (outside c) M given ws) (classAt (in-turn c .open-turn .result .left) (start (outside c) .args .table .now) (l .next)) (rest c)
+    (l .list) (l .used) (l .state) (l .slots)
 m-turn c M given ws h = member-then _ (m-first c) h
 
-m-noted : (c : tie.In-loop2 Inv-loop2 μ-loop2 Inv-loop μ-loop) →
-    let a = c .before .before .before .before .before .before .before .before .before .before .before .before .before .before .before .before .before .before .before .before .before .before .before .before .before .before .before .args in
+m-noted : (c : AtMember) →
+    let a = start (outside c) .args in
     Prepared (a .table .now) (notes (a .sizes .now) (a .aligns .now))
-m-noted c = c .before .before .before .before .before .before .before .before .before .before .before .before .before .before .before .before .before .before .before .before .before .before .before .before .before .before .before .pre .0 .noted
+m-noted c = start (outside c) .pre .0 .noted
 
-leaf : (c : tie.After-read-leaf Inv-loop2 μ-loop2 Inv-loop μ-loop) (M : Env → Step) (given : Slots) (ws : List ℕ) → Now (c .before .before .before .before .before .before .before) M given ws →
-    let l = c .before .before .before .before .before .before .before .before .loop2 in
+m-within-table : (c : AtMember) → c .before .loop2 .next < length (start (outside c) .args .table .now)
+m-within-table c = stands-within _ _ _ (m-first c .whole)
+
+abbrev Leaf : (c : AtLeaf) → (Env → Step) → Slots → List ℕ → Type 0
+Leaf c M given ws =
+    let l = of-leaf c .before .loop2 in
     let r = c .read-leaf .result in
-    Turned (this (c .before .before .before .before .before .before .before .before .before .before .before .before .before .before .before .before .before .before .before) M given ws) (rest (c .before .before .before .before .before .before .before)) (l .list) (l .used) (c .read-leaf .last .1 .1 .1 .1 .1 .1 .1 .0) (r .went) (r .used) (r .state)
-    (setSlot (l .slots) (r .slot) (r .content))
+    Turned (this (outside (of-leaf c)) M given ws) (rest (of-leaf c)) (l .list) (l .used) (c .read-leaf .last .1 .1 .1 .1 .1 .1 .1 .0) (r .went)
+    (r .used) (r .state) (setSlot (l .slots) (r .slot) (r .content))
+
+leaf : (c : AtLeaf) (M : Env → Step) (given : Slots) (ws : List ℕ) → Now (of-leaf c) M given ws → Leaf c M given ws
 unfolding u8 slotAt
 leaf c M given ws h =
-    let l = c .before .before .before .before .before .before .before .before .loop2 in
+    let m = of-leaf c in
     let kind = c .before .before .before .before .if3 .taken in
-    leaf-turned (m-turn (c .before .before .before .before .before .before .before) M given ws h) (leaf-class _ _ _ (m-first (c .before .before .before .before .before .before .before) .whole) kind) (c .read-leaf .ensures)
-    (content-met (l .slots) (h .many) (c .before .before .before .leaf-slot .ensures) (λ y. y .2) (λ y. (y .0 .left, y .1)) (c .before .before .if4 .came))
+    leaf-turned (m-turn m M given ws h) (leaf-class _ _ _ (m-first m .whole) kind) (c .read-leaf .ensures)
+    (content-met (m .before .loop2 .slots) (h .many) (c .before .before .before .leaf-slot .ensures) (λ y. y .2) (λ y. (y .0 .left, y .1))
+    (c .before .before .if4 .came))
 
-field : (c : tie.After-read-field Inv-loop2 μ-loop2 Inv-loop μ-loop) (M : Env → Step) (given : Slots) (ws : List ℕ) → Now (c .before .before .before .before .before) M given ws →
-    let l = c .before .before .before .before .before .before .loop2 in
+leaf-here : (c : AtLeaf) →
+    let o = outside (of-leaf c) in
+    Leaf c (event o) (start o .args .given) (start o .args .list .now)
+leaf-here c = leaf c (event (outside (of-leaf c))) _ _ (inner (of-leaf c))
+
+abbrev Held : (c : AtField) → (Env → Step) → Slots → List ℕ → Type 0
+Held c M given ws =
+    let l = of-field c .before .loop2 in
     let r = c .read-field .result in
-    Turned (this (c .before .before .before .before .before .before .before .before .before .before .before .before .before .before .before .before .before) M given ws) (rest (c .before .before .before .before .before)) (l .list) (l .used) (c .read-field .last .1 .1 .1 .1 .1 .1 .1 .1 .1 .1 .0) (r .went) (r .used) (r .state) (r .slots)
-field c M given ws h = field-turned (m-turn (c .before .before .before .before .before) M given ws h) (c .read-field .ensures)
+    Turned (this (outside (of-field c)) M given ws) (rest (of-field c)) (l .list) (l .used) (c .read-field .last .1 .1 .1 .1 .1 .1 .1 .1 .1 .1 .0)
+    (r .went) (r .used) (r .state) (r .slots)
+
+field : (c : AtField) (M : Env → Step) (given : Slots) (ws : List ℕ) → Now (of-field c) M given ws → Held c M given ws
+field c M given ws h = field-turned (m-turn (of-field c) M given ws h) (c .read-field .ensures)
+
+field-here : (c : AtField) →
+    let o = outside (of-field c) in
+    Held c (event o) (start o .args .given) (start o .args .list .now)
+field-here c = field c (event (outside (of-field c))) _ _ (inner (of-field c))
 
 -- behind the loops, 38 is left
 ended : (c : tie.After-loop Inv-loop2 μ-loop2 Inv-loop μ-loop) →
-    let a = c .before .before .before .before .before .before .before .before .before .before .before .before .before .before .before .before .before .args in
+    let a = start (c .before .before) .args in
     let l = c .before .loop in
-    Part (event (c .before .before) (envOf (a .stream .now) (a .uuid .now) (a .frame)) (full (a .begun) (a .given) (length (a .list .now)))) (moved (a .begun)) (a .list .now) (l .list) (l .used) (l .state)
-    (l .slots)
-ended c = let a = c .before .before .before .before .before .before .before .before .before .before .before .before .before .before .before .before .before .args in turns-done (a .table .now) (a .with) (c .before .loop .class) (c .before .loop .turn) (a .begun) {w = all (c .before .before)} (c .loop-test .left) (c .before .loop .inv .2 (event (c .before .before)) _ _ (start-walk (c .before .before)))
+    Part (event (c .before .before) (envOf (a .stream .now) (a .uuid .now) (a .frame)) (full (a .begun) (a .given) (length (a .list .now))))
+    (moved (a .begun)) (a .list .now) (l .list) (l .used) (l .state) (l .slots)
+ended c =
+    let o = c .before .before in
+    let a = start o .args in
+    let l = c .before .loop in
+    turns-done (a .table .now) (a .with) (l .class) (l .turn) (a .begun) {w = all o} (c .loop-test .left) (l .inv .2 (event o) _ _ (start-walk o))
 
 stopped-requires : tie.Need-stopped-requires Inv-loop2 μ-loop2 Inv-loop μ-loop
 stopped-requires c κs = search needs
 
 returns : tie.Need-returns Inv-loop2 μ-loop2 Inv-loop μ-loop
-returns c = let a = c .before .before .before .before .before .before .before .before .before .before .args in rw (c .stopped .ensures) (nothing-did _ _ _ _ _ (event-full (askedAt (a .table .now)) (streamClassAt (a .table .now) (a .with .class)) (envOf (a .stream .now) (a .uuid .now) (a .frame)) (a .number) (a .begun) (a .given) (length (a .list .now)) (c .before .before .if1 .taken)))
+returns c =
+    let a = c .before .before .before .before .before .before .before .before .before .before .args in
+    rw (c .stopped .ensures) (nothing-did _ _ _ _ _ (event-full (askedAt (a .table .now)) (streamClassAt (a .table .now) (a .with .class))
+    (envOf (a .stream .now) (a .uuid .now) (a .frame)) (a .number) (a .begun) (a .given) (length (a .list .now)) (c .before .before .if1 .taken)))
 
 write-requires : tie.Need-write-requires Inv-loop2 μ-loop2 Inv-loop μ-loop
 write-requires c κs = c .before .before .if1 .left
@@ -228,10 +324,15 @@ part-open-turn-end : tie.Need-part-open-turn-end Inv-loop2 μ-loop2 Inv-loop μ-
 part-open-turn-end c = omega arith
 
 open-turn-requires : tie.Need-open-turn-requires Inv-loop2 μ-loop2 Inv-loop μ-loop
-open-turn-requires c κs = let p = c .before .before .before .before .before .before .before .before .before .before .before .before .before .before .before .before .before .before .pre in let h = outer (c .before) .framed in (p .0, (p .1 .0, ((c .before .loop-test .taken, c .before .before .loop .inv .1), (h .begun, omega (arith, h .within, h .ends, h .small)))))
+open-turn-requires c κs =
+    let p = start (in-front (c .before)) .pre in
+    let h = outer (c .before) .framed in
+    (p .0, (p .1 .0, ((c .before .loop-test .taken, c .before .before .loop .inv .1), (h .begun, omega (arith, h .within, h .ends, h .small)))))
 
 add-used : tie.Need-add-used Inv-loop2 μ-loop2 Inv-loop μ-loop
-add-used c = omega (arith, turn-room _ _ _ _ _ _ _ (outer (c .before .before .before .before .before)) (took (c .before .before .before)), within (c .before .before .before .before .before))
+add-used c =
+    let t = c .before .before .before in
+    omega (arith, turn-room _ _ _ _ _ _ _ (outer (of-turn t)) (took t), within (of-turn t))
 
 enum-known-went : tie.Need-enum-known-went Inv-loop2 μ-loop2 Inv-loop μ-loop
 enum-known-went c = search needs
@@ -240,10 +341,14 @@ stopped-requires-2 : tie.Need-stopped-requires-2 Inv-loop2 μ-loop2 Inv-loop μ-
 stopped-requires-2 c κs = search needs
 
 same-length : tie.Need-same-length Inv-loop2 μ-loop2 Inv-loop μ-loop
-same-length c = turn-same _ _ _ _ _ _ _ (outer (c .before .before .before .before .before .before .before .before .before)) (took (c .before .before .before .before .before .before .before))
+same-length c =
+    let t = c .before .before .before .before .before .before .before in
+    turn-same _ _ _ _ _ _ _ (outer (of-turn t)) (took t)
 
 returns-2 : tie.Need-returns-2 Inv-loop2 μ-loop2 Inv-loop μ-loop
-returns-2 c = rw (c .stopped2 .ensures) (turn-stops _ _ _ _ _ _ _ (outer (c .before .before .before .before .before .before .before .before .before)) (took (c .before .before .before .before .before .before .before)) _ (c .before .before .went .given .1))
+returns-2 c =
+    let t = c .before .before .before .before .before .before .before in
+    rw (c .stopped2 .ensures) (turn-stops _ _ _ _ _ _ _ (outer (of-turn t)) (took t) _ (c .before .before .went .given .1))
 
 enum-told : tie.Need-enum-told Inv-loop2 μ-loop2 Inv-loop μ-loop
 enum-told c = search needs
@@ -258,7 +363,15 @@ loop-less : tie.Need-loop-less Inv-loop2 μ-loop2 Inv-loop μ-loop
 loop-less c = omega (arith, c .before .before .before .before .before .before .before .before .before .before .loop-test .taken)
 
 loop-again : tie.Need-loop-again Inv-loop2 μ-loop2 Inv-loop μ-loop
-loop-again c = (omega (arith, c .before .before .before .before .before .before .before .before .before .before .loop-test .taken), took (c .before .before .before .before .before .before .before .before) .known (c .before .before .before .enum-told .given .1), λ M given ws h. members-done _ _ _ _ (c .loop2-test .left) (c .before .loop2 .inv .1 M given ws (opened (c .before .before .before .before .before .before .before .before) M given ws (c .before .before .before .enum-told .given .1) (c .before .before .before .before .before .before .before .before .before .before .before .loop .inv .2 M given ws h))))
+loop-again c =
+    let t = c .before .before .before .before .before .before .before .before in
+    let on = c .before .before .before .enum-told .given .1 in (
+      omega (arith, of-turn t .loop-test .taken),
+      took t .known on,
+      λ M given ws h.
+          members-done _ _ _ _ (c .loop2-test .left) (c .before .loop2 .inv .1 M given ws
+          (opened t M given ws on (of-turn t .before .loop .inv .2 M given ws h))),
+    )
 
 sub-if2 : tie.Need-sub-if2 Inv-loop2 μ-loop2 Inv-loop μ-loop
 sub-if2 c = omega (arith, m-within c)
@@ -270,10 +383,13 @@ same-length-2 : tie.Need-same-length-2 Inv-loop2 μ-loop2 Inv-loop μ-loop
 same-length-2 c = part-length (inner (c .before .before .before) .part)
 
 returns-3 : tie.Need-returns-3 Inv-loop2 μ-loop2 Inv-loop μ-loop
-returns-3 c = rw (c .stopped3 .ensures) (event-stopped (all (c .before .before .before .before .before .before .before .before .before .before .before .before .before .before .before)) _ _ _ (turn-full (m-turn (c .before .before .before) (event (c .before .before .before .before .before .before .before .before .before .before .before .before .before .before .before)) _ _ (inner (c .before .before .before))) (c .before .before .if2 .taken)))
+returns-3 c =
+    let m = c .before .before .before in
+    let o = outside m in
+    rw (c .stopped3 .ensures) (event-stopped (all o) _ _ _ (turn-full (m-turn m (event o) _ _ (inner m)) (c .before .before .if2 .taken)))
 
 shared-slice-read-if3 : tie.Need-shared-slice-read-if3 Inv-loop2 μ-loop2 Inv-loop μ-loop
-shared-slice-read-if3 c = stands-within _ _ _ (m-first (c .before .before) .whole)
+shared-slice-read-if3 c = m-within-table (c .before .before)
 
 leaf-slot-requires : tie.Need-leaf-slot-requires Inv-loop2 μ-loop2 Inv-loop μ-loop
 unfolding u8
@@ -299,10 +415,15 @@ part-read-leaf-end c = omega arith
 
 read-leaf-requires : tie.Need-read-leaf-requires Inv-loop2 μ-loop2 Inv-loop μ-loop
 unfolding u8
-read-leaf-requires c κs = let l = c .before .before .before .before .before .before .before .loop2 in let kind = c .before .before .before .if3 .taken in (leaf-whole _ _ _ (m-first (c .before .before .before .before .before .before) .whole) kind, (kind, (inner (c .before .before .before .before .before .before) .framed, omega (arith, lent-room (l .used) (l .list), c .before .before .before .before .before .if2 .left))))
+read-leaf-requires c κs =
+    let m = c .before .before .before .before .before .before in
+    let l = m .before .loop2 in
+    let kind = c .before .before .before .if3 .taken in
+    let room = c .before .before .before .before .before .if2 .left in
+    (leaf-whole _ _ _ (m-first m .whole) kind, (kind, (inner m .framed, omega (arith, lent-room (l .used) (l .list), room))))
 
 add-used-2 : tie.Need-add-used-2 Inv-loop2 μ-loop2 Inv-loop μ-loop
-add-used-2 c = omega (arith, leaf (c .before .before .before) (event (c .before .before .before .before .before .before .before .before .before .before .before .before .before .before .before .before .before .before .before .before .before .before)) _ _ (inner (c .before .before .before .before .before .before .before .before .before .before)) .room, m-within (c .before .before .before .before .before .before .before .before .before .before))
+add-used-2 c = let r = c .before .before .before in omega (arith, leaf-here r .room, m-within (of-leaf r))
 
 enum-known-went-2 : tie.Need-enum-known-went-2 Inv-loop2 μ-loop2 Inv-loop μ-loop
 enum-known-went-2 c = search needs
@@ -311,19 +432,25 @@ stopped-requires-4 : tie.Need-stopped-requires-4 Inv-loop2 μ-loop2 Inv-loop μ-
 stopped-requires-4 c κs = search needs
 
 same-length-3 : tie.Need-same-length-3 Inv-loop2 μ-loop2 Inv-loop μ-loop
-same-length-3 c = leaf (c .before .before .before .before .before .before .before) (event (c .before .before .before .before .before .before .before .before .before .before .before .before .before .before .before .before .before .before .before .before .before .before .before .before .before .before)) _ _ (inner (c .before .before .before .before .before .before .before .before .before .before .before .before .before .before)) .same
+same-length-3 c = leaf-here (c .before .before .before .before .before .before .before) .same
 
 returns-4 : tie.Need-returns-4 Inv-loop2 μ-loop2 Inv-loop μ-loop
-returns-4 c = rw (c .stopped4 .ensures) (event-stopped (all (c .before .before .before .before .before .before .before .before .before .before .before .before .before .before .before .before .before .before .before .before .before .before .before .before .before .before)) _ _ _ (leaf (c .before .before .before .before .before .before .before) (event (c .before .before .before .before .before .before .before .before .before .before .before .before .before .before .before .before .before .before .before .before .before .before .before .before .before .before)) _ _ (inner (c .before .before .before .before .before .before .before .before .before .before .before .before .before .before)) .stops _ (c .before .before .went2 .given .1)))
+returns-4 c =
+    let r = c .before .before .before .before .before .before .before in
+    rw (c .stopped4 .ensures) (event-stopped (all (outside (of-leaf r))) _ _ _ (leaf-here r .stops _ (c .before .before .went2 .given .1)))
 
 enum-told-2 : tie.Need-enum-told-2 Inv-loop2 μ-loop2 Inv-loop μ-loop
 enum-told-2 c = search needs
 
 size-at-requires : tie.Need-size-at-requires Inv-loop2 μ-loop2 Inv-loop μ-loop
-size-at-requires c κs = omega (arith, stands-within _ _ _ (m-first (c .before .before .before .before .before .before .before .before .before .before .before .before) .whole), m-noted (c .before .before .before .before .before .before .before .before .before .before .before .before) .sized .room)
+size-at-requires c κs =
+    let m = c .before .before .before .before .before .before .before .before .before .before .before .before in
+    omega (arith, m-within-table m, m-noted m .sized .room)
 
 add-next : tie.Need-add-next Inv-loop2 μ-loop2 Inv-loop μ-loop
-add-next c = omega (arith, stands-within _ _ _ (m-first (c .before .before .before .before .before .before .before .before .before .before .before .before .before) .whole), c .before .before .before .before .before .before .before .before .before .before .before .before .before .before .before .before .before .before .before .before .before .before .before .before .before .before .before .before .before .before .before .before .before .before .before .before .before .before .before .before .good .0, c .size-at .ensures .1)
+add-next c =
+    let m = c .before .before .before .before .before .before .before .before .before .before .before .before .before in
+    omega (arith, m-within-table m, start (outside m) .good .0, c .size-at .ensures .1)
 
 sub-todo : tie.Need-sub-todo Inv-loop2 μ-loop2 Inv-loop μ-loop
 sub-todo c = omega (arith, c .before .before .before .before .before .before .before .before .before .before .before .before .before .loop2-test .taken)
@@ -338,17 +465,30 @@ array-set-from-slots : tie.Need-array-set-from-slots Inv-loop2 μ-loop2 Inv-loop
 array-set-from-slots c = omega arith
 
 loop2-less : tie.Need-loop2-less Inv-loop2 μ-loop2 Inv-loop μ-loop
-loop2-less c = omega (arith, c .before .before .before .before .before .before .before .before .before .before .before .before .before .before .before .before .loop2-test .taken)
+loop2-less c = omega (arith, of-leaf (c .before .before .before .before .before .before .before .before .before) .loop2-test .taken)
 
 loop2-again : tie.Need-loop2-again Inv-loop2 μ-loop2 Inv-loop μ-loop
 unfolding setSlot
-loop2-again c = let m = m-first (c .before .before .before .before .before .before .before .before .before .before .before .before .before .before .before .before) in let next = m-noted (c .before .before .before .before .before .before .before .before .before .before .before .before .before .before .before .before) .classes _ _ (m .whole) .size in rw (c .before .before .before .size-at .ensures .0, next) (m .rest, λ M given ws h. leaf (c .before .before .before .before .before .before .before .before .before) M given ws (c .before .before .before .before .before .before .before .before .before .before .before .before .before .before .before .before .before .loop2 .inv .1 M given ws h) .goes (c .before .before .before .before .enum-told2 .given .1))
+loop2-again c =
+    let r = c .before .before .before .before .before .before .before .before .before in
+    let m = of-leaf r in
+    let next = m-noted m .classes _ _ (m-first m .whole) .size in
+    let on = c .before .before .before .before .enum-told2 .given .1 in
+    rw (c .before .before .before .size-at .ensures .0, next)
+    (m-first m .rest, λ M given ws h. leaf r M given ws (m .before .loop2 .inv .1 M given ws h) .goes on)
 
 loop2-less-2 : tie.Need-loop2-less-2 Inv-loop2 μ-loop2 Inv-loop μ-loop
-loop2-less-2 c = omega (arith, c .before .before .before .before .before .before .before .before .before .before .before .before .before .before .before .before .loop2-test .taken)
+loop2-less-2 c = omega (arith, of-leaf (c .before .before .before .before .before .before .before .before .before) .loop2-test .taken)
 
 loop2-again-2 : tie.Need-loop2-again-2 Inv-loop2 μ-loop2 Inv-loop μ-loop
-loop2-again-2 c = let m = m-first (c .before .before .before .before .before .before .before .before .before .before .before .before .before .before .before .before) in let next = m-noted (c .before .before .before .before .before .before .before .before .before .before .before .before .before .before .before .before) .classes _ _ (m .whole) .size in let r = c .before .before .before .before .before .before .before .before .before .read-leaf .result in let same = no-slot (c .before .before .before .before .before .before .before .before .before .before .before .before .before .before .before .before .before .loop2 .slots) (r .slot) (r .content) (inner (c .before .before .before .before .before .before .before .before .before .before .before .before .before .before .before .before) .many) (c .if5 .left) in rw (c .before .before .before .size-at .ensures .0, next) (m .rest, λ M given ws h. rw (same) at (leaf (c .before .before .before .before .before .before .before .before .before) M given ws (c .before .before .before .before .before .before .before .before .before .before .before .before .before .before .before .before .before .loop2 .inv .1 M given ws h) .goes (c .before .before .before .before .enum-told2 .given .1)))
+loop2-again-2 c =
+    let r = c .before .before .before .before .before .before .before .before .before in
+    let m = of-leaf r in
+    let next = m-noted m .classes _ _ (m-first m .whole) .size in
+    let same = no-slot (m .before .loop2 .slots) (r .read-leaf .result .slot) (r .read-leaf .result .content) (inner m .many) (c .if5 .left) in
+    let on = c .before .before .before .before .enum-told2 .given .1 in
+    rw (c .before .before .before .size-at .ensures .0, next)
+    (m-first m .rest, λ M given ws h. rw (same) at (leaf r M given ws (m .before .loop2 .inv .1 M given ws h) .goes on))
 
 mul-read-field : tie.Need-mul-read-field Inv-loop2 μ-loop2 Inv-loop μ-loop
 mul-read-field c = omega (arith, m-within (c .before .before .before))
@@ -364,10 +504,14 @@ part-read-field-end c = omega arith
 
 read-field-requires : tie.Need-read-field-requires Inv-loop2 μ-loop2 Inv-loop μ-loop
 unfolding u8
-read-field-requires c κs = let l = c .before .before .before .before .before .loop2 in (m-first (c .before .before .before .before) .whole, ((c .before .if3 .left, omega (arith, lent-room (l .used) (l .list), c .before .before .before .if2 .left)), (m-noted (c .before .before .before .before), inner (c .before .before .before .before) .framed)))
+read-field-requires c κs =
+    let m = c .before .before .before .before in
+    let l = m .before .loop2 in
+    let room = c .before .before .before .if2 .left in
+    (m-first m .whole, ((c .before .if3 .left, omega (arith, lent-room (l .used) (l .list), room)), (m-noted m, inner m .framed)))
 
 add-used-3 : tie.Need-add-used-3 Inv-loop2 μ-loop2 Inv-loop μ-loop
-add-used-3 c = omega (arith, field (c .before .before .before) (event (c .before .before .before .before .before .before .before .before .before .before .before .before .before .before .before .before .before .before .before .before)) _ _ (inner (c .before .before .before .before .before .before .before .before)) .room, m-within (c .before .before .before .before .before .before .before .before))
+add-used-3 c = let r = c .before .before .before in omega (arith, field-here r .room, m-within (of-field r))
 
 enum-known-went-3 : tie.Need-enum-known-went-3 Inv-loop2 μ-loop2 Inv-loop μ-loop
 enum-known-went-3 c = search needs
@@ -376,19 +520,25 @@ stopped-requires-5 : tie.Need-stopped-requires-5 Inv-loop2 μ-loop2 Inv-loop μ-
 stopped-requires-5 c κs = search needs
 
 same-length-4 : tie.Need-same-length-4 Inv-loop2 μ-loop2 Inv-loop μ-loop
-same-length-4 c = field (c .before .before .before .before .before .before .before) (event (c .before .before .before .before .before .before .before .before .before .before .before .before .before .before .before .before .before .before .before .before .before .before .before .before)) _ _ (inner (c .before .before .before .before .before .before .before .before .before .before .before .before)) .same
+same-length-4 c = field-here (c .before .before .before .before .before .before .before) .same
 
 returns-5 : tie.Need-returns-5 Inv-loop2 μ-loop2 Inv-loop μ-loop
-returns-5 c = rw (c .stopped5 .ensures) (event-stopped (all (c .before .before .before .before .before .before .before .before .before .before .before .before .before .before .before .before .before .before .before .before .before .before .before .before)) _ _ _ (field (c .before .before .before .before .before .before .before) (event (c .before .before .before .before .before .before .before .before .before .before .before .before .before .before .before .before .before .before .before .before .before .before .before .before)) _ _ (inner (c .before .before .before .before .before .before .before .before .before .before .before .before)) .stops _ (c .before .before .went3 .given .1)))
+returns-5 c =
+    let r = c .before .before .before .before .before .before .before in
+    rw (c .stopped5 .ensures) (event-stopped (all (outside (of-field r))) _ _ _ (field-here r .stops _ (c .before .before .went3 .given .1)))
 
 enum-told-3 : tie.Need-enum-told-3 Inv-loop2 μ-loop2 Inv-loop μ-loop
 enum-told-3 c = search needs
 
 size-at-requires-2 : tie.Need-size-at-requires-2 Inv-loop2 μ-loop2 Inv-loop μ-loop
-size-at-requires-2 c κs = omega (arith, stands-within _ _ _ (m-first (c .before .before .before .before .before .before .before .before .before .before) .whole), m-noted (c .before .before .before .before .before .before .before .before .before .before) .sized .room)
+size-at-requires-2 c κs =
+    let m = c .before .before .before .before .before .before .before .before .before .before in
+    omega (arith, m-within-table m, m-noted m .sized .room)
 
 add-next-2 : tie.Need-add-next-2 Inv-loop2 μ-loop2 Inv-loop μ-loop
-add-next-2 c = omega (arith, stands-within _ _ _ (m-first (c .before .before .before .before .before .before .before .before .before .before .before) .whole), c .before .before .before .before .before .before .before .before .before .before .before .before .before .before .before .before .before .before .before .before .before .before .before .before .before .before .before .before .before .before .before .before .before .before .before .before .before .before .good .0, c .size-at2 .ensures .1)
+add-next-2 c =
+    let m = c .before .before .before .before .before .before .before .before .before .before .before in
+    omega (arith, m-within-table m, start (outside m) .good .0, c .size-at2 .ensures .1)
 
 sub-todo-2 : tie.Need-sub-todo-2 Inv-loop2 μ-loop2 Inv-loop μ-loop
 sub-todo-2 c = omega (arith, c .before .before .before .before .before .before .before .before .before .before .before .loop2-test .taken)
@@ -397,7 +547,12 @@ loop2-less-3 : tie.Need-loop2-less-3 Inv-loop2 μ-loop2 Inv-loop μ-loop
 loop2-less-3 c = omega (arith, c .before .before .before .before .before .before .before .before .before .before .before .before .before .loop2-test .taken)
 
 loop2-again-3 : tie.Need-loop2-again-3 Inv-loop2 μ-loop2 Inv-loop μ-loop
-loop2-again-3 c = let m = m-first (c .before .before .before .before .before .before .before .before .before .before .before .before .before) in let next = m-noted (c .before .before .before .before .before .before .before .before .before .before .before .before .before) .classes _ _ (m .whole) .size in rw (c .before .before .size-at2 .ensures .0, next) (m .rest, λ M given ws h. field (c .before .before .before .before .before .before .before .before) M given ws (c .before .before .before .before .before .before .before .before .before .before .before .before .before .before .loop2 .inv .1 M given ws h) .goes (c .before .before .before .enum-told3 .given .1))
+loop2-again-3 c =
+    let r = c .before .before .before .before .before .before .before .before in
+    let m = of-field r in
+    let next = m-noted m .classes _ _ (m-first m .whole) .size in
+    rw (c .before .before .size-at2 .ensures .0, next)
+    (m-first m .rest, λ M given ws h. field r M given ws (m .before .loop2 .inv .1 M given ws h) .goes (c .before .before .before .enum-told3 .given .1))
 
 stopped-requires-6 : tie.Need-stopped-requires-6 Inv-loop2 μ-loop2 Inv-loop μ-loop
 stopped-requires-6 c κs = search needs
@@ -406,13 +561,20 @@ same-length-5 : tie.Need-same-length-5 Inv-loop2 μ-loop2 Inv-loop μ-loop
 same-length-5 c = part-length (ended (c .before .before .before .before .before))
 
 returns-6 : tie.Need-returns-6 Inv-loop2 μ-loop2 Inv-loop μ-loop
-returns-6 c = rw (c .stopped6 .ensures) (left-stops _ _ _ _ (ended (c .before .before .before .before .before)) _ (not-moved _ _ _ _ (c .before .before .if6 .taken)))
+returns-6 c =
+    rw (c .stopped6 .ensures) (left-stops _ _ _ _ (ended (c .before .before .before .before .before)) _ (not-moved _ _ _ _ (c .before .before .if6 .taken)))
 
 same-length-6 : tie.Need-same-length-6 Inv-loop2 μ-loop2 Inv-loop μ-loop
 same-length-6 c = part-length (ended (c .before .before .before))
 
 returns-7 : tie.Need-returns-7 Inv-loop2 μ-loop2 Inv-loop μ-loop
-returns-7 c = let a = c .before .before .before .before .before .before .before .before .before .before .before .before .before .before .before .before .before .before .before .before .args in let p = c .before .before .before .before .before .before .before .before .before .before .before .before .before .before .before .before .before .before .before .before .pre in event-done (askedAt (a .table .now)) (streamClassAt (a .table .now) (a .with .class)) (a .with .id) (envOf (a .stream .now) (a .uuid .now) (a .frame)) (p .0 .keeps) (p .1 .0 .found) (a .number) (a .begun) (a .given) (c .before .before .before .before .before .before .before .before .before .before .before .before .if1 .left) (given-many (c .before .before .before .before .before)) (ended (c .before .before .before)) (c .if6 .left)
+returns-7 c =
+    let o = c .before .before .before .before .before in
+    let a = start o .args in
+    let p = start o .pre in
+    event-done (askedAt (a .table .now)) (streamClassAt (a .table .now) (a .with .class)) (a .with .id) (envOf (a .stream .now) (a .uuid .now) (a .frame))
+    (p .0 .keeps) (p .1 .0 .found) (a .number) (a .begun) (a .given) (o .before .before .before .before .before .before .before .if1 .left) (given-many o)
+    (ended (c .before .before .before)) (c .if6 .left)
 
 pub read-event-spec : {M : Type 1} → statement M
 read-event-spec =

@@ -1,3 +1,4 @@
+-- 39, room and the lookup, asked in the order of the rules: each stops the turn with nothing listed, or goes by.
 use borrow.Author.Needs.{needs}
 use Rattle.turns.proofs.find_class.Statement.{statement}
 use Rattle.turns.proofs.find_class.Tie as tie
@@ -74,11 +75,12 @@ settled-requires c κs = search needs
 
 returns-3 : tie.Need-returns-3
 returns-3 c =
-    let s = c .before .before .before .before .before .before .before .before .before .before .before .before in
-    let went = back s (c .before .before .before .before .before .before .went-back .ensures) (c .before .before .before .before .before .if1 .left) in
-    let none = sym (c .before .enum-told .given .1) ∙ c .before .before .before .find-event-class .ensures in
+    let looked = c .before .before .before in
+    let s = looked .before .before .before .before .before .before .before .before .before in
+    let went = back s (looked .before .before .before .went-back .ensures) (looked .before .before .if1 .left) in
+    let none = sym (c .before .enum-told .given .1) ∙ looked .find-event-class .ensures in
     rw (c .stopped-turn3 .ensures) (class-refused _ _ _ _ _ _ (λ e l.
-    body-unknown (askedAt (Table s)) (Class s) e (s .args .st) l _ went (c .before .before .before .before .if2 .left)
+    body-unknown (askedAt (Table s)) (Class s) e (s .args .st) l _ went (looked .before .if2 .left)
     (event-unknown (Table s) (s .args .sizes .now) (s .args .with) (s .args .st .said .event) (s .pre .0) (s .pre .1) none)
     ∙ ap (λ i. stop [] (stopAt (EventClassUnknown i (s .args .st .said .event)) (s .args .st .place))) (sym (s .pre .1 .id))))
 
@@ -87,14 +89,16 @@ same-length c = search needs
 
 returns-4 : tie.Need-returns-4
 returns-4 c =
-    let s = c .before .before .before .before .before .before .before .before .before .before .before .before .before .before .before .before .before in
+    let looked = c .before .before .before .before .before .before .before .before in
+    let s = looked .before .before .before .before .before .before .before .before .before in
     let id = s .args .st .said .event in
-    let room = c .before .before .before .before .before .before .before .before .before .if2 .left in
-    let went = back s (c .before .before .before .before .before .before .before .before .before .before .before .went-back .ensures) (c .before .before .before .before .before .before .before .before .before .before .if1 .left) in
-    let found = sym (c .before .before .before .before .before .before .class .given .1) ∙ c .before .before .before .before .before .before .before .before .find-event-class .ensures in
-    rw (c .settled .ensures) (class-listed _ _ _ _ _ _ (event-stands (Table s) (s .args .sizes .now) (s .args .with) id (s .pre .0) (s .pre .1) _ found)
-    room id (λ e l. body-found (askedAt (Table s)) (Class s) e (s .args .st) l _ _ went room
-    (event-found (Table s) (s .args .sizes .now) (s .args .with) id (s .pre .0) (s .pre .1) _ found)) (c .before .before .before .write .ensures))
+    let room = looked .before .if2 .left in
+    let went = back s (looked .before .before .before .went-back .ensures) (looked .before .before .if1 .left) in
+    let found = sym (c .before .before .before .before .before .before .class .given .1) ∙ looked .find-event-class .ensures in
+    let stands = event-stands (Table s) (s .args .sizes .now) (s .args .with) id (s .pre .0) (s .pre .1) _ found in
+    let is = event-found (Table s) (s .args .sizes .now) (s .args .with) id (s .pre .0) (s .pre .1) _ found in
+    rw (c .settled .ensures) (class-listed _ _ _ _ _ _ stands room id (λ e l.
+    body-found (askedAt (Table s)) (Class s) e (s .args .st) l _ _ went room is) (c .before .before .before .write .ensures))
 
 pub find-class-spec : {M : Type 1} → statement M
 find-class-spec =

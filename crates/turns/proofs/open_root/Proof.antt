@@ -1,3 +1,4 @@
+-- What cannot be entered is left as one member; a structure that can be is what `look` tells.
 use borrow.Author.Needs.{needs}
 use Rattle.turns.proofs.open_root.Statement.{statement}
 use Rattle.turns.proofs.open_root.Tie as tie
@@ -24,19 +25,22 @@ unopened-requires-2 c κs = search needs
 
 returns : tie.Need-returns
 returns c =
-    rw (c .unopened2 .ensures) (one-opened _ _ _ _ _ _ (c .before .before .before .root .given .1) (c .before .before .before .before .before .before .before .before .before .pre .0))
+    let root = c .before .before .before in
+    rw (c .unopened2 .ensures) (one-opened _ _ _ _ _ _ (root .root .given .1) (root .before .before .before .before .before .before .pre .0))
 
 shared-slice-read-if2 : tie.Need-shared-slice-read-if2
 shared-slice-read-if2 c =
-    let s = c .before .before .before .before .before .before .before .before .before in
-    root-within (s .args .table .now) (s .args .root) (s .args .frame) (s .args .st) (s .args .list .now) _ (c .before .before .before .root .given .1) (s .pre .0)
+    let root = c .before .before .before in
+    let s = root .before .before .before .before .before .before in
+    root-within (s .args .table .now) (s .args .root) (s .args .frame) (s .args .st) (s .args .list .now) _ (root .root .given .1) (s .pre .0)
     (notes (s .args .sizes .now) (s .args .aligns .now)) (s .pre .1 .0)
 
 look-requires : tie.Need-look-requires
 unfolding u8
 look-requires c κs =
-    let s = c .before .before .before .before .before .before .before .before .before .before in
-    let opens = root-looks (s .args .table .now) (s .args .root) (s .args .frame) (s .args .st) (s .args .list .now) _ (c .before .before .before .before .root .given .1)
+    let root = c .before .before .before .before in
+    let s = root .before .before .before .before .before .before in
+    let opens = root-looks (s .args .table .now) (s .args .root) (s .args .frame) (s .args .st) (s .args .list .now) _ (root .root .given .1)
     (s .pre .0) _ (s .pre .1 .0) (c .if2 .taken) in
     (opens, s .pre .1 .1)
 
@@ -70,19 +74,22 @@ same-length c = search needs
 returns-2 : tie.Need-returns-2
 unfolding u8
 returns-2 c =
-    let s = c .before .before .before .before .before .before .before .before .before .before .before .before .before .before .before .before .before .before .before .before in
-    root-entered _ _ _ _ _ _ (c .before .before .before .before .before .before .before .before .before .before .before .before .before .before .root .given .1) (s .pre .0) _ (s .pre .1 .0) (c .before .before .before .before .before .before .before .before .before .before .if2 .taken) (c .before .before .before .before .before .before .before .before .before .before .before .before .if1 .left)
-    (c .before .before .before .before .before .before .before .before .before .look .ensures) (c .before .before .before .before .before .before .before .place .given .1) (c .before .before .before .before .write .ensures)
+    let written = c .before .before .before .before in
+    let looked = written .before .before .before .before .before in
+    let root = looked .before .before .before .before .before in
+    let s = root .before .before .before .before .before .before in
+    root-entered _ _ _ _ _ _ (root .root .given .1) (s .pre .0) _ (s .pre .1 .0) (looked .before .if2 .taken) (looked .before .before .before .if1 .left)
+    (looked .look .ensures) (written .before .before .before .place .given .1) (written .write .ensures)
 
 returns-3 : tie.Need-returns-3
 returns-3 c =
-    let s = c .before .before .before .before .before .before .before .before .before .before .before .before .before .before in
-    rw (c .unopened3 .ensures) (one-opened _ _ _ _ _ _ (c .before .before .before .before .before .before .before .before .root .given .1) (s .pre .0))
+    let root = c .before .before .before .before .before .before .before .before in
+    rw (c .unopened3 .ensures) (one-opened _ _ _ _ _ _ (root .root .given .1) (root .before .before .before .before .before .before .pre .0))
 
 returns-4 : tie.Need-returns-4
 returns-4 c =
-    let s = c .before .before .before .before .before .before .before .before .before .before .before .before .before .before in
-    rw (c .unopened4 .ensures) (one-opened _ _ _ _ _ _ (c .before .before .before .before .before .before .before .before .root .given .1) (s .pre .0))
+    let root = c .before .before .before .before .before .before .before .before in
+    rw (c .unopened4 .ensures) (one-opened _ _ _ _ _ _ (root .root .given .1) (root .before .before .before .before .before .before .pre .0))
 
 unopened-requires-5 : tie.Need-unopened-requires-5
 unopened-requires-5 c κs = search needs
@@ -92,7 +99,8 @@ returns-5 c = rw (c .unopened .ensures) (none-opened _ _ _ _ _ (c .before .enum-
 
 returns-6 : tie.Need-returns-6
 returns-6 c =
-    rw (c .unopened5 .ensures) (one-opened _ _ _ _ _ _ (c .before .before .before .before .before .root .given .1) (c .before .before .before .before .before .before .before .before .before .before .before .pre .0))
+    let root = c .before .before .before .before .before in
+    rw (c .unopened5 .ensures) (one-opened _ _ _ _ _ _ (root .root .given .1) (root .before .before .before .before .before .before .pre .0))
 
 pub open-root-spec : {M : Type 1} → statement M
 open-root-spec =

@@ -1,3 +1,4 @@
+-- The lookup has a turn of its own; any other opens its root.
 use borrow.Author.Needs.{needs}
 use Rattle.turns.proofs.open_turn.Statement.{statement}
 use Rattle.turns.proofs.open_turn.Tie as tie
@@ -34,8 +35,9 @@ same-length-2 c = search needs
 
 returns-2 : tie.Need-returns-2
 returns-2 c =
-    let s = c .before .before .before .before .before .before .before .before .before .before .before .before in
-    turn-opened _ _ _ (s .pre .1 .0) _ _ (s .pre .1 .1 .0 .0) (c .before .before .before .before .before .before .if1 .left) (s .pre .1 .1 .0 .1) _ _ (c .before .before .before .before .before .root-of .ensures)
+    let rooted = c .before .before .before .before .before in
+    let s = rooted .before .before .before .before .before .before .before in
+    turn-opened _ _ _ (s .pre .1 .0) _ _ (s .pre .1 .1 .0 .0) (rooted .before .if1 .left) (s .pre .1 .1 .0 .1) _ _ (rooted .root-of .ensures)
     (c .before .before .before .open-root .ensures)
 
 pub open-turn-spec : {M : Type 1} → statement M

@@ -1,3 +1,4 @@
+-- Turn by turn: common, specific, payload, and else the header.
 use Rattle.turns.proofs.root_of.Statement.{statement}
 use Rattle.turns.proofs.root_of.Tie as tie
 use Rattle.turns.proofs.root_of.Reads as reads
@@ -11,7 +12,8 @@ use Rattle.turns.specs.declared.Asking.{Asking}
 use Rattle.turns.specs.Turns.{rootFound}
 
 -- no other root has this turn
-header : (t : List ℕ) (w : Asking) (turn class : ℕ) → (turn ≡ 2 → ⊥) → (turn ≡ 3 → ⊥) → (turn ≡ 4 → ⊥) → w .header ≡ rootFound t w turn class
+header : (t : List ℕ) (w : Asking) (turn class : ℕ) → (turn ≡ 2 → ⊥) → (turn ≡ 3 → ⊥) → (turn ≡ 4 → ⊥)
+    → w .header ≡ rootFound t w turn class
 unfolding rootFound
 header t w zero class a b c = refl
 header t w (suc zero) class a b c = refl
