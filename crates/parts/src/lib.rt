@@ -1,11 +1,9 @@
-// Parts of a reading that hand no slots on: what each did. In root: a root that is there is read.
+// Parts of a reading that hand no slots on: what each did.
 use listing::State;
 use listing::Went;
 use rules::Stop;
 ghost use mathlib.Core.Path.{_≡_};
 ghost use Rattle.parts.specs.Ran.{stoppedRan};
-
-pub mod root;
 
 // What a part of a reading did that hands no slots on: how it went, the words that it listed, and the state behind it.
 pub struct Ran {

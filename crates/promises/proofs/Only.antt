@@ -210,6 +210,7 @@ no-slack = record {
       leaf-same (λ l. slotAt l i ≡ x) m st ws l n p r r′ vs vs′ (record { at = d .at; none = d .none }) (record { at = d′ .at; none = d′ .none });
   field = λ m st l ws. record { same = field-same m st l ws };
   notes = λ t x. record { same = λ r r′ p q. p .notes ∙ sym (q .notes) };
+  reach = λ t x p. record { same = λ r r′ h k. λ i. record { next = (h .end ∙ sym (k .end)) i; align = (h .align ∙ sym (k .align)) i } };
   opening = λ k r r′ p q.
       let h = sym (p .roots) ∙ q .roots in
       record { size = p .size ∙ sym (q .size); count = count-same _ _ _ _ h; first = first-same _ _ _ _ h };

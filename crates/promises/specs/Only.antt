@@ -17,7 +17,7 @@ use Rattle.bykind.specs.Reads.{LeafReads}
 use Rattle.fields.specs.Reads.{FieldReads}
 use Rattle.classes.specs.declared.openings.Opening.{Opening}
 use Rattle.classes.specs.Sizes.{Opens}
-use Rattle.classes.specs.Notes.{Notes, Made}
+use Rattle.classes.specs.Notes.{Notes, Made, Reaches}
 use Rattle.promises.specs.declared.Both.{Both}
 use Rattle.promises.specs.Demands.{call, Contract, OneCall, TwoCalls}
 
@@ -67,6 +67,8 @@ pub record NoSlack : Type 1 where
       → (r r′ : Leaf) (vs vs′ : List ℕ)
       → LeafReads m i x st r ws vs → LeafReads m i x st r′ ws vs′ → SameLeaf (λ l. slotAt l i ≡ x) r r′ vs vs′
   pub field : (m : Step) (st : State) (l : Slots) (ws : List ℕ) → OnlyBoth (λ r ws′. FieldReads m st l r ws ws′)
+  -- how far a class reaches
+  pub reach : (t : List ℕ) (x : Notes) (p : ℕ) → Only (λ r. Reaches t x p r)
   -- what is noted of a table, both lists
   pub notes : (t : List ℕ) (x : Notes) → Only (λ y. Made t x y)
   pub opening : (k : ℕ) (r r′ : Opening) → Opens k r → Opens k r′ → SameOpening r r′

@@ -2,11 +2,11 @@
 //
 // A walk goes from record to record by offsets and stops at the first with a fault, at its lowest number. What a record is, by itself, is
 // in the crates below: records, allowed (classes), ranges, fragments; the walk under a root is in roots.
-use fragments::PLACES;
 use fragments::first_fault;
 use fragments::fragment_fault;
 use fragments::lowest;
 use offsets::Walk;
+use order::PLACES;
 use records::faults;
 use records::kinds;
 use records::limits;

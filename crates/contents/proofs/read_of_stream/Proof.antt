@@ -9,7 +9,7 @@ use Rattle.parts.proofs.stopped.Reads as stopped-reads
 use Rattle.contradictions.proofs.or_else.Reads as or-else-reads
 use Rattle.contents.proofs.read_content.Reads as read-content-reads
 use Rattle.contents.proofs.whole_frame.Reads as whole-frame-reads
-use Rattle.parts.proofs.root.read_root.Reads as read-root-reads
+use Rattle.root.proofs.read_root.Reads as read-root-reads
 use mathlib.Core.Path.{_∙_}
 use native.Mathlib.Omega.{arith}
 use lib.ListN.{length}

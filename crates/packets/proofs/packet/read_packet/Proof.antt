@@ -10,7 +10,7 @@ use Rattle.packets.proofs.packet.fresh.Reads as fresh-reads
 use Rattle.packets.proofs.packet.no_slots.Reads as no-slots-reads
 use Rattle.packets.proofs.packet.read_behind_header.Reads as read-behind-header-reads
 use Rattle.contents.proofs.whole_frame.Reads as whole-frame-reads
-use Rattle.parts.proofs.root.read_root.Reads as read-root-reads
+use Rattle.root.proofs.read_root.Reads as read-root-reads
 use mathlib.Core.Path.{_∙_}
 use native.Mathlib.Omega.{arith}
 use lib.ListN.{length}

@@ -3,8 +3,8 @@ use mathlib.Core.Path.{sym}
 use borrow.Author.Needs.{needs}
 use borrow.Author.Tests.{eq-eqb, ne-eqb}
 use Rattle.offsets.specs.Check.{same, isNamed}
-use Rattle.fragments.proofs.is_named.Statement.{statement}
-use Rattle.fragments.proofs.is_named.Tie as tie
+use Rattle.order.proofs.is_named.Statement.{statement}
+use Rattle.order.proofs.is_named.Tie as tie
 
 byte-requires : tie.Need-byte-requires
 byte-requires c κs = search needs

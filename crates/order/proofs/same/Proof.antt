@@ -5,8 +5,8 @@ use native.Mathlib.Omega.{arith}
 use borrow.Author.Needs.{needs}
 use Rattle.offsets.specs.Check.{same}
 use Rattle.offsets.proofs.Searched.{same-unlike, same-alike, same-none}
-use Rattle.fragments.proofs.same.Statement.{statement}
-use Rattle.fragments.proofs.same.Tie as tie
+use Rattle.order.proofs.same.Statement.{statement}
+use Rattle.order.proofs.same.Tie as tie
 
 abbrev Inv-loop : tie.InvT-loop
 Inv-loop t a b n i₀ i = (i ≤ n) × (same t a b n ≡ same t a b i)

@@ -1,4 +1,4 @@
-// A root that is there is read.
+// A root that is there is read; the packet has its roots read so, an event opens its own.
 use classes::Found;
 use fields::Field;
 use fields::walk::walk_members;

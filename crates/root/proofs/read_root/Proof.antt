@@ -1,12 +1,12 @@
 -- A root that is there is one member; one that is not leaves all as it was.
 use borrow.Author.Needs.{needs}
-use Rattle.parts.proofs.root.read_root.Statement.{statement}
-use Rattle.parts.proofs.root.read_root.Tie as tie
-use Rattle.parts.proofs.root.read_root.Reads as reads
-use Rattle.parts.proofs.root.read_root.Lts as lts
+use Rattle.root.proofs.read_root.Statement.{statement}
+use Rattle.root.proofs.read_root.Tie as tie
+use Rattle.root.proofs.read_root.Reads as reads
+use Rattle.root.proofs.read_root.Lts as lts
 use Rattle.fields.proofs.walk.walk_members.Reads as walk-members-reads
 use Rattle.turns.proofs.Looked.{one-member}
-use Rattle.parts.proofs.Rooted.{no-root, a-root}
+use Rattle.root.proofs.Rooted.{no-root, a-root}
 
 enum-told : tie.Need-enum-told
 enum-told c = search needs

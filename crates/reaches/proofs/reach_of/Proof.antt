@@ -1,7 +1,7 @@
 -- One law for each kind; the last arm's kind is 32.
 use borrow.Author.Needs.{needs}
-use Rattle.notes.proofs.reach_of.Statement.{statement}
-use Rattle.notes.proofs.reach_of.Tie as tie
+use Rattle.reaches.proofs.reach_of.Statement.{statement}
+use Rattle.reaches.proofs.reach_of.Tie as tie
 use mathlib.Core.Path.{_≡_, refl, sym, ap, _∙_}
 use Prim.Native.Nat.{_+_}
 use native.Mathlib.Omega.{arith}

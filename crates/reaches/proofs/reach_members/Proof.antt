@@ -1,6 +1,6 @@
 -- The invariant: what the members so far reach, and what those left still do. The measure: those left.
-use Rattle.notes.proofs.reach_members.Statement.{statement}
-use Rattle.notes.proofs.reach_members.Tie as tie
+use Rattle.reaches.proofs.reach_members.Statement.{statement}
+use Rattle.reaches.proofs.reach_members.Tie as tie
 use mathlib.Core.Path.{ap, _∙_}
 use Prim.Native.Nat.{max}
 use native.Mathlib.Omega.{arith}

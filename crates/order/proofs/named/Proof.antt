@@ -5,8 +5,8 @@ use native.Mathlib.Omega.{arith}
 use borrow.Author.Needs.{needs}
 use Rattle.offsets.specs.Check.{named, latest}
 use Rattle.offsets.proofs.Searched.{named-hit, named-miss, named-none}
-use Rattle.fragments.proofs.named.Statement.{statement}
-use Rattle.fragments.proofs.named.Tie as tie
+use Rattle.order.proofs.named.Statement.{statement}
+use Rattle.order.proofs.named.Tie as tie
 
 abbrev Inv-loop : tie.InvT-loop
 Inv-loop t kind at size seen n i₀ i = (i ≤ n) × (named t kind at size (latest seen n) ≡ named t kind at size (latest seen i))

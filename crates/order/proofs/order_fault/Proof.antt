@@ -2,8 +2,8 @@
 use native.Mathlib.Omega.{arith}
 use borrow.Author.Needs.{needs}
 use Rattle.offsets.proofs.Ordered.{preamble-again, other-kind, trace-again, trace-late, trace-fine, clock-used, clock-fine, stream-used, stream-timeless, stream-fine, stream-without, event-used, event-fine, event-without}
-use Rattle.fragments.proofs.order_fault.Statement.{statement}
-use Rattle.fragments.proofs.order_fault.Tie as tie
+use Rattle.order.proofs.order_fault.Statement.{statement}
+use Rattle.order.proofs.order_fault.Tie as tie
 
 byte-requires : tie.Need-byte-requires
 byte-requires c κs = search needs

@@ -1,6 +1,6 @@
 -- The invariant: where the options left still end. The measure: those left.
-use Rattle.notes.proofs.behind_options.Statement.{statement}
-use Rattle.notes.proofs.behind_options.Tie as tie
+use Rattle.reaches.proofs.behind_options.Statement.{statement}
+use Rattle.reaches.proofs.behind_options.Tie as tie
 use native.Mathlib.Omega.{arith}
 use borrow.Author.Needs.{needs}
 use Rattle.classes.proofs.Reached.{OptionsLeft, options-start, options-next, options-done}
