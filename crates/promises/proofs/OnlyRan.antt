@@ -1,5 +1,5 @@
--- No slack, of what hands no slots on: as of every step, whatever the slots behind it are.
-use mathlib.Core.Path.{_≡_}
+-- No slack, of what hands no slots on: as of every step, whatever the slots behind it are. A turn of an event is given by a definition.
+use mathlib.Core.Path.{_≡_, sym, _∙_}
 use Prim.Native.Nat.{ℕ}
 use mathlib.Core.List.{List}
 use lib.ListN.{length}
@@ -19,6 +19,7 @@ ran-same o st ws l l′ r r′ vs vs′ d d′ =
 
 pub no-slack-ran : NoSlackRan
 no-slack-ran = record {
+  turn = λ t x w f turn class st ws. record { same = λ r r′ vs vs′ d d′. (d .only ∙ sym (d′ .only), d .list ∙ sym (d′ .list)) };
   ran = λ o st ws. record { same = λ r r′ vs vs′ d d′. ran-same o st ws _ _ r r′ vs vs′ (d .did) (d′ .did) };
   event = λ m st l ws. record { same = λ r r′ vs vs′ d d′. ran-same (m (full st l (length ws))) st ws _ _ r r′ vs vs′ (d .did) (d′ .did) };
   packet = λ m st ws. record {

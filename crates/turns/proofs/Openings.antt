@@ -17,7 +17,7 @@ use Rattle.rules.specs.Field.{Env, read, readMembers}
 use Rattle.rules.specs.Packet.{mark, readRoot}
 use Rattle.facts.proofs.Steps.{onto-nil, after-onto, after-pass}
 use Rattle.finding.specs.declared.Frame.{Frame}
-use Rattle.finding.specs.Framed.{envOf}
+use Rattle.finding.specs.Framed.{Framed, envOf}
 use Rattle.listing.specs.declared.State.{State}
 use Rattle.listing.specs.declared.Went.the-variants.{On}
 use Rattle.listing.specs.Did.{full, atPlace}
@@ -45,8 +45,12 @@ use Rattle.turns.specs.declared.Asking.{Asking}
 use Rattle.turns.specs.declared.Opened.{Opened}
 use Rattle.turns.specs.Ready.{OfStream}
 use Rattle.turns.specs.Event.{bodyOf, lastState}
-use Rattle.turns.specs.Turns.{Begun, RootOpened, membersRead, unopenedRoot}
-use Rattle.turns.specs.Turns.{Known, rootFound, turnsAt, turnsFrom, TurnOpened, ClassFound, stoppedTurn}
+use Rattle.turns.specs.declared.Turn.{Turn}
+use Rattle.turns.specs.Left.{listedInto, unopenedRoot, nothingOpened, enteredRoot, rootLeft, stoppedTurn, stoppedLeft, classLeft, lookupLeft}
+use Rattle.turns.specs.Left.{rootFound, openedTurn, rootTurn, turnLeft}
+use Rattle.turns.specs.Turns.{Begun, OpenedAt, RootOpened, membersRead}
+use Rattle.turns.specs.Turns.{Known, turnsAt, turnsFrom, TurnOpened, ClassFound}
+use Rattle.turns.proofs.Lefts.{left-none, left-structure, left-lookup, left-root}
 
 pub as-part : {o : Out} {m : Step} {used : ℕ} {st : State} {l : Slots} {ws ws′ : List ℕ} → Begun o m used st l ws ws′ → Part o m ws ws′ used st l
 as-part p = record { listed = p .listed; list = p .list; counted = p .counted; room = p .room; rest = p .rest }
@@ -70,24 +74,31 @@ begun-then m m′ g s e p = record {
   rest = e ∙ ap (λ o. after o g) (p .rest) ∙ after-onto (p .listed) _ g;
 }
 
-module _ (t : List ℕ) (root : Found) (f : Frame) (st : State) (ws : List ℕ) where
-  pub none-opened : root ≡ Nothing → RootOpened t f root st (unopenedRoot 0 0 st) ws ws
-  unfolding classOf readRoot wholeMembers readMembers membersAt
-  none-opened e b u l h n = record {
-    stands = tt;
-    framed = h;
-    begun = nothing-begun _ st l ws (rw (e) refl);
+module _ (t : List ℕ) (x : Notes) (root : Found) (f : Frame) (st : State) (ws : List ℕ) where
+  pub none-opened : root ≡ Nothing → RootOpened t x f root st (unopenedRoot 0 0 st) ws ws
+  unfolding classOf readRoot wholeMembers readMembers membersAt words
+  none-opened e =
+      let left = left-none t x f st (length ws) root e in
+      record {
+        only = ap (λ o. o .opened) (sym left);
+        list = ap (λ o. listedInto (o .listed) ws) (sym left);
+        at = λ b u l h n. record { stands = tt; framed = h; begun = nothing-begun _ st l ws (rw (e) refl) };
+      }
+
+  pub one-opened : (p : ℕ) → root ≡ At p → RootStands t root → rootLeft t x f root st (length ws) ≡ nothingOpened p 1 st
+      → RootOpened t x f root st (unopenedRoot p 1 st) ws ws
+  unfolding classOf readRoot readMembers membersAt _⨾_ words
+  one-opened p e w left = record {
+    only = ap (λ o. o .opened) (sym left);
+    list = ap (λ o. listedInto (o .listed) ws) (sym left);
+    at = λ b u l h n. record {
+      stands = one-member t root p e w;
+      framed = h;
+      begun = nothing-begun _ st l ws (rw (e) (sym (after-pass _)));
+    };
   }
 
-  pub one-opened : (p : ℕ) → root ≡ At p → RootStands t root → RootOpened t f root st (unopenedRoot p 1 st) ws ws
-  unfolding classOf readRoot readMembers membersAt _⨾_
-  one-opened p e w b u l h n = record {
-    stands = one-member t root p e w;
-    framed = h;
-    begun = nothing-begun _ st l ws (rw (e) (sym (after-pass _)));
-  }
-
-  module _ (p : ℕ) (e : root ≡ At p) (w : RootStands t root) (x : Notes) (noted : Prepared t x) where
+  module _ (p : ℕ) (e : root ≡ At p) (w : RootStands t root) (noted : Prepared t x) where
     stood : whole depthLimit t p
     unfolding RootStands
     stood = rw (e) at w
@@ -108,8 +119,9 @@ module _ (t : List ℕ) (root : Found) (f : Frame) (st : State) (ws : List ℕ) 
 
       module _ {o : Inside} {q : BitPlace} {v from n : ℕ} {ws′ : List ℕ} (room : 4 ≤ length ws) (look : o ≡ insideOf t x p f (st .place) Unset)
           (is : o ≡ Members q v from n) (list : ws′ ≡ words (entry 28 q 0 v ∷ []) ++ drop 4 ws) where
-        pub root-entered : RootOpened t f root st (record { used = 4; state = atPlace q st; from = from; count = n; left = 7 }) ws ws′
-        root-entered b u l h many = record {
+        entered-at : (b u : List ℕ) (l : Slots) → Framed b f (st .place) → length l ≡ slotCount
+            → OpenedAt b u l t f root st (record { used = 4; state = atPlace q st; from = from; count = n; left = 7 }) ws ws′
+        entered-at b u l h many = record {
           stands = held .classes;
           framed = record { whole = h .whole; begun = held .place .begun; within = held .place .within; ends = h .ends; small = h .small };
           begun = record { listed = entry 28 q 0 v ∷ []; list = list; counted = refl; room = room; rest = reads };
@@ -133,6 +145,17 @@ module _ (t : List ℕ) (root : Found) (f : Frame) (st : State) (ws : List ℕ) 
             reads : readRoot (envOf b u f) (classOf t root) s
                 ≡ onto (entry 28 q 0 v ∷ []) (membersRead 7 t from n (envOf b u f) (full (atPlace q st) l (length ws - 4)))
             reads = unfold classOf readRoot in rw (e) entered
+
+        pub root-entered : RootOpened t x f root st (record { used = 4; state = atPlace q st; from = from; count = n; left = 7 }) ws ws′
+        unfolding enteredRoot
+        root-entered = record {
+          only = ap (λ o. o .opened) (sym told);
+          list = list ∙ ap (λ o. listedInto (o .listed) ws) (sym told);
+          at = λ b u l h many. entered-at b u l h many;
+        }
+          where
+            told : rootLeft t x f root st (length ws) ≡ enteredRoot p st (Members q v from n)
+            told = left-structure t x f st (length ws) root p e room kind ∙ ap (enteredRoot p st) (sym look ∙ is)
 
 -- Turns
 
@@ -163,67 +186,94 @@ module _ (t s : List ℕ) (w : Asking) (of : OfStream t w) (class : ℕ) where
   known-next (suc zero) k known h = absurd (k refl)
   known-next (suc (suc n)) k known h = known (omega arith)
 
-  pub turn-opened : (turn : ℕ) → turn < 5 → (turn ≡ 1 → ⊥) → Known t s turn class → (f : Frame) (st : State) {root : Found} {r : Opened} {ws ws′ : List ℕ}
-      → root ≡ rootFound t w turn class → RootOpened t f root st r ws ws′
-      → TurnOpened t s w f turn class st
-      (record { went = On; class = class; used = r .used; state = r .state; from = r .from; count = r .count; left = r .left }) ws ws′
-  turn-opened turn h k known f st {root} {r} {ws} {ws′} is did b u l framed many =
-      let o = did b u l framed many in
+pub turn-opened : (t : List ℕ) (x : Notes) (w : Asking) → OfStream t w → (class turn : ℕ) → turn < 5 → (turn ≡ 1 → ⊥)
+    → Known t (x .sizes) turn class → (f : Frame) (st : State) {root : Found} {r : Opened} {ws ws′ : List ℕ}
+    → root ≡ rootFound t w turn class → RootOpened t x f root st r ws ws′ → TurnOpened t x w f turn class st (openedTurn class r) ws ws′
+turn-opened t x w of class turn h k known f st {root} {r} {ws} {ws′} is did = record {
+  only = ap (openedTurn class) (did .only) ∙ ap (λ o. o .result) (sym left);
+  list = did .list ∙ ap (λ o. listedInto (o .listed) ws) (sym left);
+  at = λ b u l framed many.
+      let o = did .at b u l framed many in
       let e = envOf b u f in
       record {
-        known = λ on. known-next turn k known;
+        known = λ on. known-next t (x .sizes) w of class turn k known;
         stands = λ on. o .stands;
         framed = λ on. o .framed;
         goes = λ on. begun-then (readRoot e (classOf t root)) (membersRead (r .left) t (r .from) (r .count) e) (turnsAt t w e class (turn + 1))
-            (full st l (length ws)) (rw (is) (turn-first turn h k e (full st l (length ws)))) (o .begun);
+            (full st l (length ws)) (rw (is) (turn-first t (x .sizes) w of class turn h k e (full st l (length ws)))) (o .begun);
         stops = λ v off. let z : _≡_ {A = ℕ} 0 1 = cc in absurd (omega arith);
         room = o .begun .room;
         same = part-length (as-part (o .begun));
-      }
+      };
+}
+  where
+    left : turnLeft t x w f turn class st (length ws) ≡ rootTurn class (rootLeft t x f root st (length ws))
+    left = left-root t x w f turn class st (length ws) k ∙ ap (λ y. rootTurn class (rootLeft t x f y st (length ws))) (sym is)
+
+pub turn-looked : (t : List ℕ) (x : Notes) (w : Asking) (class turn : ℕ) → turn ≡ 1 → (f : Frame) (st : State) {r : Turn} {ws ws′ : List ℕ}
+    → ClassFound t (x .sizes) w st r ws ws′
+    → TurnOpened t x w f turn class st r ws ws′
+turn-looked t x w class turn h f st {r} {ws} {ws′} did =
+    let left = left-lookup t x w f turn class st (length ws) h in
+    record {
+      only = did .only ∙ ap (λ o. o .result) (sym left);
+      list = did .list ∙ ap (λ o. listedInto (o .listed) ws) (sym left);
+      at = λ b u l framed many. rw (h) (did .at f class b u l framed many);
+    }
 
 -- the lookup refused: nothing is listed
 module _ (t s : List ℕ) (w : Asking) (st : State) (ws : List ℕ) where
   abbrev Body : Env → Step
   Body e = bodyOf (askedAt t) (streamClassAt t (w .class)) e
 
-  pub class-refused : (v : Stop) → ((e : Env) (l : Slots) → Body e (full st l (length ws)) ≡ stop [] v) → ClassFound t s w st (stoppedTurn v st) ws ws
-  unfolding turnsFrom
-  class-refused v h f class b u l framed many = record {
-    known = λ on. let z : _≡_ {A = ℕ} 0 1 = cc in absurd (omega arith);
-    stands = λ on. let z : _≡_ {A = ℕ} 0 1 = cc in absurd (omega arith);
-    framed = λ on. let z : _≡_ {A = ℕ} 0 1 = cc in absurd (omega arith);
-    goes = λ on. let z : _≡_ {A = ℕ} 0 1 = cc in absurd (omega arith);
-    stops = λ x off. let p : v ≡ x = cc in rw (← p) (went-no-further _ st l v ws (h (envOf b u f) l));
-    room = omega arith;
-    same = refl;
+  pub class-refused : (v : Stop) → lookupLeft t w st (length ws) ≡ stoppedLeft v st
+      → ((e : Env) (l : Slots) → Body e (full st l (length ws)) ≡ stop [] v) → ClassFound t s w st (stoppedTurn v st) ws ws
+  unfolding turnsFrom words
+  class-refused v left h = record {
+    only = ap (λ o. o .result) (sym left);
+    list = ap (λ o. listedInto (o .listed) ws) (sym left);
+    at = λ f class b u l framed many. record {
+      known = λ on. let z : _≡_ {A = ℕ} 0 1 = cc in absurd (omega arith);
+      stands = λ on. let z : _≡_ {A = ℕ} 0 1 = cc in absurd (omega arith);
+      framed = λ on. let z : _≡_ {A = ℕ} 0 1 = cc in absurd (omega arith);
+      goes = λ on. let z : _≡_ {A = ℕ} 0 1 = cc in absurd (omega arith);
+      stops = λ x off. let p : v ≡ x = cc in rw (← p) (went-no-further _ st l v ws (h (envOf b u f) l));
+      room = omega arith;
+      same = refl;
+    };
   }
 
   -- or entry 5 is listed, and the other roots are left
-  pub class-listed : (p : ℕ) → SizedFragment t s p → 4 ≤ length ws → (v : ℕ)
+  pub class-listed : (p : ℕ) → lookupLeft t w st (length ws) ≡ classLeft w st (At p) → SizedFragment t s p → 4 ≤ length ws
       → ((e : Env) (l : Slots) → Body e (full st l (length ws))
-      ≡ (mark eventClassFound 0 v ⨾ partsOf e ((streamClassAt t (w .class)) .common) ((eventClassAt t p) .specific) ((eventClassAt t p) .payload))
+      ≡ (mark eventClassFound 0 (st .said .event)
+      ⨾ partsOf e ((streamClassAt t (w .class)) .common) ((eventClassAt t p) .specific) ((eventClassAt t p) .payload))
       (full (lastState st) l (length ws)))
-      → {ws′ : List ℕ} → ws′ ≡ words (entry eventClassFound (st .place) 0 v ∷ []) ++ drop 4 ws
+      → {ws′ : List ℕ} → ws′ ≡ words (entry eventClassFound (st .place) 0 (st .said .event) ∷ []) ++ drop 4 ws
       → ClassFound t s w st (record { went = On; class = p; used = 4; state = lastState st; from = 0; count = 0; left = depthLimit }) ws ws′
-  class-listed p stands room v h {ws′} list f class b u l framed many = record {
-    known = λ on k. stands;
-    stands = λ on. unfold wholeMembers in tt;
-    framed = λ on. framed;
-    goes = λ on. entered;
-    stops = λ x off. let z : _≡_ {A = ℕ} 0 1 = cc in absurd (omega arith);
-    room = room;
-    same = part-length (as-part entered);
+  unfolding classLeft
+  class-listed p left stands room h {ws′} list = record {
+    only = ap (λ o. o .result) (sym left);
+    list = list ∙ ap (λ o. listedInto (o .listed) ws) (sym left);
+    at = λ f class b u l framed many. record {
+      known = λ on k. stands;
+      stands = λ on. unfold wholeMembers in tt;
+      framed = λ on. framed;
+      goes = λ on. entered f class b u l;
+      stops = λ x off. let z : _≡_ {A = ℕ} 0 1 = cc in absurd (omega arith);
+      room = room;
+      same = part-length (as-part (entered f class b u l));
+    };
   }
     where
-      e : Env
-      e = envOf b u f
-
-      entered : Begun (turnsAt t w e class 1 (full st l (length ws))) (membersRead depthLimit t 0 0 e ⨾ turnsAt t w e p 2) 4 (lastState st) l ws ws′
-      entered = record {
-        listed = entry eventClassFound (st .place) 0 v ∷ [];
+      entered : (f : Frame) (class : ℕ) (b u : List ℕ) (l : Slots)
+          → Begun (turnsAt t w (envOf b u f) class 1 (full st l (length ws)))
+          (membersRead depthLimit t 0 0 (envOf b u f) ⨾ turnsAt t w (envOf b u f) p 2) 4 (lastState st) l ws ws′
+      entered f class b u l = record {
+        listed = entry eventClassFound (st .place) 0 (st .said .event) ∷ [];
         list = list;
         counted = refl;
         room = room;
-        rest = unfold turnsFrom in h e l ∙ mark-on eventClassFound 0 v _ (full (lastState st) l (length ws))
+        rest = unfold turnsFrom in h (envOf b u f) l ∙ mark-on eventClassFound 0 (st .said .event) _ (full (lastState st) l (length ws))
             ∙ unfold _⨾_ after readMembers membersAt pass in ap (onto _) (sym (onto-nil _));
       }

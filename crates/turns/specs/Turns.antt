@@ -5,7 +5,7 @@ use mathlib.Core.List.{List, _++_}
 use lib.ListN.{length, drop}
 use Rattle.rules.specs.declared.Entry.{Entry}
 use Rattle.rules.specs.declared.Stop.{Stop}
-use Rattle.rules.specs.Limits.{slotCount, depthLimit}
+use Rattle.rules.specs.Limits.{slotCount}
 use Rattle.rules.specs.Slots.{Slots}
 use Rattle.rules.specs.Entry.{words}
 use Rattle.rules.specs.Step.{Out, Step, onto, _⨾_, pass}
@@ -19,13 +19,15 @@ use Rattle.listing.specs.declared.Went.the-variants.{On, Stopped}
 use Rattle.listing.specs.Did.{Did, full}
 use Rattle.classes.specs.declared.Found.{Found}
 use Rattle.classes.specs.Trees.{whole, wholeMembers, stoodAt, membersAt}
-use Rattle.classes.specs.Fragments.{rootPlace, streamClassAt, eventClassAt, askedAt}
-use Rattle.classes.specs.Sizes.{foundOf, SizedFragment}
+use Rattle.classes.specs.Fragments.{streamClassAt, eventClassAt, askedAt}
+use Rattle.classes.specs.Sizes.{SizedFragment}
+use Rattle.classes.specs.Notes.{Notes}
 use Rattle.turns.specs.Roots.{classOf, partsOf}
 use Rattle.turns.specs.declared.Asking.{Asking}
 use Rattle.turns.specs.declared.Opened.{Opened}
 use Rattle.turns.specs.declared.Turn.{Turn}
 use Rattle.turns.specs.Event.{bodyOf}
+use Rattle.turns.specs.Left.{listedInto, rootLeft, lookupLeft, turnLeft}
 
 -- what is left of an event from a turn on, where d is its class
 unfoldable pub turnsFrom : Asked → StreamClass → Env → EventClass → ℕ → Step
@@ -39,15 +41,6 @@ turnsFrom a c e d (suc (suc (suc (suc (suc n))))) = pass
 -- the same of a table, where the event's class stands at a byte
 abbrev pub turnsAt : List ℕ → Asking → Env → ℕ → ℕ → Step
 turnsAt t w e class turn = turnsFrom (askedAt t) (streamClassAt t (w .class)) e (eventClassAt t class) turn
-
--- the root whose turn it is; the lookup has none
-unfoldable pub rootFound : List ℕ → Asking → ℕ → ℕ → Found
-rootFound t w zero class = w .header
-rootFound t w (suc zero) class = w .header
-rootFound t w (suc (suc zero)) class = w .common
-rootFound t w (suc (suc (suc zero))) class = foundOf (rootPlace t class 0)
-rootFound t w (suc (suc (suc (suc zero)))) class = foundOf (rootPlace t class 1)
-rootFound t w (suc (suc (suc (suc (suc n))))) class = w .header
 
 -- behind the lookup, an event class stands at the byte
 abbrev pub Known : List ℕ → List ℕ → ℕ → ℕ → Type 0
@@ -72,9 +65,11 @@ pub record OpenedAt (b u : List ℕ) (l : Slots) (t : List ℕ) (f : Frame) (roo
   pub begun : Begun (readRoot (envOf b u f) (classOf t root) (full st l (length ws))) (membersRead (r .left) t (r .from) (r .count) (envOf b u f))
       (r .used) (r .state) l ws ws′
 
-abbrev pub RootOpened : List ℕ → Frame → Found → State → Opened → List ℕ → List ℕ → Type 0
-RootOpened t f root st r ws ws′ =
-    (b u : List ℕ) (l : Slots) → Framed b f (st .place) → length l ≡ slotCount → OpenedAt b u l t f root st r ws ws′
+-- whatever the stream and the slots are
+pub record RootOpened (t : List ℕ) (x : Notes) (f : Frame) (root : Found) (st : State) (r : Opened) (ws ws′ : List ℕ) : Type 0 where
+  pub only : r ≡ (rootLeft t x f root st (length ws)) .opened
+  pub list : ws′ ≡ listedInto ((rootLeft t x f root st (length ws)) .listed) ws
+  pub at : (b u : List ℕ) (l : Slots) → Framed b f (st .place) → length l ≡ slotCount → OpenedAt b u l t f root st r ws ws′
 
 -- what a turn left, or why it stopped
 pub record TurnAt (b u : List ℕ) (l : Slots) (t s : List ℕ) (w : Asking) (f : Frame) (turn class : ℕ) (st : State) (r : Turn)
@@ -91,17 +86,16 @@ pub record TurnAt (b u : List ℕ) (l : Slots) (t s : List ℕ) (w : Asking) (f 
   pub room : r .used ≤ length ws
   pub same : length ws′ ≡ length ws
 
-abbrev pub TurnOpened : List ℕ → List ℕ → Asking → Frame → ℕ → ℕ → State → Turn → List ℕ → List ℕ → Type 0
-TurnOpened t s w f turn class st r ws ws′ =
-    (b u : List ℕ) (l : Slots) → Framed b f (st .place) → length l ≡ slotCount → TurnAt b u l t s w f turn class st r ws ws′
+-- result and list are given by the table's bytes; and that, whatever the stream and the slots are, is a turn of the event that the rules read
+pub record TurnOpened (t : List ℕ) (x : Notes) (w : Asking) (f : Frame) (turn class : ℕ) (st : State) (r : Turn) (ws ws′ : List ℕ) : Type 0 where
+  pub only : r ≡ (turnLeft t x w f turn class st (length ws)) .result
+  pub list : ws′ ≡ listedInto ((turnLeft t x w f turn class st (length ws)) .listed) ws
+  pub at : (b u : List ℕ) (l : Slots) → Framed b f (st .place) → length l ≡ slotCount
+      → TurnAt b u l t (x .sizes) w f turn class st r ws ws′
 
 -- the lookup's turn, whatever was thought to be the event's class
-abbrev pub ClassFound : List ℕ → List ℕ → Asking → State → Turn → List ℕ → List ℕ → Type 0
-ClassFound t s w st r ws ws′ = (f : Frame) (class : ℕ) → TurnOpened t s w f 1 class st r ws ws′
-
--- a root of which nothing was read yet
-abbrev pub unopenedRoot : ℕ → ℕ → State → Opened
-unopenedRoot from n st = record { used = 0; state = st; from = from; count = n; left = depthLimit }
-
-abbrev pub stoppedTurn : Stop → State → Turn
-stoppedTurn v st = record { went = Stopped v; class = 0; used = 0; state = st; from = 0; count = 0; left = 0 }
+pub record ClassFound (t s : List ℕ) (w : Asking) (st : State) (r : Turn) (ws ws′ : List ℕ) : Type 0 where
+  pub only : r ≡ (lookupLeft t w st (length ws)) .result
+  pub list : ws′ ≡ listedInto ((lookupLeft t w st (length ws)) .listed) ws
+  pub at : (f : Frame) (class : ℕ) (b u : List ℕ) (l : Slots) → Framed b f (st .place) → length l ≡ slotCount
+      → TurnAt b u l t s w f 1 class st r ws ws′

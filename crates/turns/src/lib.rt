@@ -24,7 +24,8 @@ ghost use Rattle.classes.specs.Notes.{notes, Prepared};
 ghost use Rattle.turns.specs.Roots.{RootStands};
 ghost use Rattle.turns.specs.Ready.{Ready, OfStream};
 ghost use Rattle.turns.specs.Event.{lastState};
-ghost use Rattle.turns.specs.Turns.{RootOpened, ClassFound, TurnOpened, Known, rootFound, unopenedRoot, stoppedTurn};
+ghost use Rattle.turns.specs.Left.{rootFound, unopenedRoot, stoppedTurn};
+ghost use Rattle.turns.specs.Turns.{RootOpened, ClassFound, TurnOpened, Known};
 
 const EVENT_CLASS_FOUND: u64 = 5;
 
@@ -75,7 +76,8 @@ pub fn open_turn(
     requires { ⌜ (turn < 5) × Known (now table) (now sizes) turn class ⌝ }
     requires { ⌜ (frame .start .0 ≤ st .place .0) × (st .place .0 + 64 ≤ 2 ^ 64) ⌝ }
     ensures { λ r. ⌜
-        TurnOpened (now (table .entry)) (now (sizes .entry)) with frame turn class st r (now (list .entry)) (now (list .exit))
+        TurnOpened (now (table .entry)) (notes (now (sizes .entry)) (now (aligns .entry))) with frame turn class st r
+        (now (list .entry)) (now (list .exit))
         ⌝ }
 {
     if turn == 1 {
@@ -193,7 +195,9 @@ fn open_root(
     requires { ⌜ RootStands (now table) root ⌝ }
     requires { ⌜ Prepared (now table) (notes (now sizes) (now aligns)) ⌝ }
     requires { ⌜ (frame .start .0 ≤ st .place .0) × (st .place .0 + 64 ≤ 2 ^ 64) ⌝ }
-    ensures { λ r. ⌜ RootOpened (now (table .entry)) frame root st r (now (list .entry)) (now (list .exit)) ⌝ }
+    ensures { λ r. ⌜
+        RootOpened (now (table .entry)) (notes (now (sizes .entry)) (now (aligns .entry))) frame root st r (now (list .entry)) (now (list .exit))
+        ⌝ }
 {
     match root {
         Found::Nothing => unopened(0, 0, st),

@@ -172,7 +172,7 @@ took : (c : AtOpened) →
     let l = of-turn c .before .loop in
     TurnAt (a .stream .now) (a .uuid .now) (l .slots) (a .table .now) (a .sizes .now) (a .with) (a .frame) (l .turn) (l .class) (l .state)
     (c .open-turn .result) (lent (l .used) (l .list)) (c .open-turn .last .1 .1 .1 .1 .1 .1 .1 .1 .1 .0)
-took c = c .open-turn .ensures _ _ _ (outer (of-turn c) .framed) (outer (of-turn c) .many)
+took c = c .open-turn .ensures .at _ _ _ (outer (of-turn c) .framed) (outer (of-turn c) .many)
 
 -- what it leaves
 abbrev Inside : (c : AtOpened) → (Env → Step) → Slots → List ℕ → ℕ → ℕ → List ℕ → ℕ

@@ -20,6 +20,7 @@ use Rattle.rules.specs.Step.{stop}
 use Rattle.rules.specs.Table.{StreamClass}
 use Rattle.classes.specs.Fragments.{askedAt, streamClassAt}
 use Rattle.turns.proofs.Bodies.{body-back, body-full, body-unknown, body-found, event-unknown, event-found, event-stands, back-is}
+use Rattle.turns.proofs.Lefts.{left-back, left-full, left-unknown, left-found}
 use Rattle.turns.proofs.Openings.{class-refused, class-listed}
 
 abbrev Table : tie.Start → List ℕ
@@ -42,8 +43,9 @@ stopped-turn-requires c κs = search needs
 returns : tie.Need-returns
 returns c =
     let s = c .before .before .before .before .before .before .before .before in
-    rw (c .stopped-turn .ensures) (class-refused _ _ _ _ _ _ (λ e l.
-    body-back (askedAt (Table s)) (Class s) e (s .args .st) l _ (back s (c .before .before .went-back .ensures) (c .before .if1 .taken))))
+    let told = c .before .before .went-back .ensures in
+    rw (c .stopped-turn .ensures) (class-refused _ _ _ _ _ _ (left-back _ _ _ _ (sym told ∙ c .before .if1 .taken)) (λ e l.
+    body-back (askedAt (Table s)) (Class s) e (s .args .st) l _ (back s told (c .before .if1 .taken))))
 
 stopped-turn-requires-2 : tie.Need-stopped-turn-requires-2
 stopped-turn-requires-2 c κs = search needs
@@ -51,9 +53,10 @@ stopped-turn-requires-2 c κs = search needs
 returns-2 : tie.Need-returns-2
 returns-2 c =
     let s = c .before .before .before .before .before .before .before .before .before in
-    let went = back s (c .before .before .before .went-back .ensures) (c .before .before .if1 .left) in
-    rw (c .stopped-turn2 .ensures) (class-refused _ _ _ _ _ _ (λ e l.
-    body-full (askedAt (Table s)) (Class s) e (s .args .st) l _ went (c .before .if2 .taken)))
+    let told = c .before .before .before .went-back .ensures in
+    let on = c .before .before .if1 .left in
+    rw (c .stopped-turn2 .ensures) (class-refused _ _ _ _ _ _ (left-full _ _ _ _ (sym told ∙ on) (c .before .if2 .taken)) (λ e l.
+    body-full (askedAt (Table s)) (Class s) e (s .args .st) l _ (back s told on) (c .before .if2 .taken)))
 
 find-event-class-requires : tie.Need-find-event-class-requires
 find-event-class-requires c κs = search needs
@@ -77,11 +80,14 @@ returns-3 : tie.Need-returns-3
 returns-3 c =
     let looked = c .before .before .before in
     let s = looked .before .before .before .before .before .before .before .before .before in
-    let went = back s (looked .before .before .before .went-back .ensures) (looked .before .before .if1 .left) in
-    let none = sym (c .before .enum-told .given .1) ∙ looked .find-event-class .ensures in
-    rw (c .stopped-turn3 .ensures) (class-refused _ _ _ _ _ _ (λ e l.
-    body-unknown (askedAt (Table s)) (Class s) e (s .args .st) l _ went (looked .before .if2 .left)
-    (event-unknown (Table s) (s .args .sizes .now) (s .args .with) (s .args .st .said .event) (s .pre .0) (s .pre .1) none)
+    let told = looked .before .before .before .went-back .ensures in
+    let on = looked .before .before .if1 .left in
+    let room = looked .before .if2 .left in
+    let none = c .before .enum-told .given .1 in
+    rw (c .stopped-turn3 .ensures) (class-refused _ _ _ _ _ _ (left-unknown _ _ _ _ (sym told ∙ on) room (looked .find-event-class .ensures) none) (λ e l.
+    body-unknown (askedAt (Table s)) (Class s) e (s .args .st) l _ (back s told on) room
+    (event-unknown (Table s) (s .args .sizes .now) (s .args .with) (s .args .st .said .event) (s .pre .0) (s .pre .1)
+    (sym none ∙ looked .find-event-class .ensures))
     ∙ ap (λ i. stop [] (stopAt (EventClassUnknown i (s .args .st .said .event)) (s .args .st .place))) (sym (s .pre .1 .id))))
 
 same-length : tie.Need-same-length
@@ -92,13 +98,16 @@ returns-4 c =
     let looked = c .before .before .before .before .before .before .before .before in
     let s = looked .before .before .before .before .before .before .before .before .before in
     let id = s .args .st .said .event in
+    let told = looked .before .before .before .went-back .ensures in
+    let on = looked .before .before .if1 .left in
     let room = looked .before .if2 .left in
-    let went = back s (looked .before .before .before .went-back .ensures) (looked .before .before .if1 .left) in
-    let found = sym (c .before .before .before .before .before .before .class .given .1) ∙ looked .find-event-class .ensures in
+    let at = c .before .before .before .before .before .before .class .given .1 in
+    let found = sym at ∙ looked .find-event-class .ensures in
+    let left = left-found _ _ (s .args .st) _ (sym told ∙ on) room (looked .find-event-class .ensures) _ at in
     let stands = event-stands (Table s) (s .args .sizes .now) (s .args .with) id (s .pre .0) (s .pre .1) _ found in
     let is = event-found (Table s) (s .args .sizes .now) (s .args .with) id (s .pre .0) (s .pre .1) _ found in
-    rw (c .settled .ensures) (class-listed _ _ _ _ _ _ stands room id (λ e l.
-    body-found (askedAt (Table s)) (Class s) e (s .args .st) l _ _ went room is) (c .before .before .before .write .ensures))
+    rw (c .settled .ensures) (class-listed _ _ _ _ _ _ left stands room (λ e l.
+    body-found (askedAt (Table s)) (Class s) e (s .args .st) l _ _ (back s told on) room is) (c .before .before .before .write .ensures))
 
 pub find-class-spec : {M : Type 1} → statement M
 find-class-spec =

@@ -7,8 +7,8 @@ use Rattle.turns.proofs.open_root.Lts as lts
 use Rattle.turns.proofs.unopened.Reads as unopened-reads
 use Rattle.inside.proofs.look.look.Reads as look-reads
 use Rattle.listing.proofs.entry.write.Reads as write-reads
-use Rattle.classes.specs.Notes.{notes}
 use Rattle.rules.specs.Record.{u8}
+use Rattle.turns.proofs.Lefts.{left-no-room, left-other, left-elements, left-refused}
 use Rattle.turns.proofs.Openings.{none-opened, one-opened, root-within, root-looks, root-entered}
 
 enum-told : tie.Need-enum-told
@@ -26,22 +26,23 @@ unopened-requires-2 c κs = search needs
 returns : tie.Need-returns
 returns c =
     let root = c .before .before .before in
-    rw (c .unopened2 .ensures) (one-opened _ _ _ _ _ _ (root .root .given .1) (root .before .before .before .before .before .before .pre .0))
+    rw (c .unopened2 .ensures) (one-opened _ _ _ _ _ _ _ (root .root .given .1) (root .before .before .before .before .before .before .pre .0)
+    (left-no-room _ _ _ _ _ _ _ (root .root .given .1) (c .before .if1 .taken)))
 
 shared-slice-read-if2 : tie.Need-shared-slice-read-if2
 shared-slice-read-if2 c =
     let root = c .before .before .before in
     let s = root .before .before .before .before .before .before in
-    root-within (s .args .table .now) (s .args .root) (s .args .frame) (s .args .st) (s .args .list .now) _ (root .root .given .1) (s .pre .0)
-    (notes (s .args .sizes .now) (s .args .aligns .now)) (s .pre .1 .0)
+    root-within (s .args .table .now) _ (s .args .root) (s .args .frame) (s .args .st) (s .args .list .now) _ (root .root .given .1) (s .pre .0)
+    (s .pre .1 .0)
 
 look-requires : tie.Need-look-requires
 unfolding u8
 look-requires c κs =
     let root = c .before .before .before .before in
     let s = root .before .before .before .before .before .before in
-    let opens = root-looks (s .args .table .now) (s .args .root) (s .args .frame) (s .args .st) (s .args .list .now) _ (root .root .given .1)
-    (s .pre .0) _ (s .pre .1 .0) (c .if2 .taken) in
+    let opens = root-looks (s .args .table .now) _ (s .args .root) (s .args .frame) (s .args .st) (s .args .list .now) _ (root .root .given .1)
+    (s .pre .0) (s .pre .1 .0) (c .if2 .taken) in
     (opens, s .pre .1 .1)
 
 enum-known-place : tie.Need-enum-known-place
@@ -78,29 +79,39 @@ returns-2 c =
     let looked = written .before .before .before .before .before in
     let root = looked .before .before .before .before .before in
     let s = root .before .before .before .before .before .before in
-    root-entered _ _ _ _ _ _ (root .root .given .1) (s .pre .0) _ (s .pre .1 .0) (looked .before .if2 .taken) (looked .before .before .before .if1 .left)
+    root-entered _ _ _ _ _ _ _ (root .root .given .1) (s .pre .0) (s .pre .1 .0) (looked .before .if2 .taken) (looked .before .before .before .if1 .left)
     (looked .look .ensures) (written .before .before .before .place .given .1) (written .write .ensures)
 
 returns-3 : tie.Need-returns-3
+unfolding u8
 returns-3 c =
-    let root = c .before .before .before .before .before .before .before .before in
-    rw (c .unopened3 .ensures) (one-opened _ _ _ _ _ _ (root .root .given .1) (root .before .before .before .before .before .before .pre .0))
+    let looked = c .before .before .before in
+    let root = looked .before .before .before .before .before in
+    rw (c .unopened3 .ensures) (one-opened _ _ _ _ _ _ _ (root .root .given .1) (root .before .before .before .before .before .before .pre .0)
+    (left-elements _ _ _ _ _ _ _ (root .root .given .1) (looked .before .before .before .if1 .left) (looked .before .if2 .taken) (looked .look .ensures)
+    (c .before .enum-told2 .given .1)))
 
 returns-4 : tie.Need-returns-4
+unfolding u8
 returns-4 c =
-    let root = c .before .before .before .before .before .before .before .before in
-    rw (c .unopened4 .ensures) (one-opened _ _ _ _ _ _ (root .root .given .1) (root .before .before .before .before .before .before .pre .0))
+    let looked = c .before .before .before in
+    let root = looked .before .before .before .before .before in
+    rw (c .unopened4 .ensures) (one-opened _ _ _ _ _ _ _ (root .root .given .1) (root .before .before .before .before .before .before .pre .0)
+    (left-refused _ _ _ _ _ _ _ (root .root .given .1) (looked .before .before .before .if1 .left) (looked .before .if2 .taken) (looked .look .ensures)
+    (c .before .enum-told3 .given .1)))
 
 unopened-requires-5 : tie.Need-unopened-requires-5
 unopened-requires-5 c κs = search needs
 
 returns-5 : tie.Need-returns-5
-returns-5 c = rw (c .unopened .ensures) (none-opened _ _ _ _ _ (c .before .enum-told .given .1))
+returns-5 c = rw (c .unopened .ensures) (none-opened _ _ _ _ _ _ (c .before .enum-told .given .1))
 
 returns-6 : tie.Need-returns-6
+unfolding u8
 returns-6 c =
     let root = c .before .before .before .before .before in
-    rw (c .unopened5 .ensures) (one-opened _ _ _ _ _ _ (root .root .given .1) (root .before .before .before .before .before .before .pre .0))
+    rw (c .unopened5 .ensures) (one-opened _ _ _ _ _ _ _ (root .root .given .1) (root .before .before .before .before .before .before .pre .0)
+    (left-other _ _ _ _ _ _ _ (root .root .given .1) (c .before .before .before .if1 .left) (c .before .if2 .left)))
 
 pub open-root-spec : {M : Type 1} → statement M
 open-root-spec =

@@ -7,7 +7,7 @@ use Rattle.turns.proofs.open_turn.Lts as lts
 use Rattle.turns.proofs.find_class.Reads as find-class-reads
 use Rattle.turns.proofs.open_root.Reads as open-root-reads
 use Rattle.turns.proofs.root_of.Reads as root-of-reads
-use Rattle.turns.proofs.Openings.{turn-stands, turn-opened}
+use Rattle.turns.proofs.Openings.{turn-stands, turn-opened, turn-looked}
 
 find-class-requires : tie.Need-find-class-requires
 find-class-requires c κs =
@@ -18,7 +18,8 @@ same-length : tie.Need-same-length
 same-length c = search needs
 
 returns : tie.Need-returns
-returns c = rw (c .before .before .before .before .if1 .taken) (c .before .before .find-class .ensures _ _)
+returns c =
+    turn-looked _ _ _ _ _ (c .before .before .before .before .if1 .taken) _ _ (c .before .before .find-class .ensures)
 
 root-of-requires : tie.Need-root-of-requires
 root-of-requires c κs =

@@ -9,7 +9,7 @@ use Prim.Native.Nat.{ℕ, zero, suc}
 use mathlib.Core.List.{List}
 use native.Mathlib.Omega.{arith}
 use Rattle.turns.specs.declared.Asking.{Asking}
-use Rattle.turns.specs.Turns.{rootFound}
+use Rattle.turns.specs.Left.{rootFound}
 
 -- no other root has this turn
 header : (t : List ℕ) (w : Asking) (turn class : ℕ) → (turn ≡ 2 → ⊥) → (turn ≡ 3 → ⊥) → (turn ≡ 4 → ⊥)
