@@ -1,7 +1,7 @@
 // A root that is there is read.
 use classes::Found;
 use fields::Field;
-use fields::walk::walk_members;
+use fields::walk::walk;
 use finding::Frame;
 use listing::State;
 use listing::Went;
@@ -43,7 +43,7 @@ pub fn read_root(
             state: st,
             slots,
         },
-        Found::At(at) => walk_members(
+        Found::At(at) => walk(
             table,
             sizes,
             aligns,
@@ -52,6 +52,7 @@ pub fn read_root(
             frame,
             at,
             1,
+            false,
             DEPTH_LIMIT,
             st,
             slots,
