@@ -1,7 +1,9 @@
 -- A walk, turn by turn: no room, or a leaf or a field that holds others, which stops the walk or goes on.
--- In order: calls of the cycle; what a walk keeps; one turn; the walk's end; slots past the sixty-four.
-use mathlib.Core.Path.{_≡_, refl, ap, _∙_}
+-- In order: calls of the cycle; what a walk keeps; its fields from the front; one turn; the walk's end; slots past the sixty-four.
+use mathlib.Core.Path.{_≡_, refl, ap, sym, _∙_}
+use mathlib.Core.Logic.{⊎-elim, _⊎_}
 use mathlib.Core.List.{List, [], _∷_, append-nil}
+use mathlib.Core.Bool.{Bool, true, false}
 use Prim.Native.Nat.{ℕ, zero, suc, _+_, _-_, _≤_, _<_}
 use native.Mathlib.Omega.{arith}
 use borrow.Rule.Slice.PartMut.{same-len-mid}
@@ -17,7 +19,7 @@ use Rattle.rules.specs.Class.{Class, fixed, leb128, signedLeb128, string, stati
 use Rattle.rules.specs.Class.{structure, staticArray, dynamicArray, flagged, optional, variant}
 use Rattle.rules.specs.Step.{State as Full, Out, stop, go, Step, onto, after, _⨾_, pass, refuse}
 use Rattle.rules.specs.Field.{Env, read, readFixed, readMembers, times}
-use Rattle.classes.specs.Trees.{Stood, stoodAt, classAt, membersAt}
+use Rattle.classes.specs.Trees.{Stood, stoodAt, classAt, nextAt, membersAt, whole}
 use Rattle.finding.specs.declared.Frame.{Frame}
 use Rattle.listing.specs.declared.State.{State}
 use Rattle.leaves.specs.declared.Leaf.{Leaf}
@@ -30,7 +32,8 @@ use Rattle.listing.proofs.Parts.{Part, part-start, part-step, part-stop, part-e
 use Rattle.fields.specs.declared.Field.{Field}
 use Rattle.bykind.specs.Reads.{LeafReads}
 use Rattle.fields.specs.Reads.{FieldReads, stoppedField}
-use Rattle.classes.proofs.Standing.{First, no-member}
+use Rattle.fields.specs.Inner.{readFields, wholeFields, onward}
+use Rattle.classes.proofs.Standing.{first, no-member}
 use Rattle.laws.proofs.Between.{read-between}
 
 -- a call of the cycle: it reads `all`, from `came` and `given` on, and lists into `list`
@@ -58,15 +61,9 @@ CallReads w r ws = FieldReads (w .all) (w .came) (w .given) r (w .list) ws
 abbrev pub stoppedCall : Call → Stop → ℕ → Field
 stoppedCall w v n = stoppedField v n (w .came) (w .given)
 
--- what the three functions read: the class at a byte, n classes from a byte on, and the class at a byte n times
+-- what `read_field` reads: the class at a byte
 abbrev pub classRead : ℕ → List ℕ → ℕ → Env → Step
 classRead d t at e = read e (classAt d t at)
-
-abbrev pub membersRead : ℕ → List ℕ → ℕ → ℕ → Env → Step
-membersRead d t at n e = readMembers e (membersAt (stoodAt d t) at n)
-
-abbrev pub elementsRead : ℕ → List ℕ → ℕ → ℕ → Env → Step
-elementsRead d t at n e = times n (read e (classAt d t at))
 
 -- what a walk's loop keeps: m is what is left of it
 pub record Walked (w : Call) (m : Step) (ws : List ℕ) (used : ℕ) (st : State) (l : Slots) : Type 0 where
@@ -127,25 +124,34 @@ still-framed b u f c l {st} {st′} {l′} {n} {ws} h on did =
     let between = read-between (envOf b u f) c before (did .listed) behind (h .begun) (h .within) (did .out ∙ rw (on) refl) in
     record { whole = h .whole; begun = omega (arith, between .0, h .begun); within = between .1; ends = h .ends; small = h .small }
 
--- elements from the front
+-- the fields of a walk from the front: one, and then the others from the byte of the next
+
 more-times : (n : ℕ) (m : Step) → 0 < n → times n m ≡ (m ⨾ times (n - 1) m)
 unfolding times
 more-times zero m h = absurd (omega arith)
 more-times (suc n) m h = let e : suc n - 1 ≡ n = omega arith in rw e refl
 
+pub record Foremost (again : Bool) (d : ℕ) (t : List ℕ) (at n : ℕ) : Type 0 where
+  pub stands : whole d t at
+  pub rest : wholeFields again d t (onward again at (nextAt d t at)) (n - 1)
+  pub reads : (e : Env)
+      → readFields again d t at n e ≡ (read e (classAt d t at) ⨾ readFields again d t (onward again at (nextAt d t at)) (n - 1) e)
+
+pub foremost : (again : Bool) (d : ℕ) (t : List ℕ) (at n : ℕ) → 0 < n → wholeFields again d t at n → Foremost again d t at n
+unfolding readFields wholeFields onward readMembers
+foremost false d t at n h w =
+    let m = first (whole d t) (stoodAt d t) at n h w in
+    record { stands = m .whole; rest = m .rest; reads = λ e. ap (readMembers e) (m .classes) }
+foremost true d t at n h w = record { stands = w; rest = w; reads = λ e. more-times n (read e (classAt d t at)) h }
+
 -- one turn: c is its class, and g is left behind it
 pub record Turn (w : Call) (c : Class) (g : Step) (ws : List ℕ) (used : ℕ) (st : State) (l : Slots) : Type 0 where
   pub walked : Walked w (read (env w) c ⨾ g) ws used st l
 
-pub member-turn : {w : Call} {p : ℕ → Type 0} {h : ℕ → Stood} {at n : ℕ} {ws : List ℕ} {used : ℕ} {st : State} {l : Slots}
-    → First p h at n → Walked w (readMembers (env w) (membersAt h at n)) ws used st l
-    → Turn w ((h at) .class) (readMembers (env w) (membersAt h ((h at) .next) (n - 1))) ws used st l
-unfolding readMembers
-member-turn first w = record { walked = rw (first .classes) at w }
-
-pub element-turn : {w : Call} (c : Class) {n : ℕ} {ws : List ℕ} {used : ℕ} {st : State} {l : Slots}
-    → 0 < n → Walked w (times n (read (env w) c)) ws used st l → Turn w c (times (n - 1) (read (env w) c)) ws used st l
-element-turn c h w = record { walked = rw (more-times _ _ h) at w }
+pub fields-turn : {w : Call} {again : Bool} {d : ℕ} {t : List ℕ} {at n : ℕ} {ws : List ℕ} {used : ℕ} {st : State} {l : Slots}
+    → Foremost again d t at n → Walked w (readFields again d t at n (env w)) ws used st l
+    → Turn w (classAt d t at) (readFields again d t (onward again at (nextAt d t at)) (n - 1) (env w)) ws used st l
+fields-turn {w} first h = record { walked = rw (first .reads (env w)) at h }
 
 -- what the class of a turn did to the walk: n words are listed, and the walk stopped or goes on
 pub record Turned (w : Call) (g : Step) (ws : List ℕ) (used : ℕ) (ys : List ℕ) (went : Went) (n : ℕ) (st : State) (l : Slots) : Type 0 where
@@ -206,10 +212,15 @@ pub members-end : (e : Env) (h : ℕ → Stood) (at n : ℕ) → n ≤ 0 → (s 
 unfolding readMembers pass
 members-end e h at n k s = rw (no-member h at n k) refl
 
-pub no-times : (n : ℕ) (m : Step) → n ≤ 0 → (s : Full) → times n m s ≡ go [] s
+no-times : (n : ℕ) (m : Step) → n ≤ 0 → (s : Full) → times n m s ≡ go [] s
 unfolding times pass
 no-times zero m h s = refl
 no-times (suc n) m h s = absurd (omega arith)
+
+pub fields-end : (again : Bool) (d : ℕ) (t : List ℕ) (at n : ℕ) (e : Env) → n ≤ 0 → (s : Full) → readFields again d t at n e s ≡ go [] s
+unfolding readFields
+fields-end false d t at n e h s = members-end e (stoodAt d t) at n h s
+fields-end true d t at n e h s = no-times n (read e (classAt d t at)) h s
 
 -- slots past the sixty-four are none
 set-past : (l : Slots) (i : ℕ) (x : Slot) → length l ≤ i → set l i x ≡ l

@@ -24,16 +24,31 @@ use rules::Slot;
 use rules::Stop;
 ghost use mathlib.Core.Path.{_≡_};
 ghost use mathlib.Core.List.{[], _∷_, _++_};
-ghost use Prim.Native.Nat.{_≤_, _<_};
-ghost use lib.ListN.{length, drop};
+ghost use Prim.Native.Nat.{_+_, _≤_, _<_};
+ghost use lib.ListN.{length, drop, getD};
 ghost use Rattle.rules.specs.Record.{u8};
 ghost use Rattle.rules.specs.Entry.{words};
-ghost use Rattle.rules.specs.Field.{read, readMembers, times};
+ghost use Rattle.rules.specs.Verdict.{stopAt};
+ghost use Rattle.rules.specs.Field.{read};
 ghost use Rattle.finding.specs.Framed.{Framed, envOf};
-ghost use Rattle.classes.specs.Trees.{whole, wholeMembers, stoodAt, classAt, membersAt};
+ghost use Rattle.classes.specs.Trees.{whole, classAt};
 ghost use Rattle.classes.specs.Notes.{notes, Prepared};
-ghost use Rattle.fields.specs.Reads.{FieldReads, stoppedField};
 ghost use Rattle.listing.specs.Did.{atPlace};
+ghost use Rattle.fields.specs.Reads.{FieldReads, stoppedField};
+ghost use Rattle.fields.specs.Inner.{holdingOf, readFields, wholeFields, onward};
+
+// What is inside a field, members and elements alike: the field's place and value, and `count` fields from the byte `from` on, of classes one
+// behind the other or `again` and again of the class there.
+enum Holding {
+    Fields {
+        place: BitPlace,
+        value: u64,
+        from: usize,
+        count: usize,
+        again: bool,
+    },
+    Refused(Refusal),
+}
 
 // The field of the class at a byte, which holds fields, where there is room for its entry. `left` depths are left, its own among them.
 pub fn read_field(
@@ -64,19 +79,17 @@ pub fn read_field(
         let slot = slots[i];
         content = slot.content;
     }
-    match look(table, sizes, aligns, at, frame, st.place, content) {
-        Inside::Refused(why) => {
-            let place = st.place;
-            stopped(Stop { why, place }, 0, st, slots)
-        }
-        Inside::Members {
+    match holding_of(look(table, sizes, aligns, at, frame, st.place, content)) {
+        Holding::Refused(why) => refused(why, st.place, 0, st, slots),
+        Holding::Fields {
             place,
             value,
             from,
             count,
+            again,
         } => {
             let next = enter(wide64(table[at]), place, value, st, list);
-            let r = walk_members(
+            let r = walk(
                 table,
                 sizes,
                 aligns,
@@ -85,6 +98,7 @@ pub fn read_field(
                 frame,
                 from,
                 count,
+                again,
                 left - 1,
                 next,
                 slots,
@@ -105,48 +119,12 @@ pub fn read_field(
                 }
             }
         }
-        Inside::Elements {
-            place,
-            value,
-            from,
-            count,
-        } => {
-            let next = enter(wide64(table[at]), place, value, st, list);
-            let r = walk_elements(
-                table,
-                sizes,
-                aligns,
-                uuid,
-                stream,
-                frame,
-                from,
-                count,
-                left - 1,
-                next,
-                slots,
-                &mut list[4..],
-            );
-            let went = r.went;
-            match went {
-                Went::Stopped(stop) => stopped(stop, 4 + r.used, st, slots),
-                Went::On => {
-                    let state = r.state;
-                    let changed = r.slots;
-                    Field {
-                        went: Went::On,
-                        used: 4 + r.used,
-                        state,
-                        slots: changed,
-                    }
-                }
-            }
-        }
     }
 }
 
-// The fields of `count` classes that stand one behind the other, from a byte of the table on. No room (40) comes before all else of a field,
-// so the walks test for it before they look at the class.
-pub fn walk_members(
+// `count` fields from a byte of the table on: of classes that stand one behind the other, or `again` and again of the class there. No room
+// (40) comes before all else of a field, so the walk tests for it before it looks at the class.
+pub fn walk(
     table: &[u8],
     sizes: &[u16],
     aligns: &[u8],
@@ -155,18 +133,18 @@ pub fn walk_members(
     frame: Frame,
     at: usize,
     count: usize,
+    again: bool,
     left: usize,
     st: State,
     given: [Slot; 64],
     list: &mut [u64],
 ) -> Field
-    requires { ⌜ wholeMembers (whole left (now table)) (stoodAt left (now table)) at count ⌝ }
+    requires { ⌜ wholeFields again left (now table) at count ⌝ }
     requires { ⌜ Prepared (now table) (notes (now sizes) (now aligns)) ⌝ }
     requires { ⌜ Framed (now stream) frame (st .place) ⌝ }
     ensures { λ r. ⌜
-        FieldReads
-        (readMembers (envOf (now (stream .entry)) (now (uuid .entry)) frame) (membersAt (stoodAt left (now (table .entry))) at count))
-        st given r (now (list .entry)) (now (list .exit))
+        FieldReads (readFields again left (now (table .entry)) at count (envOf (now (stream .entry)) (now (uuid .entry)) frame)) st given r
+        (now (list .entry)) (now (list .exit))
         ⌝ }
 {
     let mut state = st;
@@ -176,16 +154,7 @@ pub fn walk_members(
     let mut todo = count;
     while 0 < todo {
         if list.len() - used < 4 {
-            let place = state.place;
-            return stopped(
-                Stop {
-                    why: Refusal::ListFull, // 40, at the member's place
-                    place,
-                },
-                used,
-                st,
-                given,
-            );
+            return refused(Refusal::ListFull, state.place, used, st, given); // 40
         }
         if table[next] < FIRST_THAT_HOLDS {
             let mut content = Content::Unset;
@@ -212,10 +181,9 @@ pub fn walk_members(
                 }
                 Went::On => {}
             }
-            next = next + size_at(sizes, next); // behind the leaf's record
+            next = onward(sizes, next, again); // behind the leaf's record
             todo = todo - 1;
-            let changed = r.state;
-            state = changed;
+            state = r.state;
             let to = r.slot as usize;
             if to < 64 {
                 let content = r.content;
@@ -244,12 +212,10 @@ pub fn walk_members(
             }
             Went::On => {}
         }
-        next = next + size_at(sizes, next);
+        next = onward(sizes, next, again);
         todo = todo - 1;
-        let changed = r.state;
-        state = changed;
-        let held = r.slots;
-        slots = held;
+        state = r.state;
+        slots = r.slots;
     }
     Field {
         went: Went::On,
@@ -259,113 +225,47 @@ pub fn walk_members(
     }
 }
 
-// `count` fields of the one class at a byte of the table.
-fn walk_elements(
-    table: &[u8],
-    sizes: &[u16],
-    aligns: &[u8],
-    uuid: &[u8],
-    stream: &[u8],
-    frame: Frame,
-    at: usize,
-    count: usize,
-    left: usize,
-    st: State,
-    given: [Slot; 64],
-    list: &mut [u64],
-) -> Field
-    requires { ⌜ whole left (now table) at ⌝ }
-    requires { ⌜ Prepared (now table) (notes (now sizes) (now aligns)) ⌝ }
-    requires { ⌜ Framed (now stream) frame (st .place) ⌝ }
-    ensures { λ r. ⌜
-        FieldReads (times count (read (envOf (now (stream .entry)) (now (uuid .entry)) frame) (classAt left (now (table .entry)) at)))
-        st given r (now (list .entry)) (now (list .exit))
-        ⌝ }
+// The byte at which the class of the next field stands.
+fn onward(sizes: &[u16], at: usize, again: bool) -> usize
+    requires { ⌜ at < length (now sizes) ⌝ }
+    ensures { λ r. ⌜ r ≡ onward again at (at + getD (now (sizes .entry)) at 0) ⌝ }
 {
-    let mut state = st;
-    let mut slots = given;
-    let mut used: usize = 0;
-    let mut todo = count;
-    while 0 < todo {
-        if list.len() - used < 4 {
-            let place = state.place;
-            return stopped(
-                Stop {
-                    why: Refusal::ListFull,
-                    place,
-                },
-                used,
-                st,
-                given,
-            );
-        }
-        if table[at] < FIRST_THAT_HOLDS {
-            let mut content = Content::Unset;
-            let i = leaf_slot(table, at);
-            if i < 64 {
-                let slot = slots[i];
-                content = slot.content;
-            }
-            let r = read_leaf(
-                table,
-                at,
-                uuid,
-                stream,
-                frame,
-                state,
-                content,
-                &mut list[used..],
-            );
-            used = used + r.used;
-            let went = r.went;
-            match went {
-                Went::Stopped(stop) => {
-                    return stopped(stop, used, st, given);
-                }
-                Went::On => {}
-            }
-            todo = todo - 1;
-            let changed = r.state;
-            state = changed;
-            let to = r.slot as usize;
-            if to < 64 {
-                let content = r.content;
-                slots[to] = Slot { content };
-            }
-            continue;
-        }
-        let r = read_field(
-            table,
-            sizes,
-            aligns,
-            uuid,
-            stream,
-            frame,
-            at,
-            left,
-            state,
-            slots,
-            &mut list[used..],
-        );
-        used = used + r.used;
-        let went = r.went;
-        match went {
-            Went::Stopped(stop) => {
-                return stopped(stop, used, st, given);
-            }
-            Went::On => {}
-        }
-        todo = todo - 1;
-        let changed = r.state;
-        state = changed;
-        let held = r.slots;
-        slots = held;
+    if again {
+        return at;
     }
-    Field {
-        went: Went::On,
-        used,
-        state,
-        slots,
+    at + size_at(sizes, at)
+}
+
+// Members stand one behind the other; elements are of one class.
+fn holding_of(inside: Inside) -> Holding
+    ensures { λ r. ⌜ r ≡ holdingOf inside ⌝ }
+{
+    match inside {
+        Inside::Refused(why) => Holding::Refused(why),
+        Inside::Members {
+            place,
+            value,
+            from,
+            count,
+        } => Holding::Fields {
+            place,
+            value,
+            from,
+            count,
+            again: false,
+        },
+        Inside::Elements {
+            place,
+            value,
+            from,
+            count,
+        } => Holding::Fields {
+            place,
+            value,
+            from,
+            count,
+            again: true,
+        },
     }
 }
 
@@ -394,6 +294,13 @@ fn enter(kind: u64, place: BitPlace, value: u64, st: State, list: &mut [u64]) ->
         last: st.last,
         said,
     }
+}
+
+// What stopped at a place.
+fn refused(why: Refusal, place: BitPlace, used: usize, st: State, slots: [Slot; 64]) -> Field
+    ensures { λ r. ⌜ r ≡ stoppedField (stopAt why place) used st slots ⌝ }
+{
+    stopped(Stop { why, place }, used, st, slots)
 }
 
 // What stopped: state and slots are those that came.

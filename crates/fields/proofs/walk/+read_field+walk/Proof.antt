@@ -1,0 +1,520 @@
+-- A field that holds others is its entry and then a walk; a walk is its first field and then the rest, a leaf or a field that holds others.
+-- The measure is twice the depth left, and one more for a walk. Each function's laws of its places stand first: a need hands one of them
+-- its place.
+use Prim.Native.Nat.{ℕ, _<_}
+use borrow.Fn.Kinds.{In}
+use borrow.Fn.PlainCycle.{Measures, is, falls, and}
+use Rattle.fields.proofs.walk.read_field.Reads as read-field
+use Rattle.fields.proofs.walk.read_field.Kinds as read-field-kinds
+use Rattle.fields.proofs.walk.+read_field+walk.Lts-read_field as read-field-lts
+use Rattle.fields.proofs.walk.walk.Reads as walk
+use Rattle.fields.proofs.walk.walk.Kinds as walk-kinds
+use Rattle.fields.proofs.walk.+read_field+walk.Lts-walk as walk-lts
+use Rattle.bytes.proofs.wide64.Reads as wide64-reads
+use Rattle.bykind.proofs.leaf_slot.Reads as leaf-slot-reads
+use Rattle.bykind.proofs.read_leaf.Reads as read-leaf-reads
+use Rattle.fields.proofs.walk.enter.Reads as enter-reads
+use Rattle.fields.proofs.walk.holding_of.Reads as holding-of-reads
+use Rattle.fields.proofs.walk.onward.Reads as onward-reads
+use Rattle.fields.proofs.walk.refused.Reads as refused-reads
+use Rattle.fields.proofs.walk.stopped.Reads as stopped-reads
+use Rattle.inside.proofs.look.look.Reads as look-reads
+use Rattle.inside.proofs.look.slot_read.Reads as slot-read-reads
+use Rattle.fields.proofs.walk.+read_field+walk.{statement}
+use Rattle.fields.proofs.walk.+read_field+walk.Tie.{close}
+use borrow.Fn.Kinds.{Out}
+use borrow.Author.Needs.{needs}
+use mathlib.Core.Path.{_≡_, ap, _∙_}
+use mathlib.Core.List.{List}
+use native.Mathlib.Omega.{arith}
+use Prim.Native.Nat.{_-_, _+_, _*_, _^_, _≤_}
+use lib.ListN.{length, getD}
+use Rattle.rules.specs.Record.{u8}
+use Rattle.rules.specs.Slots.{Slots, setSlot, slotAt}
+use Rattle.rules.specs.Step.{Step}
+use Rattle.listing.specs.declared.State.{State}
+use Rattle.listing.specs.declared.Went.{Went}
+use Rattle.finding.specs.Framed.{envOf}
+use Rattle.fields.specs.declared.Field.{Field}
+use Rattle.fields.specs.Inner.{holdingOf, readFields, wholeFields, onward}
+use Rattle.listing.proofs.Parts.{part-length, lent-room}
+use Rattle.inside.specs.Inside.{insideOf}
+use Rattle.classes.specs.Trees.{classAt, nextAt}
+use Rattle.classes.specs.Notes.{notes, Prepared}
+use Rattle.classes.proofs.Standing.{depth-some, kind-high, stands-within, leaf-whole, leaf-class}
+use Rattle.fields.proofs.Turns.{Call, call, env, classRead, Walked, walk-start, walk-end, Foremost, foremost}
+use Rattle.fields.proofs.Turns.{Turn, Turned, fields-turn, turn-full, leaf-turned, field-turned}
+use Rattle.inside.proofs.Slots.{content-met}
+use Rattle.fields.proofs.Turns.{no-slot, fields-end}
+use Rattle.fields.proofs.Holds.{Holder, Closed, slot-within, can-look, fields-held, refusal-reads, fields-closed}
+
+abbrev μ-read-field : Measures 6 read-field-kinds.ps ℕ
+μ-read-field κs a = a .1 .1 .1 .1 .1 .1 .1 .0 + a .1 .1 .1 .1 .1 .1 .1 .0
+
+abbrev μ-walk : Measures 6 walk-kinds.ps ℕ
+μ-walk κs a = a .1 .1 .1 .1 .1 .1 .1 .1 .1 .0 + a .1 .1 .1 .1 .1 .1 .1 .1 .1 .0 + 1
+
+abbrev read-field-at : ℕ → In 6 read-field-kinds.ps
+read-field-at t =
+    and 6 read-field-kinds.ps (is 6 read-field-kinds.ps μ-read-field t) read-field.Pre
+
+abbrev read-field-below : ℕ → In 6 read-field-kinds.ps
+read-field-below t =
+    and 6 read-field-kinds.ps (falls 6 read-field-kinds.ps _<_ μ-read-field t) read-field.Pre
+
+abbrev walk-at : ℕ → In 6 walk-kinds.ps
+walk-at t = and 6 walk-kinds.ps (is 6 walk-kinds.ps μ-walk t) walk.Pre
+
+abbrev walk-below : ℕ → In 6 walk-kinds.ps
+walk-below t = and 6 walk-kinds.ps (falls 6 walk-kinds.ps _<_ μ-walk t) walk.Pre
+
+abbrev read-field-calls : ℕ → read-field-lts.Claims
+read-field-calls t = (
+  slot-read-reads.Asked,
+  slot-read-reads.Learnt,
+  look-reads.Asked,
+  look-reads.Learnt,
+  holding-of-reads.Asked,
+  holding-of-reads.Learnt,
+  refused-reads.Asked,
+  refused-reads.Learnt,
+  wide64-reads.Asked,
+  wide64-reads.Learnt,
+  enter-reads.Asked,
+  enter-reads.Learnt,
+  walk-below t,
+  walk.Post,
+  stopped-reads.Asked,
+  stopped-reads.Learnt,
+)
+
+abbrev walk-calls : ℕ → walk-lts.Claims
+walk-calls t = (
+  refused-reads.Asked,
+  refused-reads.Learnt,
+  leaf-slot-reads.Asked,
+  leaf-slot-reads.Learnt,
+  read-leaf-reads.Asked,
+  read-leaf-reads.Learnt,
+  stopped-reads.Asked,
+  stopped-reads.Learnt,
+  onward-reads.Asked,
+  onward-reads.Learnt,
+  read-field-below t,
+  read-field.Post,
+)
+
+-- read_field: a need, or a place, of the call at the measure t
+abbrev In-field : (t : ℕ)
+    → (read-field-lts.Claims → In 6 read-field-kinds.ps → Out 6 read-field-kinds.ps read-field-kinds.r → Type 0) → Type 0
+In-field t N = N (read-field-calls t) (read-field-at t) read-field.Post
+
+field-holder : (t : ℕ) (c : In-field t read-field-lts.Joined1) →
+    let a = c .before .before .before .before .before .before .before .before .args in
+    Holder (a .stream .now) (a .uuid .now) (a .frame) (a .table .now) (notes (a .sizes .now) (a .aligns .now)) (a .left) (a .at)
+    (c .if1 .content) (a .st) (a .t10) (a .list .now)
+unfolding slotAt
+field-holder t c =
+    let s = c .before .before .before .before .before .before .before .before in
+    let p = s .pre .1 in
+    let many = s .good .1 .1 .1 .1 .1 .1 .1 .1 .1 .0 .1 .0 .1 in
+    record {
+      stands = p .0;
+      holds = p .1 .0 .0;
+      room = p .1 .0 .1;
+      small = omega (arith, s .good .1 .1 .1 .1 .1 .1 .1 .1 .1 .1 .0);
+      noted = p .1 .1 .0;
+      framed = p .1 .1 .1;
+      many = many;
+      told = content-met (s .args .t10) many (c .before .slot-read .ensures .0) (λ y. y .2) (λ y. (y .0 .left, y .1)) (c .if1 .came);
+    }
+
+-- what is told of the class
+field-told : (t : ℕ) (c : In-field t read-field-lts.After-holding-of) →
+    let a = c .before .before .before .before .before .before .before .before .before .before .args in
+    let content = c .before .before .if1 .content in
+    c .holding-of .result
+    ≡ holdingOf (insideOf (a .table .now) (notes (a .sizes .now) (a .aligns .now)) (a .at) (a .frame) (a .st .place) content)
+field-told t c = c .holding-of .ensures ∙ ap holdingOf (c .before .look .ensures)
+
+-- what the fields inside did
+field-closed : (t : ℕ) (c : In-field t read-field-lts.After-walk) →
+    let a = c .before .before .before .before .before .before .before .before .before .before .before .before .before .before .before .before .before .before .before .before .before .args in
+    let entered = c .before .before .before .before .enter .last .1 .1 .1 .1 .0 in
+    Closed (call (a .stream .now) (a .uuid .now) (a .frame) (classRead (a .left) (a .table .now) (a .at)) (a .st) (a .t10) (a .list .now))
+    entered (c .walk .last .1 .1 .1 .1 .1 .1 .1 .1 .1 .1 .1 .1 .0) (c .walk .result)
+unfolding u8
+field-closed t c =
+    let enter = c .before .before .before .before .enter in
+    let kind = c .before .before .before .before .before .before .wide64 .ensures .0 in
+    fields-closed (field-holder t (c .before .before .before .before .before .before .before .before .before .before .before .before .before)) (field-told t (c .before .before .before .before .before .before .before .before .before .before .before)) (c .before .before .before .before .before .before .before .before .before .place .given .1) (rw (kind) at (enter .ensures .1))
+    (rw (enter .ensures .0) at (c .walk .ensures))
+
+read-field-slot-read-requires : (t : ℕ) → In-field t read-field-lts.Need-slot-read-requires
+read-field-slot-read-requires t c κs =
+    let p = c .before .before .before .before .before .before .pre .1 in
+    (omega (arith, p .1 .0 .0), kind-high _ _ _ (p .0), slot-within _ _ _ (p .0) (p .1 .0 .0))
+
+read-field-look-requires : (t : ℕ) → In-field t read-field-lts.Need-look-requires
+read-field-look-requires t c κs =
+    let h = field-holder t c in
+    (can-look h, (h .framed .begun, omega (arith, h .framed .within, h .framed .ends, h .framed .small)))
+
+read-field-shared-slice-read-wide64 : (t : ℕ) → In-field t read-field-lts.Need-shared-slice-read-wide64
+read-field-shared-slice-read-wide64 t c = stands-within _ _ _ (field-holder t (c .before .before .before .before .before .before) .stands)
+
+read-field-enter-requires : (t : ℕ) → In-field t read-field-lts.Need-enter-requires
+read-field-enter-requires t c κs = field-holder t (c .before .before .before .before .before .before .before .before) .room
+
+read-field-sub-walk : (t : ℕ) → In-field t read-field-lts.Need-sub-walk
+read-field-sub-walk t c = omega (arith, depth-some _ _ _ (field-holder t (c .before .before .before .before .before .before .before .before .before .before .before) .stands))
+
+read-field-sub-walk-2 : (t : ℕ) → In-field t read-field-lts.Need-sub-walk-2
+read-field-sub-walk-2 t c = omega (arith, c .before .before .enter .kept .1 .1 .1 .1 .0, field-holder t (c .before .before .before .before .before .before .before .before .before .before .before) .room)
+
+read-field-part-walk-start : (t : ℕ) → In-field t read-field-lts.Need-part-walk-start
+read-field-part-walk-start t c = omega (arith, c .before .before .enter .kept .1 .1 .1 .1 .0, field-holder t (c .before .before .before .before .before .before .before .before .before .before .before) .room)
+
+read-field-walk-requires : (t : ℕ) → In-field t read-field-lts.Need-walk-requires
+read-field-walk-requires t c κs =
+    let s = c .before .before .before .before .before .before .before .before .before .before .before .before .before .before .before .before .before .before .before .before in
+    let h = field-holder t (c .before .before .before .before .before .before .before .before .before .before .before .before) in
+    let inside = fields-held h (field-told t (c .before .before .before .before .before .before .before .before .before .before)) (c .before .before .before .before .before .before .before .before .place .given .1) in
+    let entered = c .before .before .before .enter .ensures .0 in
+    (omega (arith, s .pre .0, depth-some _ _ _ (h .stands)), (inside .0, (h .noted, rw (entered) (inside .1))))
+
+read-field-add-stopped : (t : ℕ) → In-field t read-field-lts.Need-add-stopped
+read-field-add-stopped t c = omega (arith, field-closed t (c .before .before .before .before .before .before) .fits)
+
+read-field-add-t52 : (t : ℕ) → In-field t read-field-lts.Need-add-t52
+read-field-add-t52 t c = omega (arith, field-closed t (c .before .before .before .before .before .before .before) .fits)
+
+read-field-returns : (t : ℕ) → In-field t read-field-lts.Need-returns
+read-field-returns t c =
+    rw (c .refused .ensures) (refusal-reads (field-holder t (c .before .before .before .before .before .before)) (field-told t (c .before .before .before .before)) (c .before .before .why .given .1))
+
+read-field-same-length : (t : ℕ) → In-field t read-field-lts.Need-same-length
+read-field-same-length t c = field-closed t (c .before .before .before .before .before .before .before) .same
+
+read-field-returns-2 : (t : ℕ) → In-field t read-field-lts.Need-returns-2
+read-field-returns-2 t c = rw (c .stopped .ensures) (field-closed t (c .before .before .before .before .before .before .before) .stops _ (c .before .before .before .went .given .1))
+
+read-field-same-length-2 : (t : ℕ) → In-field t read-field-lts.Need-same-length-2
+read-field-same-length-2 t c = field-closed t (c .before .before .before .before .before .before .before) .same
+
+read-field-returns-3 : (t : ℕ) → In-field t read-field-lts.Need-returns-3
+read-field-returns-3 t c = field-closed t (c .before .before .before .before .before .before .before) .goes (c .before .before .before .enum-told .given .1)
+
+-- the classes that are left stand, and the walk is what was read and then these
+abbrev walk-Inv-loop : walk-lts.InvT-loop
+walk-Inv-loop table sizes aligns uuid stream frame at count again left st given list₀ state₀ slots₀ used₀ next₀ todo₀ list state slots used next todo =
+    wholeFields again left table next todo
+    × Walked (call stream uuid frame (readFields again left table at count) st given list₀)
+    (readFields again left table next todo (envOf stream uuid frame)) list used state slots
+
+abbrev walk-μ-loop : walk-lts.MeasureT-loop
+walk-μ-loop table sizes aligns uuid stream frame at count again left st given list₀ state₀ slots₀ used₀ next₀ todo₀ list state slots used next todo = todo
+
+-- walk: a need, or a place, of the call at the measure t
+abbrev In-walk : (t : ℕ)
+    → (walk-lts.Claims → In 6 walk-kinds.ps → Out 6 walk-kinds.ps walk-kinds.r → walk-lts.InvT-loop → walk-lts.MeasureT-loop → Type 0)
+    → Type 0
+In-walk t N = N (walk-calls t) (walk-at t) walk.Post walk-Inv-loop walk-μ-loop
+
+abbrev walk-call : (t : ℕ) → In-walk t walk-lts.In-loop → Call
+walk-call t c =
+    let a = c .before .before .before .before .before .before .before .before .args in
+    let all = readFields (a .again) (a .left) (a .table .now) (a .at) (a .count) in
+    call (a .stream .now) (a .uuid .now) (a .frame) all (a .st) (a .given) (a .list .now)
+
+-- where the class stands behind that of the turn, and what is left from there on
+abbrev walk-next : (t : ℕ) → In-walk t walk-lts.In-loop → ℕ
+walk-next t c =
+    let a = c .before .before .before .before .before .before .before .before .args in
+    let l = c .before .loop in
+    onward (a .again) (l .next) (nextAt (a .left) (a .table .now) (l .next))
+
+abbrev walk-rest : (t : ℕ) → In-walk t walk-lts.In-loop → Step
+walk-rest t c =
+    let a = c .before .before .before .before .before .before .before .before .args in
+    readFields (a .again) (a .left) (a .table .now) (walk-next t c) (c .before .loop .todo - 1) (env (walk-call t c))
+
+walk-first : (t : ℕ) (c : In-walk t walk-lts.In-loop) →
+    let a = c .before .before .before .before .before .before .before .before .args in
+    let l = c .before .loop in
+    Foremost (a .again) (a .left) (a .table .now) (l .next) (l .todo)
+walk-first t c = foremost _ _ _ _ _ (c .loop-test .taken) (c .before .loop .inv .0)
+
+walk-noted : (t : ℕ) (c : In-walk t walk-lts.In-loop) →
+    let a = c .before .before .before .before .before .before .before .before .args in
+    Prepared (a .table .now) (notes (a .sizes .now) (a .aligns .now))
+walk-noted t c = c .before .before .before .before .before .before .before .before .pre .1 .1 .0
+
+walk-turn : (t : ℕ) (c : In-walk t walk-lts.In-loop) →
+    let a = c .before .before .before .before .before .before .before .before .args in
+    let l = c .before .loop in
+    let class = classAt (a .left) (a .table .now) (l .next) in
+    Turn (walk-call t c) class (walk-rest t c) (l .list) (l .used) (l .state) (l .slots)
+walk-turn t c = fields-turn (walk-first t c) (c .before .loop .inv .1)
+
+walk-within : (t : ℕ) (c : In-walk t walk-lts.In-loop) →
+    let l = c .before .loop in
+    let ws = c .before .before .before .before .before .before .before .before .args .list .now in
+    (l .used ≤ length (l .list)) × (length (l .list) ≡ length ws) × (8 * length ws < 2 ^ 63)
+walk-within t c =
+    let p = c .before .loop .inv .1 .part in
+    (omega (arith, part-length p, p .room), part-length p, omega (arith, c .before .before .before .before .before .before .before .before .good .1 .1 .1 .1 .1 .1 .1 .1 .1 .1 .1 .1 .0))
+
+abbrev Walk-turned : (t : ℕ) → In-walk t walk-lts.In-loop → List ℕ → Went → ℕ → State → Slots → Type 0
+Walk-turned t c = Turned (walk-call t c) (walk-rest t c) (c .before .loop .list) (c .before .loop .used)
+
+-- what the class of the turn did, a leaf or a field that holds others
+walk-leaf : (t : ℕ) (c : In-walk t walk-lts.After-read-leaf) →
+    let turn = c .before .before .before .before .before .before .before in
+    let r = c .read-leaf .result in
+    Walk-turned t turn (c .read-leaf .last .1 .1 .1 .1 .1 .1 .1 .0) (r .went) (r .used) (r .state)
+    (setSlot (turn .before .loop .slots) (r .slot) (r .content))
+unfolding u8 slotAt
+walk-leaf t c =
+    let turn = c .before .before .before .before .before .before .before in
+    let l = turn .before .loop in
+    let kind = c .before .before .before .before .if2 .taken in
+    let met = c .before .before in
+    let slot = met .before .leaf-slot .ensures in
+    leaf-turned (walk-turn t turn) (leaf-class _ _ _ (walk-first t turn .stands) kind) (c .read-leaf .ensures)
+    (content-met (l .slots) (l .inv .1 .many) slot (λ y. y .2) (λ y. (y .0 .left, y .1)) (met .if3 .came))
+
+walk-field : (t : ℕ) (c : In-walk t walk-lts.After-read-field) →
+    let r = c .read-field .result in
+    Walk-turned t (c .before .before .before .before .before) (c .read-field .last .1 .1 .1 .1 .1 .1 .1 .1 .1 .1 .0) (r .went) (r .used) (r .state) (r .slots)
+walk-field t c = field-turned (walk-turn t (c .before .before .before .before .before)) (c .read-field .ensures)
+
+-- the byte that the notes give for the next class
+walk-onward : (t : ℕ) (c : In-walk t walk-lts.In-loop) {n : ℕ} →
+    let a = c .before .before .before .before .before .before .before .before .args in
+    let l = c .before .loop in
+    n ≡ onward (a .again) (l .next) (l .next + getD (a .sizes .now) (l .next) 0) → n ≡ walk-next t c
+walk-onward t c e = rw (← walk-noted t c .classes _ _ (walk-first t c .stands) .size) e
+
+walk-loop-holds : (t : ℕ) → In-walk t walk-lts.Need-loop-holds
+walk-loop-holds t c =
+    let s = c .before .before .before .before .before .before in
+    (s .pre .1 .0, walk-start _ (s .pre .1 .1 .1) (s .good .1 .1 .1 .1 .1 .1 .1 .1 .1 .1 .1 .0 .1 .0 .1))
+
+walk-sub-if1 : (t : ℕ) → In-walk t walk-lts.Need-sub-if1
+walk-sub-if1 t c = omega (arith, walk-within t c)
+
+walk-same-length : (t : ℕ) → In-walk t walk-lts.Need-same-length
+walk-same-length t c = part-length (c .before .before .before .loop .inv .1 .part)
+
+walk-returns : (t : ℕ) → In-walk t walk-lts.Need-returns
+walk-returns t c = rw (c .refused .ensures) (turn-full (walk-turn t (c .before .before)) (c .before .if1 .taken))
+
+walk-shared-slice-read-if2 : (t : ℕ) → In-walk t walk-lts.Need-shared-slice-read-if2
+walk-shared-slice-read-if2 t c = stands-within _ _ _ (walk-first t (c .before .before) .stands)
+
+walk-leaf-slot-requires : (t : ℕ) → In-walk t walk-lts.Need-leaf-slot-requires
+unfolding u8
+walk-leaf-slot-requires t c κs = (leaf-whole _ _ _ (walk-first t (c .before .before .before) .stands) (c .if2 .taken), c .if2 .taken)
+
+walk-mul-read-leaf : (t : ℕ) → In-walk t walk-lts.Need-mul-read-leaf
+walk-mul-read-leaf t c = omega (arith, walk-within t (c .before .before .before .before .before))
+
+walk-sub-read-leaf : (t : ℕ) → In-walk t walk-lts.Need-sub-read-leaf
+walk-sub-read-leaf t c = omega (arith, walk-within t (c .before .before .before .before .before))
+
+walk-part-read-leaf-start : (t : ℕ) → In-walk t walk-lts.Need-part-read-leaf-start
+walk-part-read-leaf-start t c = omega (arith, walk-within t (c .before .before .before .before .before))
+
+walk-read-leaf-requires : (t : ℕ) → In-walk t walk-lts.Need-read-leaf-requires
+unfolding u8
+walk-read-leaf-requires t c κs =
+    let turn = c .before .before .before .before .before .before in
+    let l = turn .before .loop in
+    let kind = c .before .before .before .if2 .taken in
+    let room = c .before .before .before .before .before .if1 .left in
+    (leaf-whole _ _ _ (walk-first t turn .stands) kind, (kind, (l .inv .1 .framed, omega (arith, lent-room (l .used) (l .list), room))))
+
+walk-add-used : (t : ℕ) → In-walk t walk-lts.Need-add-used
+walk-add-used t c = omega (arith, walk-leaf t (c .before .before .before) .room, walk-within t (c .before .before .before .before .before .before .before .before .before .before))
+
+walk-same-length-2 : (t : ℕ) → In-walk t walk-lts.Need-same-length-2
+walk-same-length-2 t c = walk-leaf t (c .before .before .before .before .before .before .before) .same
+
+walk-returns-2 : (t : ℕ) → In-walk t walk-lts.Need-returns-2
+walk-returns-2 t c = rw (c .stopped .ensures) (walk-leaf t (c .before .before .before .before .before .before .before) .stops _ (c .before .before .went .given .1))
+
+walk-onward-requires : (t : ℕ) → In-walk t walk-lts.Need-onward-requires
+walk-onward-requires t c κs =
+    let turn = c .before .before .before .before .before .before .before .before .before .before .before .before in
+    omega (arith, stands-within _ _ _ (walk-first t turn .stands), walk-noted t turn .sized .room)
+
+walk-sub-todo : (t : ℕ) → In-walk t walk-lts.Need-sub-todo
+walk-sub-todo t c =
+    let turn = c .before .before .before .before .before .before .before .before .before .before .before .before .before in
+    omega arith
+
+walk-loop-less : (t : ℕ) → In-walk t walk-lts.Need-loop-less
+walk-loop-less t c =
+    let turn = c .before .before .before .before .before .before .before .before .before .before .before .before .before .before .before .before in
+    omega arith
+
+walk-loop-again : (t : ℕ) → In-walk t walk-lts.Need-loop-again
+unfolding setSlot
+walk-loop-again t c =
+    let leaf = c .before .before .before .before .before .before .before .before .before in
+    let turn = c .before .before .before .before .before .before .before .before .before .before .before .before .before .before .before .before in
+    rw (walk-onward t turn (c .before .before .before .onward .ensures)) (walk-first t turn .rest, walk-leaf t leaf .goes (c .before .before .before .before .enum-told .given .1))
+
+walk-loop-less-2 : (t : ℕ) → In-walk t walk-lts.Need-loop-less-2
+walk-loop-less-2 t c =
+    let turn = c .before .before .before .before .before .before .before .before .before .before .before .before .before .before .before .before in
+    omega arith
+
+walk-loop-again-2 : (t : ℕ) → In-walk t walk-lts.Need-loop-again-2
+walk-loop-again-2 t c =
+    let leaf = c .before .before .before .before .before .before .before .before .before in
+    let turn = c .before .before .before .before .before .before .before .before .before .before .before .before .before .before .before .before in
+    let l = turn .before .loop in
+    let r = leaf .read-leaf .result in
+    let same = no-slot (l .slots) (r .slot) (r .content) (l .inv .1 .many) (c .if4 .left) in
+    let goes = walk-leaf t leaf .goes (c .before .before .before .before .enum-told .given .1) in
+    rw (walk-onward t turn (c .before .before .before .onward .ensures)) (walk-first t turn .rest, rw (same) at goes)
+
+walk-mul-read-field : (t : ℕ) → In-walk t walk-lts.Need-mul-read-field
+walk-mul-read-field t c = omega (arith, walk-within t (c .before .before .before))
+
+walk-sub-read-field : (t : ℕ) → In-walk t walk-lts.Need-sub-read-field
+walk-sub-read-field t c = omega (arith, walk-within t (c .before .before .before))
+
+walk-part-read-field-start : (t : ℕ) → In-walk t walk-lts.Need-part-read-field-start
+walk-part-read-field-start t c = omega (arith, walk-within t (c .before .before .before))
+
+walk-read-field-requires : (t : ℕ) → In-walk t walk-lts.Need-read-field-requires
+unfolding u8
+walk-read-field-requires t c κs =
+    let turn = c .before .before .before .before in
+    let l = turn .before .loop in
+    let room = c .before .before .before .if1 .left in
+    let p = c .before .before .before .before .before .before .before .before .before .before .before .before .pre in
+    let kind = c .before .if2 .left in
+    (omega (arith, p .0), (walk-first t turn .stands, ((kind, omega (arith, lent-room (l .used) (l .list), room)), (p .1 .1 .0, l .inv .1 .framed))))
+
+walk-add-used-2 : (t : ℕ) → In-walk t walk-lts.Need-add-used-2
+walk-add-used-2 t c = omega (arith, walk-field t (c .before .before .before) .room, walk-within t (c .before .before .before .before .before .before .before .before))
+
+walk-same-length-3 : (t : ℕ) → In-walk t walk-lts.Need-same-length-3
+walk-same-length-3 t c = walk-field t (c .before .before .before .before .before .before .before) .same
+
+walk-returns-3 : (t : ℕ) → In-walk t walk-lts.Need-returns-3
+walk-returns-3 t c = rw (c .stopped2 .ensures) (walk-field t (c .before .before .before .before .before .before .before) .stops _ (c .before .before .went2 .given .1))
+
+walk-onward-requires-2 : (t : ℕ) → In-walk t walk-lts.Need-onward-requires-2
+walk-onward-requires-2 t c κs =
+    let turn = c .before .before .before .before .before .before .before .before .before .before in
+    omega (arith, stands-within _ _ _ (walk-first t turn .stands), walk-noted t turn .sized .room)
+
+walk-sub-todo-2 : (t : ℕ) → In-walk t walk-lts.Need-sub-todo-2
+walk-sub-todo-2 t c =
+    let turn = c .before .before .before .before .before .before .before .before .before .before .before in
+    omega arith
+
+walk-loop-less-3 : (t : ℕ) → In-walk t walk-lts.Need-loop-less-3
+walk-loop-less-3 t c =
+    let turn = c .before .before .before .before .before .before .before .before .before .before .before .before .before in
+    omega arith
+
+walk-loop-again-3 : (t : ℕ) → In-walk t walk-lts.Need-loop-again-3
+walk-loop-again-3 t c =
+    let field = c .before .before .before .before .before .before .before .before in
+    let turn = c .before .before .before .before .before .before .before .before .before .before .before .before .before in
+    rw (walk-onward t turn (c .before .before .onward2 .ensures)) (walk-first t turn .rest, walk-field t field .goes (c .before .before .before .enum-told2 .given .1))
+
+walk-same-length-4 : (t : ℕ) → In-walk t walk-lts.Need-same-length-4
+walk-same-length-4 t c = part-length (c .before .loop .inv .1 .part)
+
+walk-returns-4 : (t : ℕ) → In-walk t walk-lts.Need-returns-4
+walk-returns-4 t c = walk-end (c .before .loop .inv .1) (fields-end _ _ _ _ _ _ (c .loop-test .left))
+
+pub +read-field+walk-spec : {M : Type 1} → statement M
++read-field+walk-spec =
+    close μ-read-field μ-walk (λ t. read-field-lts.spec (read-field-calls t)
+    (read-field-at t)
+    read-field.Post
+    (read-field-slot-read-requires t)
+    (λ c. omega arith)
+    (λ c. omega arith)
+    (read-field-look-requires t)
+    (λ c κs. search needs)
+    (λ c. search needs)
+    (λ c κs. search needs)
+    (λ c. search needs)
+    (read-field-shared-slice-read-wide64 t)
+    (λ c κs. search needs)
+    (read-field-enter-requires t)
+    (read-field-sub-walk t)
+    (read-field-sub-walk-2 t)
+    (read-field-part-walk-start t)
+    (λ c. omega arith)
+    (read-field-walk-requires t)
+    (λ c. search needs)
+    (read-field-add-stopped t)
+    (λ c κs. search needs)
+    (λ c. search needs)
+    (read-field-add-t52 t)
+    (read-field-returns t)
+    (read-field-same-length t)
+    (read-field-returns-2 t)
+    (read-field-same-length-2 t)
+    (read-field-returns-3 t))
+    λ t. walk-lts.spec (walk-calls t)
+    (walk-at t)
+    walk.Post
+    walk-Inv-loop
+    walk-μ-loop
+    (walk-loop-holds t)
+    (walk-sub-if1 t)
+    (λ c κs. search needs)
+    (walk-same-length t)
+    (walk-returns t)
+    (walk-shared-slice-read-if2 t)
+    (walk-leaf-slot-requires t)
+    (λ c. omega arith)
+    (λ c. omega arith)
+    (walk-mul-read-leaf t)
+    (walk-sub-read-leaf t)
+    (walk-part-read-leaf-start t)
+    (λ c. omega arith)
+    (walk-read-leaf-requires t)
+    (walk-add-used t)
+    (λ c. search needs)
+    (λ c κs. search needs)
+    (walk-same-length-2 t)
+    (walk-returns-2 t)
+    (λ c. search needs)
+    (walk-onward-requires t)
+    (walk-sub-todo t)
+    (λ c. search needs)
+    (λ c. omega arith)
+    (λ c. omega arith)
+    (walk-loop-less t)
+    (walk-loop-again t)
+    (walk-loop-less-2 t)
+    (walk-loop-again-2 t)
+    (walk-mul-read-field t)
+    (walk-sub-read-field t)
+    (walk-part-read-field-start t)
+    (λ c. omega arith)
+    (walk-read-field-requires t)
+    (walk-add-used-2 t)
+    (λ c. search needs)
+    (λ c κs. search needs)
+    (walk-same-length-3 t)
+    (walk-returns-3 t)
+    (λ c. search needs)
+    (walk-onward-requires-2 t)
+    (walk-sub-todo-2 t)
+    (walk-loop-less-3 t)
+    (walk-loop-again-3 t)
+    (walk-same-length-4 t)
+    (walk-returns-4 t)
