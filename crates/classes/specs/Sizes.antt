@@ -39,10 +39,11 @@ unfoldable pub numbered : ℕ → ℕ → List ℕ
 numbered n zero = []
 numbered n (suc m) = n ∷ numbered (n + 1) m
 
--- what opens a fragment of the kind k: its first record's bytes, and its roots' numbers
+-- what opens a fragment of the kind k: its first record's bytes, and its roots' numbers, from 0 where it has none
 pub record Opens (k : ℕ) (r : Opening) : Type 0 where
   pub size : r .size ≡ openingSize k
   pub roots : rootsOf k ≡ numbered (r .first) (r .count)
+  pub none : r .count ≡ 0 → r .first ≡ 0
   pub small : (r .size ≤ 18) × (r .first ≤ 4) × (r .count ≤ 3)
 
 -- the byte behind the root n, if it stands at a byte

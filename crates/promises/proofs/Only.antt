@@ -26,7 +26,8 @@ use Rattle.leaves.specs.declared.Leaf.{Leaf}
 use Rattle.leaves.specs.Done.{LeafDid}
 use Rattle.fields.specs.declared.Field.{Field}
 use Rattle.fields.specs.Reads.{FieldReads}
-use Rattle.classes.specs.Sizes.{numbered}
+use Rattle.classes.specs.declared.openings.Opening.{Opening}
+use Rattle.classes.specs.Sizes.{numbered, Opens}
 use Rattle.promises.specs.Only.{SameLeaf, NoSlack}
 
 -- What a step did
@@ -183,11 +184,21 @@ count-same n n′ zero (suc c′) h = let z : _≡_ {A = ℕ} 0 1 = cc in absurd
 count-same n n′ (suc c) zero h = let z : _≡_ {A = ℕ} 0 1 = cc in absurd (omega arith)
 count-same n n′ (suc c) (suc c′) h = ap suc (count-same (n + 1) (n′ + 1) c c′ (cons-tail _ _ _ _ h))
 
-first-same : (n n′ c c′ : ℕ) → numbered n c ≡ numbered n′ c′ → 0 < c → n ≡ n′
+first-same : (n n′ c c′ : ℕ) → numbered n c ≡ numbered n′ c′ → (c ≡ 0 → n ≡ 0) → (c′ ≡ 0 → n′ ≡ 0) → n ≡ n′
 unfolding numbered
-first-same n n′ zero c′ h p = absurd (omega arith)
-first-same n n′ (suc c) zero h p = let z : _≡_ {A = ℕ} 0 1 = cc in absurd (omega arith)
-first-same n n′ (suc c) (suc c′) h p = cons-head _ _ _ _ h
+first-same n n′ zero zero h p q = p refl ∙ sym (q refl)
+first-same n n′ zero (suc c′) h p q = let z : _≡_ {A = ℕ} 0 1 = cc in absurd (omega arith)
+first-same n n′ (suc c) zero h p q = let z : _≡_ {A = ℕ} 0 1 = cc in absurd (omega arith)
+first-same n n′ (suc c) (suc c′) h p q = cons-head _ _ _ _ h
+
+opening-same : (k : ℕ) (r r′ : Opening) → Opens k r → Opens k r′ → r ≡ r′
+opening-same k r r′ p q =
+    let h = sym (p .roots) ∙ q .roots in
+    λ i. record {
+      size = (p .size ∙ sym (q .size)) i;
+      first = (first-same _ _ _ _ h (p .none) (q .none)) i;
+      count = (count-same _ _ _ _ h) i;
+    }
 
 pub no-slack : NoSlack
 no-slack = record {
@@ -211,7 +222,5 @@ no-slack = record {
   field = λ m st l ws. record { same = field-same m st l ws };
   notes = λ t x. record { same = λ r r′ p q. p .notes ∙ sym (q .notes) };
   reach = λ t x p. record { same = λ r r′ h k. λ i. record { next = (h .end ∙ sym (k .end)) i; align = (h .align ∙ sym (k .align)) i } };
-  opening = λ k r r′ p q.
-      let h = sym (p .roots) ∙ q .roots in
-      record { size = p .size ∙ sym (q .size); count = count-same _ _ _ _ h; first = first-same _ _ _ _ h };
+  opening = λ k. record { same = opening-same k };
 }

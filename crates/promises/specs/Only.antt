@@ -15,7 +15,6 @@ use Rattle.leaves.specs.declared.Leaf.{Leaf}
 use Rattle.leaves.specs.Done.{LeafDid}
 use Rattle.bykind.specs.Reads.{LeafReads}
 use Rattle.fields.specs.Reads.{FieldReads}
-use Rattle.classes.specs.declared.openings.Opening.{Opening}
 use Rattle.classes.specs.Sizes.{Opens}
 use Rattle.classes.specs.Notes.{Notes, Made, Reaches}
 use Rattle.promises.specs.declared.Both.{Both}
@@ -37,12 +36,6 @@ pub record SameLeaf (P : Slots → Type 0) (r r′ : Leaf) (vs vs′ : List ℕ)
   pub state : r .state ≡ r′ .state
   pub slots : (l : Slots) → length l ≡ slotCount → P l → setSlot l (r .slot) (r .content) ≡ setSlot l (r′ .slot) (r′ .content)
   pub list : vs ≡ vs′
-
--- two answers to which roots a fragment of a kind has. Where it has none, the number of the first one is not said
-pub record SameOpening (r r′ : Opening) : Type 0 where
-  pub size : r .size ≡ r′ .size
-  pub count : r .count ≡ r′ .count
-  pub first : 0 < r .count → r .first ≡ r′ .first
 
 pub record NoSlack : Type 1 where
   -- `r ≡ …`, and the same beside a bound
@@ -71,4 +64,4 @@ pub record NoSlack : Type 1 where
   pub reach : (t : List ℕ) (x : Notes) (p : ℕ) → Only (λ r. Reaches t x p r)
   -- what is noted of a table, both lists
   pub notes : (t : List ℕ) (x : Notes) → Only (λ y. Made t x y)
-  pub opening : (k : ℕ) (r r′ : Opening) → Opens k r → Opens k r′ → SameOpening r r′
+  pub opening : (k : ℕ) → Only (λ r. Opens k r)
