@@ -7,7 +7,7 @@ use Rattle.rules.specs.declared.Content.{Content}
 use Rattle.rules.specs.declared.Content.the-variants.{Unset, Flag, Unsigned, Signed}
 use Rattle.rules.specs.declared.Refusal.the-variants.{SlotUnset, SlotOfWrongSort}
 use Rattle.rules.specs.Limits.{tableLimit}
-use Rattle.rules.specs.Class.{Sign, plain, signed, Range, anyHolds}
+use Rattle.rules.specs.Class.{Sign, Range, anyHolds}
 use Rattle.rules.specs.Record.{u8, u64}
 use Rattle.classes.specs.Trees.{Stood, rangesAt, signAt, optionClass, wholeOptions}
 use Rattle.classes.specs.Notes.{endNoted}

@@ -1,5 +1,5 @@
 -- What stands at a byte of the table, as the walks ask for it: depths, members from the front, and leaves, which stand at any depth.
-use mathlib.Core.Path.{_≡_, refl, ap}
+use mathlib.Core.Path.{_≡_, refl}
 use Prim.Native.Nat.{ℕ, zero, suc, _-_, _≤_, _<_}
 use native.Mathlib.Omega.{arith}
 use mathlib.Core.List.{List}

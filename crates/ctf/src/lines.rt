@@ -7,7 +7,6 @@ use rules::ByteLength;
 use rules::Checked;
 use rules::Result;
 use std::num::wrapping_sub_u64;
-ghost use mathlib.Core.Path.{_≡_};
 ghost use Prim.Native.Nat.{_≤_};
 ghost use lib.ListN.{length};
 

@@ -1,7 +1,6 @@
 -- A walk, turn by turn: no room, or a leaf or a field that holds others, which stops the walk or goes on.
 -- In order: calls of the cycle; what a walk keeps; its fields from the front; one turn; the walk's end; slots past the sixty-four.
-use mathlib.Core.Path.{_≡_, refl, ap, sym, _∙_}
-use mathlib.Core.Logic.{⊎-elim, _⊎_}
+use mathlib.Core.Path.{_≡_, refl, ap, _∙_}
 use mathlib.Core.List.{List, [], _∷_, append-nil}
 use mathlib.Core.Bool.{Bool, true, false}
 use Prim.Native.Nat.{ℕ, zero, suc, _+_, _-_, _≤_, _<_}

@@ -13,7 +13,7 @@ use Rattle.rules.specs.declared.Content.{Content}
 use Rattle.rules.specs.declared.Content.the-variants.{Unset, Flag, Unsigned, Signed}
 use Rattle.rules.specs.declared.Refusal.{Refusal}
 use Rattle.rules.specs.Limits.{lengthLimit}
-use Rattle.rules.specs.Record.{u8, u16}
+use Rattle.rules.specs.Record.{u8}
 use Rattle.rules.specs.Class.{Sign, Range, anyHolds}
 use Rattle.places.proofs.Multiple.{align-near}
 use Rattle.finding.specs.declared.Frame.{Frame}
@@ -27,10 +27,10 @@ use Rattle.choices.specs.declared.Choice.the-variants.{Class, Nothing, Refused 
 use Rattle.slots.specs.declared.Number.{Number}
 use Rattle.slots.specs.declared.Number.the-variants.{Of as Told, NotOf as NoNumber}
 use Rattle.inside.specs.declared.look.Inside.{Inside}
-use Rattle.inside.specs.declared.look.Inside.the-variants.{Members, Elements, Refused}
+use Rattle.inside.specs.declared.look.Inside.the-variants.{Members, Refused}
 use Rattle.choices.specs.Choice.{byNumber, presentAt, byFlag, byRanges, optionalClass, optionalAt, optionFrom, variantIn}
 use Rattle.inside.specs.Inside.{within, standing, byLength, optionalInside, variantInside, bitsNoted, insideIn, insideOf}
-use Rattle.inside.specs.Held.{Placed, HeldMembers, HeldElements, Held}
+use Rattle.inside.specs.Held.{Placed, Held}
 use Rattle.inside.proofs.Holders.{five}
 use Rattle.inside.proofs.Opened.{variant-noted}
 

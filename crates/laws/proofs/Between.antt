@@ -35,12 +35,12 @@ use Rattle.rules.specs.Slots.{slotAt}
 use Rattle.rules.specs.Entry.{entry, clockAdvanced}
 use Rattle.rules.specs.Step.{State, go, Step, _⨾_, check, listed, change, pass, withSlots, withOrder, withClock, withSaid}
 use Rattle.rules.specs.Class.{Role, noRole, magic, streamClassId, streamId, uuid, totalLength, contentLength, clock, endClock, discarded, sequence, eventClassId}
-use Rattle.rules.specs.Class.{Class, Classes, Sort, kindOf}
-use Rattle.rules.specs.Field.{Env, aligned, fit, field, store, newClock, say, role, blobRole, fromSlot, valueOf, slotOf, ahead, bytesAt, readFixed, readLeb, readZero, readText, readBlob, times, read, readMembers}
+use Rattle.rules.specs.Class.{Class, Sort, kindOf}
+use Rattle.rules.specs.Field.{Env, aligned, fit, field, store, newClock, say, role, blobRole, fromSlot, valueOf, slotOf, ahead, bytesAt, readFixed, readLeb, readZero, readText, readBlob, read}
 use Rattle.leb128.proofs.ValueSays.{unsigned-value, signed-value}
 use Rattle.text.proofs.Laws.{zero-found}
 use Rattle.laws.specs.Between.{Between}
-use Rattle.laws.proofs.Law.{Any, any-slot, Law, fits, fitMembers, law-times, law-read, law-members}
+use Rattle.laws.proofs.Law.{Any, any-slot, Law, fits, law-read}
 use Rattle.laws.proofs.Triple.{Ok, Triple, then, passing, changing, looser, refusing, checks, tested, untested, dued}
 use Rattle.laws.proofs.Places.{alignFrom-le, start-le, align-one, ahead-fits, LebFits}
 

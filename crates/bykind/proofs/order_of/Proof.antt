@@ -3,7 +3,7 @@ use Rattle.bykind.proofs.order_of.Statement.{statement}
 use Rattle.bykind.proofs.order_of.Tie as tie
 use Rattle.bykind.proofs.order_of.Reads as reads
 use Rattle.bykind.proofs.order_of.Lts as lts
-use mathlib.Core.Path.{_≡_, refl}
+use mathlib.Core.Path.{refl}
 use Rattle.rules.specs.Parse.{orderOf}
 use Rattle.bykind.proofs.ByKind.{big-order}
 

@@ -35,7 +35,6 @@ use Rattle.rules.specs.Step.{Step}
 use Rattle.listing.specs.declared.State.{State}
 use Rattle.listing.specs.declared.Went.{Went}
 use Rattle.finding.specs.Framed.{envOf}
-use Rattle.fields.specs.declared.Field.{Field}
 use Rattle.fields.specs.Inner.{holdingOf, readFields, wholeFields, onward}
 use Rattle.listing.proofs.Parts.{part-length, lent-room}
 use Rattle.inside.specs.Inside.{insideOf}
