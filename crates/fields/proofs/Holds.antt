@@ -1,7 +1,6 @@
 -- A field that holds others: its own entry stands in front, and what is inside is lent the rest of the list.
 use mathlib.Core.Path.{_≡_, refl, ap, sym, subst, _∙_}
 use mathlib.Core.List.{List, [], _∷_, _++_}
-use mathlib.Core.Bool.{Bool}
 use Prim.Native.Nat.{ℕ, zero, suc, _+_, _-_, _*_, _^_, _≤_, _<_}
 use native.Mathlib.Omega.{arith}
 use lib.ListN.{length, drop}
@@ -16,14 +15,13 @@ use Rattle.rules.specs.Entry.{entry, words}
 use Rattle.rules.specs.declared.Content.{Content}
 use Rattle.rules.specs.Record.{u8}
 use Rattle.rules.specs.Step.{State as Full, Step, after, _⨾_, refuse, listed}
-use Rattle.rules.specs.Field.{Env}
 use Rattle.facts.proofs.Cases.{_▷_, below}
-use Rattle.classes.specs.Trees.{shapeOf, shapes, recordSize, whole}
+use Rattle.classes.specs.Trees.{shapeOf, shapes, recordSize, whole, wholeMembers, stoodAt}
 use Rattle.classes.specs.Notes.{Notes, Prepared}
 use Rattle.inside.specs.declared.look.Inside.{Inside}
-use Rattle.inside.specs.declared.look.Inside.the-variants.{Members, Elements, Refused as NotTold}
+use Rattle.inside.specs.declared.look.Inside.the-variants.{Members, Elements, Refused}
 use Rattle.inside.specs.Inside.{insideOf, slotReadAt, opened, Opens}
-use Rattle.inside.specs.Held.{Held, Placed}
+use Rattle.inside.specs.Held.{Held, Placed, HeldMembers, HeldElements}
 use Rattle.inside.proofs.Noted.{opens}
 use Rattle.inside.proofs.Opened.{inside-read}
 use Rattle.inside.proofs.Held.{inside-whole}
@@ -35,12 +33,9 @@ use Rattle.listing.specs.Did.{full, atPlace}
 use Rattle.listing.proofs.Roles.{went-no-further}
 use Rattle.listing.proofs.Parts.{Part, part-last-on, part-last-stopped, part-length, back-room, lent, merged}
 use Rattle.fields.specs.declared.Field.{Field}
-use Rattle.fields.specs.declared.walk.Holding.{Holding}
-use Rattle.fields.specs.declared.walk.Holding.the-variants.{Fields, Refused}
 use Rattle.fields.specs.Reads.{FieldReads}
-use Rattle.fields.specs.Inner.{holdingOf, readFields, wholeFields}
 use Rattle.classes.proofs.Standing.{depth-some}
-use Rattle.fields.proofs.Turns.{Call, call, outcome, CallReads, stoppedCall, classRead, did-length}
+use Rattle.fields.proofs.Turns.{Call, call, outcome, CallReads, stoppedCall, classRead, membersRead, elementsRead, did-length}
 
 -- kinds 28 to 32 have a byte or more behind their kind
 held-size : (k : ℕ) → 28 ≤ k → k ≤ 32 → 2 ≤ recordSize (shapeOf k)
@@ -56,28 +51,6 @@ unfolding whole
 slot-within t at zero w k = absurd w
 slot-within t at (suc d) w k = omega (arith, w .there, held-size (u8 t at) k (w .high))
 
--- members and elements as one: that they stand, and what is done with them
-
-unfoldable HeldAs : ℕ → List ℕ → Frame → BitPlace → Holding → Type 0
-HeldAs d t f from (Fields p v at n again) = wholeFields again d t at n × Placed f from p
-HeldAs d t f from (Refused r) = Unit {0}
-
-held-as : (d : ℕ) (t : List ℕ) (f : Frame) (from : BitPlace) (o : Inside) → Held d t f from o → HeldAs d t f from (holdingOf o)
-unfolding Held HeldAs holdingOf wholeFields
-held-as d t f from (Members p v at n) h = (h .classes, h .place)
-held-as d t f from (Elements p v at n) h = (h .class, h .place)
-held-as d t f from (NotTold r) h = tt
-
-unfoldable openedAs : Env → ℕ → ℕ → List ℕ → Holding → Step
-openedAs e k d t (Fields p v at n again) s = (listed (entry k p 0 v) p ⨾ readFields again d t at n e) s
-openedAs e k d t (Refused r) s = refuse r s
-
-opened-as : (e : Env) (k d : ℕ) (t : List ℕ) (o : Inside) (s : Full) → opened e k d t o s ≡ openedAs e k d t (holdingOf o) s
-unfolding opened openedAs holdingOf readFields
-opened-as e k d t (Members p v at n) s = refl
-opened-as e k d t (Elements p v at n) s = refl
-opened-as e k d t (NotTold r) s = refl
-
 -- the class at a byte holds fields, and c is the content of the slot that it reads
 pub record Holder (b u : List ℕ) (f : Frame) (t : List ℕ) (x : Notes) (d at : ℕ) (c : Content) (st : State) (l : Slots)
     (ws : List ℕ) : Type 0 where
@@ -90,12 +63,12 @@ pub record Holder (b u : List ℕ) (f : Frame) (t : List ℕ) (x : Notes) (d at 
   pub many : length l ≡ slotCount
   pub told : slotAt l (slotReadAt t at) ≡ c
 
--- what the fields inside did to the field that holds them, whose entry stands in front
-pub record Closed (w : Call) (ws₁ ys : List ℕ) (r : Field) : Type 0 where
+-- what the fields inside did to the field that holds them, whose entry stands in front: ws is the list behind them
+pub record Closed (w : Call) (ws : List ℕ) (r : Field) : Type 0 where
   pub fits : 4 + r .used < 2 ^ 60
-  pub same : length (merged 4 ws₁ ys) ≡ length (w .list)
-  pub stops : (v : Stop) → r .went ≡ Stopped v → CallReads w (stoppedCall w v (4 + r .used)) (merged 4 ws₁ ys)
-  pub goes : r .went ≡ On → CallReads w (record { went = On; used = 4 + r .used; state = r .state; slots = r .slots }) (merged 4 ws₁ ys)
+  pub same : length ws ≡ length (w .list)
+  pub stops : (v : Stop) → r .went ≡ Stopped v → CallReads w (stoppedCall w v (4 + r .used)) ws
+  pub goes : r .went ≡ On → CallReads w (record { went = On; used = 4 + r .used; state = r .state; slots = r .slots }) ws
 
 module _ {b u : List ℕ} {f : Frame} {t : List ℕ} {x : Notes} {d at : ℕ} {c : Content} {st : State} {l : Slots} {ws : List ℕ}
     (h : Holder b u f t x d at c st l ws) where
@@ -106,18 +79,25 @@ module _ {b u : List ℕ} {f : Frame} {t : List ℕ} {x : Notes} {d at : ℕ} {c
   deep : whole (suc (d - 1)) t at
   deep = subst (λ (e : ℕ). whole e t at) (depth-some t at d (h .stands)) (h .stands)
 
-  held : HeldAs (d - 1) t f (st .place) (holdingOf (insideOf t x at f (st .place) c))
-  held = held-as _ _ _ _ _ (inside-whole b f (d - 1) t x at c (st .place) deep (h .holds) (h .framed) (h .noted))
+  held : Held (d - 1) t f (st .place) (insideOf t x at f (st .place) c)
+  held = inside-whole b f (d - 1) t x at c (st .place) deep (h .holds) (h .framed) (h .noted)
 
   placed : (p : BitPlace) → Placed f (st .place) p → Framed b f p
   placed p q = record { whole = h .framed .whole; begun = q .begun; within = q .within; ends = h .framed .ends; small = h .framed .small }
 
-  pub fields-held : {o : Holding} {p : BitPlace} {v at′ n : ℕ} {again : Bool} → o ≡ holdingOf (insideOf t x at f (st .place) c)
-      → o ≡ Fields p v at′ n again → wholeFields again (d - 1) t at′ n × Framed b f p
-  unfolding HeldAs
-  fields-held {p = p} {at′ = at′} {n = n} {again = again} look e =
-      let q : wholeFields again (d - 1) t at′ n × Placed f (st .place) p = rw (sym look ∙ e) at held in
-      (q .0, placed p (q .1))
+  pub members-held : {o : Inside} {p : BitPlace} {v at′ n : ℕ} → o ≡ insideOf t x at f (st .place) c → o ≡ Members p v at′ n
+      → wholeMembers (whole (d - 1) t) (stoodAt (d - 1) t) at′ n × Framed b f p
+  unfolding Held
+  members-held {p = p} {at′ = at′} {n = n} look e =
+      let q : HeldMembers (d - 1) t f (st .place) p at′ n = rw (sym look ∙ e) at held in
+      (q .classes, placed p (q .place))
+
+  pub elements-held : {o : Inside} {p : BitPlace} {v at′ n : ℕ} → o ≡ insideOf t x at f (st .place) c → o ≡ Elements p v at′ n
+      → whole (d - 1) t at′ × Framed b f p
+  unfolding Held
+  elements-held {p = p} {at′ = at′} look e =
+      let q : HeldElements (d - 1) t f (st .place) p at′ = rw (sym look ∙ e) at held in
+      (q .class, placed p (q .place))
 
   abbrev this : Call
   this = call b u f (classRead d t at) st l ws
@@ -125,14 +105,13 @@ module _ {b u : List ℕ} {f : Frame} {t : List ℕ} {x : Notes} {d at : ℕ} {c
   abbrev s : Full
   s = full st l (length ws)
 
-  opened-read : outcome this ≡ openedAs (envOf b u f) (u8 t at) (d - 1) t (holdingOf (insideOf t x at f (st .place) c)) s
+  opened-read : outcome this ≡ opened (envOf b u f) (u8 t at) (d - 1) t (insideOf t x at f (st .place) c) s
   opened-read = ap (λ (e : ℕ). classRead e t at (envOf b u f) s) (depth-some t at d (h .stands))
       ∙ inside-read b u f (d - 1) t x at c s deep (h .holds) (h .room) (sym (h .told)) (h .framed) (h .noted)
-      ∙ opened-as _ _ _ _ _ s
 
-  pub refusal-reads : {o : Holding} {why : Refusal} → o ≡ holdingOf (insideOf t x at f (st .place) c) → o ≡ Refused why
+  pub refusal-reads : {o : Inside} {why : Refusal} → o ≡ insideOf t x at f (st .place) c → o ≡ Refused why
       → CallReads this (stoppedCall this (stopAt why (st .place)) 0) ws
-  unfolding refuse openedAs
+  unfolding refuse opened
   refusal-reads look e = record {
     did = went-no-further _ st _ _ ws (opened-read ∙ rw (sym look ∙ e) refl);
     kept = λ v off. refl;
@@ -146,7 +125,7 @@ module _ {b u : List ℕ} {f : Frame} {t : List ℕ} {x : Notes} {d at : ℕ} {c
     unfolding _⨾_ after listed
     entry-part = record { listed = entry (u8 t at) p 0 v ∷ []; list = e; counted = refl; room = h .room; rest = o }
 
-    closed : Closed this ws₁ ys r
+    closed : Closed this (merged 4 ws₁ ys) r
     closed = record {
       fits = omega (arith, back-room m entry-part (did .did), h .small);
       same = same-len-mid 4 (length ws₁ - 4) ws₁ ys (did-length (did .did)) ∙ part-length entry-part;
@@ -158,9 +137,14 @@ module _ {b u : List ℕ} {f : Frame} {t : List ℕ} {x : Notes} {d at : ℕ} {c
       };
     }
 
-  pub fields-closed : {o : Holding} {p : BitPlace} {v at′ n : ℕ} {again : Bool} {ws₁ ys : List ℕ} {r : Field}
-      → o ≡ holdingOf (insideOf t x at f (st .place) c) → o ≡ Fields p v at′ n again
-      → ws₁ ≡ words (entry (u8 t at) p 0 v ∷ []) ++ drop 4 ws
-      → FieldReads (readFields again (d - 1) t at′ n (envOf b u f)) (atPlace p st) l r (lent 4 ws₁) ys → Closed this ws₁ ys r
-  unfolding openedAs
-  fields-closed look e = closed _ (opened-read ∙ rw (sym look ∙ e) refl)
+  pub members-closed : {o : Inside} {p : BitPlace} {v at′ n : ℕ} {ws₁ ys : List ℕ} {r : Field}
+      → o ≡ insideOf t x at f (st .place) c → o ≡ Members p v at′ n → ws₁ ≡ words (entry (u8 t at) p 0 v ∷ []) ++ drop 4 ws
+      → FieldReads (membersRead (d - 1) t at′ n (envOf b u f)) (atPlace p st) l r (lent 4 ws₁) ys → Closed this (merged 4 ws₁ ys) r
+  unfolding opened
+  members-closed look e = closed _ (opened-read ∙ rw (sym look ∙ e) refl)
+
+  pub elements-closed : {o : Inside} {p : BitPlace} {v at′ n : ℕ} {ws₁ ys : List ℕ} {r : Field}
+      → o ≡ insideOf t x at f (st .place) c → o ≡ Elements p v at′ n → ws₁ ≡ words (entry (u8 t at) p 0 v ∷ []) ++ drop 4 ws
+      → FieldReads (elementsRead (d - 1) t at′ n (envOf b u f)) (atPlace p st) l r (lent 4 ws₁) ys → Closed this (merged 4 ws₁ ys) r
+  unfolding opened
+  elements-closed look e = closed _ (opened-read ∙ rw (sym look ∙ e) refl)

@@ -31,7 +31,7 @@ use Rattle.listing.proofs.Parts.{Part, part-start, part-step, part-stop, part-e
 use Rattle.fields.specs.declared.Field.{Field}
 use Rattle.bykind.specs.Reads.{LeafReads}
 use Rattle.fields.specs.Reads.{FieldReads, stoppedField}
-use Rattle.fields.specs.Inner.{readFields, wholeFields, onward}
+use Rattle.fields.specs.Both.{readFields, wholeFields, onward}
 use Rattle.classes.proofs.Standing.{first, no-member}
 use Rattle.laws.proofs.Between.{read-between}
 
@@ -60,9 +60,15 @@ CallReads w r ws = FieldReads (w .all) (w .came) (w .given) r (w .list) ws
 abbrev pub stoppedCall : Call → Stop → ℕ → Field
 stoppedCall w v n = stoppedField v n (w .came) (w .given)
 
--- what `read_field` reads: the class at a byte
+-- what the functions read: the class at a byte, n classes from a byte on, and the class at a byte n times
 abbrev pub classRead : ℕ → List ℕ → ℕ → Env → Step
 classRead d t at e = read e (classAt d t at)
+
+abbrev pub membersRead : ℕ → List ℕ → ℕ → ℕ → Env → Step
+membersRead d t at n e = readMembers e (membersAt (stoodAt d t) at n)
+
+abbrev pub elementsRead : ℕ → List ℕ → ℕ → ℕ → Env → Step
+elementsRead d t at n e = times n (read e (classAt d t at))
 
 -- what a walk's loop keeps: m is what is left of it
 pub record Walked (w : Call) (m : Step) (ws : List ℕ) (used : ℕ) (st : State) (l : Slots) : Type 0 where

@@ -1,2 +1,2 @@
 pub mod Reads
-pub mod Inner
+pub mod Both

@@ -29,26 +29,13 @@ ghost use lib.ListN.{length, drop, getD};
 ghost use Rattle.rules.specs.Record.{u8};
 ghost use Rattle.rules.specs.Entry.{words};
 ghost use Rattle.rules.specs.Verdict.{stopAt};
-ghost use Rattle.rules.specs.Field.{read};
+ghost use Rattle.rules.specs.Field.{read, readMembers, times};
 ghost use Rattle.finding.specs.Framed.{Framed, envOf};
-ghost use Rattle.classes.specs.Trees.{whole, classAt};
+ghost use Rattle.classes.specs.Trees.{whole, wholeMembers, stoodAt, classAt, membersAt};
 ghost use Rattle.classes.specs.Notes.{notes, Prepared};
 ghost use Rattle.listing.specs.Did.{atPlace};
 ghost use Rattle.fields.specs.Reads.{FieldReads, stoppedField};
-ghost use Rattle.fields.specs.Inner.{holdingOf, readFields, wholeFields, onward};
-
-// What is inside a field, members and elements alike: the field's place and value, and `count` fields from the byte `from` on, of classes one
-// behind the other or `again` and again of the class there.
-enum Holding {
-    Fields {
-        place: BitPlace,
-        value: u64,
-        from: usize,
-        count: usize,
-        again: bool,
-    },
-    Refused(Refusal),
-}
+ghost use Rattle.fields.specs.Both.{readFields, wholeFields, onward};
 
 // The field of the class at a byte, which holds fields, where there is room for its entry. `left` depths are left, its own among them.
 pub fn read_field(
@@ -79,17 +66,19 @@ pub fn read_field(
         let slot = slots[i];
         content = slot.content;
     }
-    match holding_of(look(table, sizes, aligns, at, frame, st.place, content)) {
-        Holding::Refused(why) => refused(why, st.place, 0, st, slots),
-        Holding::Fields {
+    let kind = wide64(table[at]);
+    let r = match look(table, sizes, aligns, at, frame, st.place, content) {
+        Inside::Refused(why) => {
+            return refused(why, st.place, 0, st, slots);
+        }
+        Inside::Members {
             place,
             value,
             from,
             count,
-            again,
         } => {
-            let next = enter(wide64(table[at]), place, value, st, list);
-            let r = walk(
+            let next = enter(kind, place, value, st, list);
+            walk_members(
                 table,
                 sizes,
                 aligns,
@@ -98,33 +87,135 @@ pub fn read_field(
                 frame,
                 from,
                 count,
-                again,
                 left - 1,
                 next,
                 slots,
                 &mut list[4..],
-            );
-            let went = r.went;
-            match went {
-                Went::Stopped(stop) => stopped(stop, 4 + r.used, st, slots), // not `next`
-                Went::On => {
-                    let state = r.state;
-                    let changed = r.slots;
-                    Field {
-                        went: Went::On,
-                        used: 4 + r.used,
-                        state,
-                        slots: changed,
-                    }
-                }
+            )
+        }
+        Inside::Elements {
+            place,
+            value,
+            from,
+            count,
+        } => {
+            let next = enter(kind, place, value, st, list);
+            walk_elements(
+                table,
+                sizes,
+                aligns,
+                uuid,
+                stream,
+                frame,
+                from,
+                count,
+                left - 1,
+                next,
+                slots,
+                &mut list[4..],
+            )
+        }
+    };
+    let went = r.went;
+    match went {
+        Went::Stopped(stop) => stopped(stop, 4 + r.used, st, slots), // not `next`
+        Went::On => {
+            let state = r.state;
+            let changed = r.slots;
+            Field {
+                went: Went::On,
+                used: 4 + r.used,
+                state,
+                slots: changed,
             }
         }
     }
 }
 
-// `count` fields from a byte of the table on: of classes that stand one behind the other, or `again` and again of the class there. No room
-// (40) comes before all else of a field, so the walk tests for it before it looks at the class.
-pub fn walk(
+// The fields of `count` classes that stand one behind the other, from a byte of the table on.
+pub fn walk_members(
+    table: &[u8],
+    sizes: &[u16],
+    aligns: &[u8],
+    uuid: &[u8],
+    stream: &[u8],
+    frame: Frame,
+    at: usize,
+    count: usize,
+    left: usize,
+    st: State,
+    given: [Slot; 64],
+    list: &mut [u64],
+) -> Field
+    requires { ⌜ wholeMembers (whole left (now table)) (stoodAt left (now table)) at count ⌝ }
+    requires { ⌜ Prepared (now table) (notes (now sizes) (now aligns)) ⌝ }
+    requires { ⌜ Framed (now stream) frame (st .place) ⌝ }
+    ensures { λ r. ⌜
+        FieldReads
+        (readMembers (envOf (now (stream .entry)) (now (uuid .entry)) frame) (membersAt (stoodAt left (now (table .entry))) at count))
+        st given r (now (list .entry)) (now (list .exit))
+        ⌝ }
+{
+    walk(
+        table,
+        sizes,
+        aligns,
+        uuid,
+        stream,
+        frame,
+        at,
+        count,
+        false,
+        left,
+        st,
+        given,
+        list,
+    )
+}
+
+// `count` fields of the one class at a byte of the table.
+fn walk_elements(
+    table: &[u8],
+    sizes: &[u16],
+    aligns: &[u8],
+    uuid: &[u8],
+    stream: &[u8],
+    frame: Frame,
+    at: usize,
+    count: usize,
+    left: usize,
+    st: State,
+    given: [Slot; 64],
+    list: &mut [u64],
+) -> Field
+    requires { ⌜ whole left (now table) at ⌝ }
+    requires { ⌜ Prepared (now table) (notes (now sizes) (now aligns)) ⌝ }
+    requires { ⌜ Framed (now stream) frame (st .place) ⌝ }
+    ensures { λ r. ⌜
+        FieldReads (times count (read (envOf (now (stream .entry)) (now (uuid .entry)) frame) (classAt left (now (table .entry)) at)))
+        st given r (now (list .entry)) (now (list .exit))
+        ⌝ }
+{
+    walk(
+        table,
+        sizes,
+        aligns,
+        uuid,
+        stream,
+        frame,
+        at,
+        count,
+        true,
+        left,
+        st,
+        given,
+        list,
+    )
+}
+
+// Both walks: they differ in where the class of the next field stands, behind the one that was read or at the same byte `again`. No room (40)
+// comes before all else of a field, so it is tested before the class is looked at.
+fn walk(
     table: &[u8],
     sizes: &[u16],
     aligns: &[u8],
@@ -208,7 +299,7 @@ pub fn walk(
         let went = r.went;
         match went {
             Went::Stopped(stop) => {
-                return stopped(stop, used, st, given);
+                return stopped(stop, used, st, given); // not `state`
             }
             Went::On => {}
         }
@@ -234,39 +325,6 @@ fn onward(sizes: &[u16], at: usize, again: bool) -> usize
         return at;
     }
     at + size_at(sizes, at)
-}
-
-// Members stand one behind the other; elements are of one class.
-fn holding_of(inside: Inside) -> Holding
-    ensures { λ r. ⌜ r ≡ holdingOf inside ⌝ }
-{
-    match inside {
-        Inside::Refused(why) => Holding::Refused(why),
-        Inside::Members {
-            place,
-            value,
-            from,
-            count,
-        } => Holding::Fields {
-            place,
-            value,
-            from,
-            count,
-            again: false,
-        },
-        Inside::Elements {
-            place,
-            value,
-            from,
-            count,
-        } => Holding::Fields {
-            place,
-            value,
-            from,
-            count,
-            again: true,
-        },
-    }
 }
 
 // The entry of a field that holds fields: it has no bits of its own. Gives the state at the field's place.

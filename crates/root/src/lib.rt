@@ -1,7 +1,7 @@
 // A root that is there is read; the packet has its roots read so, an event opens its own.
 use classes::Found;
 use fields::Field;
-use fields::walk::walk;
+use fields::walk::walk_members;
 use finding::Frame;
 use listing::State;
 use listing::Went;
@@ -41,7 +41,7 @@ pub fn read_root(
             state: st,
             slots,
         },
-        Found::At(at) => walk(
+        Found::At(at) => walk_members(
             table,
             sizes,
             aligns,
@@ -50,7 +50,6 @@ pub fn read_root(
             frame,
             at,
             1,
-            false,
             DEPTH_LIMIT,
             st,
             slots,

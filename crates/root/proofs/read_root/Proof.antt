@@ -4,8 +4,7 @@ use Rattle.root.proofs.read_root.Statement.{statement}
 use Rattle.root.proofs.read_root.Tie as tie
 use Rattle.root.proofs.read_root.Reads as reads
 use Rattle.root.proofs.read_root.Lts as lts
-use Rattle.fields.proofs.walk.walk.Reads as walk-reads
-use Rattle.fields.specs.Inner.{readFields, wholeFields}
+use Rattle.fields.proofs.walk.walk_members.Reads as walk-members-reads
 use Rattle.turns.proofs.Looked.{one-member}
 use Rattle.root.proofs.Rooted.{no-root, a-root}
 
@@ -15,11 +14,8 @@ enum-told c = search needs
 enum-known-root : tie.Need-enum-known-root
 enum-known-root c = search needs
 
-walk-requires : tie.Need-walk-requires
-unfolding wholeFields
-walk-requires c κs =
-    let p = c .before .before .before .before .before .before .before .before .before .before .pre in
-    (one-member _ _ _ (c .before .before .root .given .1) (p .0), (p .1 .0, p .1 .1))
+walk-members-requires : tie.Need-walk-members-requires
+walk-members-requires c κs = (one-member _ _ _ (c .before .before .root .given .1) (c .before .before .before .before .before .before .before .before .before .before .pre .0), (c .before .before .before .before .before .before .before .before .before .before .pre .1 .0, c .before .before .before .before .before .before .before .before .before .before .pre .1 .1))
 
 returns : tie.Need-returns
 returns c = no-root _ _ _ _ _ _ (c .before .before .before .before .before .before .before .before .good .1 .1 .1 .1 .1 .1 .1 .1 .0 .1 .0 .1) (c .enum-told .given .1)
@@ -28,10 +24,9 @@ same-length : tie.Need-same-length
 same-length c = search needs
 
 returns-2 : tie.Need-returns-2
-unfolding readFields
-returns-2 c = a-root _ _ _ _ _ _ (c .before .before .before .before .before .root .given .1) (c .before .before .walk .ensures)
+returns-2 c = a-root _ _ _ _ _ _ (c .before .before .before .before .before .root .given .1) (c .before .before .walk-members .ensures)
 
 pub read-root-spec : {M : Type 1} → statement M
 read-root-spec =
     tie.close
-    (tie.spec enum-told enum-known-root walk-requires returns same-length returns-2)
+    (tie.spec enum-told enum-known-root walk-members-requires returns same-length returns-2)

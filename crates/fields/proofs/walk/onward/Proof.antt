@@ -3,7 +3,7 @@ use borrow.Author.Needs.{needs}
 use Rattle.fields.proofs.walk.onward.Statement.{statement}
 use Rattle.fields.proofs.walk.onward.Tie as tie
 use mathlib.Core.Path.{refl}
-use Rattle.fields.specs.Inner.{onward}
+use Rattle.fields.specs.Both.{onward}
 
 returns : tie.Need-returns
 unfolding onward

@@ -1,30 +1,36 @@
 -- A field that holds others is its entry and then a walk; a walk is its first field and then the rest, a leaf or a field that holds others.
--- The measure is twice the depth left, and one more for a walk. Each function's laws of its places stand first: a need hands one of them
--- its place.
+-- The measure is three times the depth left, one more for what both walks are, and two more for each of them. Each function's laws of its
+-- places stand first: a need hands one of them its place.
 use Prim.Native.Nat.{ℕ, _<_}
 use borrow.Fn.Kinds.{In}
 use borrow.Fn.PlainCycle.{Measures, is, falls, and}
 use Rattle.fields.proofs.walk.read_field.Reads as read-field
 use Rattle.fields.proofs.walk.read_field.Kinds as read-field-kinds
-use Rattle.fields.proofs.walk.+read_field+walk.Lts-read_field as read-field-lts
+use Rattle.fields.proofs.walk.+read_field+walk+walk_elements+walk_members.Lts-read_field as read-field-lts
 use Rattle.fields.proofs.walk.walk.Reads as walk
 use Rattle.fields.proofs.walk.walk.Kinds as walk-kinds
-use Rattle.fields.proofs.walk.+read_field+walk.Lts-walk as walk-lts
+use Rattle.fields.proofs.walk.+read_field+walk+walk_elements+walk_members.Lts-walk as walk-lts
+use Rattle.fields.proofs.walk.walk_elements.Reads as walk-elements
+use Rattle.fields.proofs.walk.walk_elements.Kinds as walk-elements-kinds
+use Rattle.fields.proofs.walk.+read_field+walk+walk_elements+walk_members.Lts-walk_elements as walk-elements-lts
+use Rattle.fields.proofs.walk.walk_members.Reads as walk-members
+use Rattle.fields.proofs.walk.walk_members.Kinds as walk-members-kinds
+use Rattle.fields.proofs.walk.+read_field+walk+walk_elements+walk_members.Lts-walk_members as walk-members-lts
 use Rattle.bytes.proofs.wide64.Reads as wide64-reads
 use Rattle.bykind.proofs.leaf_slot.Reads as leaf-slot-reads
 use Rattle.bykind.proofs.read_leaf.Reads as read-leaf-reads
 use Rattle.fields.proofs.walk.enter.Reads as enter-reads
-use Rattle.fields.proofs.walk.holding_of.Reads as holding-of-reads
 use Rattle.fields.proofs.walk.onward.Reads as onward-reads
 use Rattle.fields.proofs.walk.refused.Reads as refused-reads
 use Rattle.fields.proofs.walk.stopped.Reads as stopped-reads
 use Rattle.inside.proofs.look.look.Reads as look-reads
 use Rattle.inside.proofs.look.slot_read.Reads as slot-read-reads
-use Rattle.fields.proofs.walk.+read_field+walk.{statement}
-use Rattle.fields.proofs.walk.+read_field+walk.Tie.{close}
+use Rattle.fields.proofs.walk.+read_field+walk+walk_elements+walk_members.{statement}
+use Rattle.fields.proofs.walk.+read_field+walk+walk_elements+walk_members.Tie.{close}
 use borrow.Fn.Kinds.{Out}
 use borrow.Author.Needs.{needs}
-use mathlib.Core.Path.{_≡_, ap, _∙_}
+use mathlib.Core.Path.{_≡_}
+use mathlib.Core.Logic.{⊎-elim}
 use mathlib.Core.List.{List}
 use native.Mathlib.Omega.{arith}
 use Prim.Native.Nat.{_-_, _+_, _*_, _^_, _≤_}
@@ -35,9 +41,8 @@ use Rattle.rules.specs.Step.{Step}
 use Rattle.listing.specs.declared.State.{State}
 use Rattle.listing.specs.declared.Went.{Went}
 use Rattle.finding.specs.Framed.{envOf}
-use Rattle.fields.specs.Inner.{holdingOf, readFields, wholeFields, onward}
+use Rattle.fields.specs.Both.{readFields, wholeFields, onward}
 use Rattle.listing.proofs.Parts.{part-length, lent-room}
-use Rattle.inside.specs.Inside.{insideOf}
 use Rattle.classes.specs.Trees.{classAt, nextAt}
 use Rattle.classes.specs.Notes.{notes, Prepared}
 use Rattle.classes.proofs.Standing.{depth-some, kind-high, stands-within, leaf-whole, leaf-class}
@@ -45,13 +50,20 @@ use Rattle.fields.proofs.Turns.{Call, call, env, classRead, Walked, wal
 use Rattle.fields.proofs.Turns.{Turn, Turned, fields-turn, turn-full, leaf-turned, field-turned}
 use Rattle.inside.proofs.Slots.{content-met}
 use Rattle.fields.proofs.Turns.{no-slot, fields-end}
-use Rattle.fields.proofs.Holds.{Holder, Closed, slot-within, can-look, fields-held, refusal-reads, fields-closed}
+use Rattle.fields.proofs.Holds.{Holder, Closed, slot-within, can-look, members-held, elements-held}
+use Rattle.fields.proofs.Holds.{refusal-reads, members-closed, elements-closed}
 
 abbrev μ-read-field : Measures 6 read-field-kinds.ps ℕ
-μ-read-field κs a = a .1 .1 .1 .1 .1 .1 .1 .0 + a .1 .1 .1 .1 .1 .1 .1 .0
+μ-read-field κs a = a .1 .1 .1 .1 .1 .1 .1 .0 + a .1 .1 .1 .1 .1 .1 .1 .0 + a .1 .1 .1 .1 .1 .1 .1 .0
 
 abbrev μ-walk : Measures 6 walk-kinds.ps ℕ
-μ-walk κs a = a .1 .1 .1 .1 .1 .1 .1 .1 .1 .0 + a .1 .1 .1 .1 .1 .1 .1 .1 .1 .0 + 1
+μ-walk κs a = a .1 .1 .1 .1 .1 .1 .1 .1 .1 .0 + a .1 .1 .1 .1 .1 .1 .1 .1 .1 .0 + a .1 .1 .1 .1 .1 .1 .1 .1 .1 .0 + 1
+
+abbrev μ-walk-elements : Measures 6 walk-elements-kinds.ps ℕ
+μ-walk-elements κs a = a .1 .1 .1 .1 .1 .1 .1 .1 .0 + a .1 .1 .1 .1 .1 .1 .1 .1 .0 + a .1 .1 .1 .1 .1 .1 .1 .1 .0 + 2
+
+abbrev μ-walk-members : Measures 6 walk-members-kinds.ps ℕ
+μ-walk-members κs a = a .1 .1 .1 .1 .1 .1 .1 .1 .0 + a .1 .1 .1 .1 .1 .1 .1 .1 .0 + a .1 .1 .1 .1 .1 .1 .1 .1 .0 + 2
 
 abbrev read-field-at : ℕ → In 6 read-field-kinds.ps
 read-field-at t =
@@ -67,22 +79,34 @@ walk-at t = and 6 walk-kinds.ps (is 6 walk-kinds.ps μ-walk t) walk.Pre
 abbrev walk-below : ℕ → In 6 walk-kinds.ps
 walk-below t = and 6 walk-kinds.ps (falls 6 walk-kinds.ps _<_ μ-walk t) walk.Pre
 
+abbrev walk-elements-at : ℕ → In 6 walk-elements-kinds.ps
+walk-elements-at t = and 6 walk-elements-kinds.ps (is 6 walk-elements-kinds.ps μ-walk-elements t) walk-elements.Pre
+
+abbrev walk-elements-below : ℕ → In 6 walk-elements-kinds.ps
+walk-elements-below t = and 6 walk-elements-kinds.ps (falls 6 walk-elements-kinds.ps _<_ μ-walk-elements t) walk-elements.Pre
+
+abbrev walk-members-at : ℕ → In 6 walk-members-kinds.ps
+walk-members-at t = and 6 walk-members-kinds.ps (is 6 walk-members-kinds.ps μ-walk-members t) walk-members.Pre
+
+abbrev walk-members-below : ℕ → In 6 walk-members-kinds.ps
+walk-members-below t = and 6 walk-members-kinds.ps (falls 6 walk-members-kinds.ps _<_ μ-walk-members t) walk-members.Pre
+
 abbrev read-field-calls : ℕ → read-field-lts.Claims
 read-field-calls t = (
   slot-read-reads.Asked,
   slot-read-reads.Learnt,
-  look-reads.Asked,
-  look-reads.Learnt,
-  holding-of-reads.Asked,
-  holding-of-reads.Learnt,
-  refused-reads.Asked,
-  refused-reads.Learnt,
   wide64-reads.Asked,
   wide64-reads.Learnt,
+  look-reads.Asked,
+  look-reads.Learnt,
+  refused-reads.Asked,
+  refused-reads.Learnt,
   enter-reads.Asked,
   enter-reads.Learnt,
-  walk-below t,
-  walk.Post,
+  walk-members-below t,
+  walk-members.Post,
+  walk-elements-below t,
+  walk-elements.Post,
   stopped-reads.Asked,
   stopped-reads.Learnt,
 )
@@ -128,81 +152,94 @@ field-holder t c =
       told = content-met (s .args .t10) many (c .before .slot-read .ensures .0) (λ y. y .2) (λ y. (y .0 .left, y .1)) (c .if1 .came);
     }
 
--- what is told of the class
-field-told : (t : ℕ) (c : In-field t read-field-lts.After-holding-of) →
-    let a = c .before .before .before .before .before .before .before .before .before .before .args in
-    let content = c .before .before .if1 .content in
-    c .holding-of .result
-    ≡ holdingOf (insideOf (a .table .now) (notes (a .sizes .now) (a .aligns .now)) (a .at) (a .frame) (a .st .place) content)
-field-told t c = c .holding-of .ensures ∙ ap holdingOf (c .before .look .ensures)
-
--- what the fields inside did
-field-closed : (t : ℕ) (c : In-field t read-field-lts.After-walk) →
-    let a = c .before .before .before .before .before .before .before .before .before .before .before .before .before .before .before .before .before .before .before .before .before .args in
-    let entered = c .before .before .before .before .enter .last .1 .1 .1 .1 .0 in
+-- what the fields inside did, members or elements
+field-closed : (t : ℕ) (c : In-field t read-field-lts.At-match-came) →
+    let a = c .before .before .before .before .before .before .before .before .before .before .before .before .args in
     Closed (call (a .stream .now) (a .uuid .now) (a .frame) (classRead (a .left) (a .table .now) (a .at)) (a .st) (a .t10) (a .list .now))
-    entered (c .walk .last .1 .1 .1 .1 .1 .1 .1 .1 .1 .1 .1 .1 .0) (c .walk .result)
+    (c .match .list) (c .match .r)
 unfolding u8
 field-closed t c =
-    let enter = c .before .before .before .before .enter in
-    let kind = c .before .before .before .before .before .before .wide64 .ensures .0 in
-    fields-closed (field-holder t (c .before .before .before .before .before .before .before .before .before .before .before .before .before)) (field-told t (c .before .before .before .before .before .before .before .before .before .before .before)) (c .before .before .before .before .before .before .before .before .before .place .given .1) (rw (kind) at (enter .ensures .1))
-    (rw (enter .ensures .0) at (c .walk .ensures))
+    let h = field-holder t (c .before .before .before .before) in
+    let look = c .before .look .ensures in
+    let kind = c .before .before .wide64 .ensures .0 in
+    ⊎-elim
+    (λ y. rw (y .11, y .12) (members-closed h look (y .1 .given .1) (rw (kind) at (y .4 .ensures .1)) (rw (y .4 .ensures .0) at (y .8 .ensures))))
+    (λ y. rw (y .11, y .12) (elements-closed h look (y .1 .given .1) (rw (kind) at (y .4 .ensures .1)) (rw (y .4 .ensures .0) at (y .8 .ensures))))
+    (c .match .came)
 
 read-field-slot-read-requires : (t : ℕ) → In-field t read-field-lts.Need-slot-read-requires
 read-field-slot-read-requires t c κs =
     let p = c .before .before .before .before .before .before .pre .1 in
     (omega (arith, p .1 .0 .0), kind-high _ _ _ (p .0), slot-within _ _ _ (p .0) (p .1 .0 .0))
 
+read-field-shared-slice-read-wide64 : (t : ℕ) → In-field t read-field-lts.Need-shared-slice-read-wide64
+read-field-shared-slice-read-wide64 t c = stands-within _ _ _ (field-holder t (c .before) .stands)
+
 read-field-look-requires : (t : ℕ) → In-field t read-field-lts.Need-look-requires
 read-field-look-requires t c κs =
-    let h = field-holder t c in
+    let h = field-holder t (c .before .before) in
     (can-look h, (h .framed .begun, omega (arith, h .framed .within, h .framed .ends, h .framed .small)))
 
-read-field-shared-slice-read-wide64 : (t : ℕ) → In-field t read-field-lts.Need-shared-slice-read-wide64
-read-field-shared-slice-read-wide64 t c = stands-within _ _ _ (field-holder t (c .before .before .before .before .before .before) .stands)
+read-field-returns : (t : ℕ) → In-field t read-field-lts.Need-returns
+read-field-returns t c = rw (c .refused .ensures) (refusal-reads (field-holder t (c .before .before .before .before .before .before .before)) (c .before .before .before .before .look .ensures) (c .before .before .why .given .1))
 
 read-field-enter-requires : (t : ℕ) → In-field t read-field-lts.Need-enter-requires
-read-field-enter-requires t c κs = field-holder t (c .before .before .before .before .before .before .before .before) .room
+read-field-enter-requires t c κs = field-holder t (c .before .before .before .before .before .before .before) .room
 
-read-field-sub-walk : (t : ℕ) → In-field t read-field-lts.Need-sub-walk
-read-field-sub-walk t c = omega (arith, depth-some _ _ _ (field-holder t (c .before .before .before .before .before .before .before .before .before .before .before) .stands))
+read-field-sub-walk-members : (t : ℕ) → In-field t read-field-lts.Need-sub-walk-members
+read-field-sub-walk-members t c = omega (arith, depth-some _ _ _ (field-holder t (c .before .before .before .before .before .before .before .before .before .before) .stands))
 
-read-field-sub-walk-2 : (t : ℕ) → In-field t read-field-lts.Need-sub-walk-2
-read-field-sub-walk-2 t c = omega (arith, c .before .before .enter .kept .1 .1 .1 .1 .0, field-holder t (c .before .before .before .before .before .before .before .before .before .before .before) .room)
+read-field-sub-walk-members-2 : (t : ℕ) → In-field t read-field-lts.Need-sub-walk-members-2
+read-field-sub-walk-members-2 t c = omega (arith, c .before .before .enter .kept .1 .1 .1 .1 .0, field-holder t (c .before .before .before .before .before .before .before .before .before .before) .room)
 
-read-field-part-walk-start : (t : ℕ) → In-field t read-field-lts.Need-part-walk-start
-read-field-part-walk-start t c = omega (arith, c .before .before .enter .kept .1 .1 .1 .1 .0, field-holder t (c .before .before .before .before .before .before .before .before .before .before .before) .room)
+read-field-part-walk-members-start : (t : ℕ) → In-field t read-field-lts.Need-part-walk-members-start
+read-field-part-walk-members-start t c = omega (arith, c .before .before .enter .kept .1 .1 .1 .1 .0, field-holder t (c .before .before .before .before .before .before .before .before .before .before) .room)
 
-read-field-walk-requires : (t : ℕ) → In-field t read-field-lts.Need-walk-requires
-read-field-walk-requires t c κs =
-    let s = c .before .before .before .before .before .before .before .before .before .before .before .before .before .before .before .before .before .before .before .before in
-    let h = field-holder t (c .before .before .before .before .before .before .before .before .before .before .before .before) in
-    let inside = fields-held h (field-told t (c .before .before .before .before .before .before .before .before .before .before)) (c .before .before .before .before .before .before .before .before .place .given .1) in
+read-field-walk-members-requires : (t : ℕ) → In-field t read-field-lts.Need-walk-members-requires
+read-field-walk-members-requires t c κs =
+    let s = c .before .before .before .before .before .before .before .before .before .before .before .before .before .before .before .before .before .before .before in
+    let h = field-holder t (c .before .before .before .before .before .before .before .before .before .before .before) in
+    let inside = members-held h (c .before .before .before .before .before .before .before .before .look .ensures) (c .before .before .before .before .before .before .place .given .1) in
     let entered = c .before .before .before .enter .ensures .0 in
     (omega (arith, s .pre .0, depth-some _ _ _ (h .stands)), (inside .0, (h .noted, rw (entered) (inside .1))))
 
+read-field-enter-requires-2 : (t : ℕ) → In-field t read-field-lts.Need-enter-requires-2
+read-field-enter-requires-2 t c κs = field-holder t (c .before .before .before .before .before .before .before) .room
+
+read-field-sub-walk-elements : (t : ℕ) → In-field t read-field-lts.Need-sub-walk-elements
+read-field-sub-walk-elements t c = omega (arith, depth-some _ _ _ (field-holder t (c .before .before .before .before .before .before .before .before .before .before) .stands))
+
+read-field-sub-walk-elements-2 : (t : ℕ) → In-field t read-field-lts.Need-sub-walk-elements-2
+read-field-sub-walk-elements-2 t c = omega (arith, c .before .before .enter2 .kept .1 .1 .1 .1 .0, field-holder t (c .before .before .before .before .before .before .before .before .before .before) .room)
+
+read-field-part-walk-elements-start : (t : ℕ) → In-field t read-field-lts.Need-part-walk-elements-start
+read-field-part-walk-elements-start t c = omega (arith, c .before .before .enter2 .kept .1 .1 .1 .1 .0, field-holder t (c .before .before .before .before .before .before .before .before .before .before) .room)
+
+read-field-walk-elements-requires : (t : ℕ) → In-field t read-field-lts.Need-walk-elements-requires
+read-field-walk-elements-requires t c κs =
+    let s = c .before .before .before .before .before .before .before .before .before .before .before .before .before .before .before .before .before .before .before in
+    let h = field-holder t (c .before .before .before .before .before .before .before .before .before .before .before) in
+    let inside = elements-held h (c .before .before .before .before .before .before .before .before .look .ensures) (c .before .before .before .before .before .before .place2 .given .1) in
+    let entered = c .before .before .before .enter2 .ensures .0 in
+    (omega (arith, s .pre .0, depth-some _ _ _ (h .stands)), (inside .0, (h .noted, rw (entered) (inside .1))))
+
 read-field-add-stopped : (t : ℕ) → In-field t read-field-lts.Need-add-stopped
-read-field-add-stopped t c = omega (arith, field-closed t (c .before .before .before .before .before .before) .fits)
+read-field-add-stopped t c = omega (arith, field-closed t (c .before .before .before .before) .fits)
 
-read-field-add-t52 : (t : ℕ) → In-field t read-field-lts.Need-add-t52
-read-field-add-t52 t c = omega (arith, field-closed t (c .before .before .before .before .before .before .before) .fits)
-
-read-field-returns : (t : ℕ) → In-field t read-field-lts.Need-returns
-read-field-returns t c =
-    rw (c .refused .ensures) (refusal-reads (field-holder t (c .before .before .before .before .before .before)) (field-told t (c .before .before .before .before)) (c .before .before .why .given .1))
+read-field-add-t63 : (t : ℕ) → In-field t read-field-lts.Need-add-t63
+read-field-add-t63 t c = omega (arith, field-closed t (c .before .before .before .before .before) .fits)
 
 read-field-same-length : (t : ℕ) → In-field t read-field-lts.Need-same-length
-read-field-same-length t c = field-closed t (c .before .before .before .before .before .before .before) .same
+read-field-same-length t c = field-closed t (c .before .before .before .before .before) .same
 
 read-field-returns-2 : (t : ℕ) → In-field t read-field-lts.Need-returns-2
-read-field-returns-2 t c = rw (c .stopped .ensures) (field-closed t (c .before .before .before .before .before .before .before) .stops _ (c .before .before .before .went .given .1))
+read-field-returns-2 t c = rw (c .stopped .ensures) (field-closed t (c .before .before .before .before .before) .stops _ (c .before .before .before .went .given .1))
 
 read-field-same-length-2 : (t : ℕ) → In-field t read-field-lts.Need-same-length-2
-read-field-same-length-2 t c = field-closed t (c .before .before .before .before .before .before .before) .same
+read-field-same-length-2 t c = field-closed t (c .before .before .before .before .before) .same
 
 read-field-returns-3 : (t : ℕ) → In-field t read-field-lts.Need-returns-3
-read-field-returns-3 t c = field-closed t (c .before .before .before .before .before .before .before) .goes (c .before .before .before .enum-told .given .1)
+read-field-returns-3 t c = field-closed t (c .before .before .before .before .before) .goes (c .before .before .before .enum-told .given .1)
 
 -- the classes that are left stand, and the walk is what was read and then these
 abbrev walk-Inv-loop : walk-lts.InvT-loop
@@ -435,38 +472,76 @@ walk-same-length-4 t c = part-length (c .before .loop .inv .1 .part)
 walk-returns-4 : (t : ℕ) → In-walk t walk-lts.Need-returns-4
 walk-returns-4 t c = walk-end (c .before .loop .inv .1) (fields-end _ _ _ _ _ _ (c .loop-test .left))
 
-pub +read-field+walk-spec : {M : Type 1} → statement M
-+read-field+walk-spec =
-    close μ-read-field μ-walk (λ t. read-field-lts.spec (read-field-calls t)
+-- walk_elements: both walks, where each field is of the same class
+abbrev walk-elements-calls : ℕ → walk-elements-lts.Claims
+walk-elements-calls t = (walk-below t, walk.Post)
+
+abbrev In-elements : (t : ℕ)
+    → (walk-elements-lts.Claims → In 6 walk-elements-kinds.ps → Out 6 walk-elements-kinds.ps walk-elements-kinds.r → Type 0) → Type 0
+In-elements t N = N (walk-elements-calls t) (walk-elements-at t) walk-elements.Post
+
+walk-elements-walk-requires : (t : ℕ) → In-elements t walk-elements-lts.Need-walk-requires
+unfolding wholeFields
+walk-elements-walk-requires t c κs = let p = c .before .before .before .before .before .before .before .pre in (omega (arith, p .0), p .1)
+
+walk-elements-returns : (t : ℕ) → In-elements t walk-elements-lts.Need-returns
+unfolding readFields
+walk-elements-returns t c = c .before .before .walk .ensures
+
+-- walk_members: both walks, where each class stands behind the last
+abbrev walk-members-calls : ℕ → walk-members-lts.Claims
+walk-members-calls t = (walk-below t, walk.Post)
+
+abbrev In-members : (t : ℕ)
+    → (walk-members-lts.Claims → In 6 walk-members-kinds.ps → Out 6 walk-members-kinds.ps walk-members-kinds.r → Type 0) → Type 0
+In-members t N = N (walk-members-calls t) (walk-members-at t) walk-members.Post
+
+walk-members-walk-requires : (t : ℕ) → In-members t walk-members-lts.Need-walk-requires
+unfolding wholeFields
+walk-members-walk-requires t c κs = let p = c .before .before .before .before .before .before .before .pre in (omega (arith, p .0), p .1)
+
+walk-members-returns : (t : ℕ) → In-members t walk-members-lts.Need-returns
+unfolding readFields
+walk-members-returns t c = c .before .before .walk .ensures
+
+pub +read-field+walk+walk-elements+walk-members-spec : {M : Type 1} → statement M
++read-field+walk+walk-elements+walk-members-spec =
+    close μ-read-field μ-walk μ-walk-elements μ-walk-members (λ t. read-field-lts.spec (read-field-calls t)
     (read-field-at t)
     read-field.Post
     (read-field-slot-read-requires t)
     (λ c. omega arith)
     (λ c. omega arith)
-    (read-field-look-requires t)
-    (λ c κs. search needs)
-    (λ c. search needs)
-    (λ c κs. search needs)
-    (λ c. search needs)
     (read-field-shared-slice-read-wide64 t)
     (λ c κs. search needs)
+    (read-field-look-requires t)
+    (λ c. search needs)
+    (λ c κs. search needs)
+    (read-field-returns t)
+    (λ c. search needs)
     (read-field-enter-requires t)
-    (read-field-sub-walk t)
-    (read-field-sub-walk-2 t)
-    (read-field-part-walk-start t)
+    (read-field-sub-walk-members t)
+    (read-field-sub-walk-members-2 t)
+    (read-field-part-walk-members-start t)
     (λ c. omega arith)
-    (read-field-walk-requires t)
+    (read-field-walk-members-requires t)
+    (λ c. search needs)
+    (read-field-enter-requires-2 t)
+    (read-field-sub-walk-elements t)
+    (read-field-sub-walk-elements-2 t)
+    (read-field-part-walk-elements-start t)
+    (λ c. omega arith)
+    (read-field-walk-elements-requires t)
     (λ c. search needs)
     (read-field-add-stopped t)
     (λ c κs. search needs)
     (λ c. search needs)
-    (read-field-add-t52 t)
-    (read-field-returns t)
+    (read-field-add-t63 t)
     (read-field-same-length t)
     (read-field-returns-2 t)
     (read-field-same-length-2 t)
     (read-field-returns-3 t))
-    λ t. walk-lts.spec (walk-calls t)
+    (λ t. walk-lts.spec (walk-calls t)
     (walk-at t)
     walk.Post
     walk-Inv-loop
@@ -516,4 +591,8 @@ pub +read-field+walk-spec : {M : Type 1} → statement M
     (walk-loop-less-3 t)
     (walk-loop-again-3 t)
     (walk-same-length-4 t)
-    (walk-returns-4 t)
+    (walk-returns-4 t))
+    (λ t. walk-elements-lts.spec (walk-elements-calls t) (walk-elements-at t) walk-elements.Post
+    (walk-elements-walk-requires t) (λ c. search needs) (walk-elements-returns t))
+    λ t. walk-members-lts.spec (walk-members-calls t) (walk-members-at t) walk-members.Post
+    (walk-members-walk-requires t) (λ c. search needs) (walk-members-returns t)

@@ -1,15 +1,11 @@
--- The fields inside a field: n of them from a byte of the table on, of classes that stand one behind the other, or again and again of the
--- class there. They may have d depths.
+-- Both walks as one: n fields from a byte of the table on, of classes that stand one behind the other, or again and again of the class there.
+-- They may have d depths.
 use Prim.Native.Nat.{ℕ}
 use mathlib.Core.List.{List}
 use mathlib.Core.Bool.{Bool, true, false}
 use Rattle.rules.specs.Step.{Step}
 use Rattle.rules.specs.Field.{Env, read, readMembers, times}
 use Rattle.classes.specs.Trees.{stoodAt, classAt, membersAt, whole, wholeMembers}
-use Rattle.inside.specs.declared.look.Inside.{Inside}
-use Rattle.inside.specs.declared.look.Inside.the-variants.{Members, Elements, Refused as NotTold}
-use Rattle.fields.specs.declared.walk.Holding.{Holding}
-use Rattle.fields.specs.declared.walk.Holding.the-variants.{Fields, Refused}
 
 unfoldable pub readFields : Bool → ℕ → List ℕ → ℕ → ℕ → Env → Step
 readFields false d t at n e = readMembers e (membersAt (stoodAt d t) at n)
@@ -24,9 +20,3 @@ wholeFields true d t at n = whole d t at
 unfoldable pub onward : Bool → ℕ → ℕ → ℕ
 onward false at next = next
 onward true at next = at
-
--- what is told of members and elements, as one
-unfoldable pub holdingOf : Inside → Holding
-holdingOf (Members p v at n) = Fields p v at n false
-holdingOf (Elements p v at n) = Fields p v at n true
-holdingOf (NotTold r) = Refused r
