@@ -11,6 +11,13 @@ use rules::Order;
 mod readings;
 
 fn main() {
+    say_numbers();
+    say_clocks();
+    say_places();
+    say_readings();
+}
+
+fn say_numbers() {
     say_bits(b"12 bits twice, little:", Order::Little);
     say_bits(b"12 bits twice, big:", Order::Big);
     say(b"E5 8E 26 unsigned:");
@@ -19,6 +26,9 @@ fn main() {
     say_signed(leb128::signed(b"\xC0\xBB\x78", ByteLength(0), ByteLength(3)));
     say(b"80 00 unsigned:");
     say_unsigned(leb128::unsigned(b"\x80\x00", ByteLength(0), ByteLength(2)));
+}
+
+fn say_clocks() {
     say(b"clock 250, L 8, stamp 5:");
     say_clock(Clock { value: 250 }.after(5, 8));
     say(b"clock 261, L 8, stamp 5:");
@@ -27,6 +37,9 @@ fn main() {
     say_clock(Clock { value: 5 }.after(4, 64));
     say(b"clock 5, L 70, stamp 4:");
     say_clock(Clock { value: 5 }.after(4, 70));
+}
+
+fn say_places() {
     say(b"offset 1 aligned to 8:");
     say_place(places::align(BitPlace(1), BitPlace(0), 3));
     say(b"offset 8 aligned to 8:");
@@ -34,7 +47,6 @@ fn main() {
     say(b"four bits 1000 signed:");
     say_integer(bits::sign_extend(8, 4));
     end_line();
-    say_readings();
 }
 
 // The figure's bytes, AB CD EF, as two numbers of 12 bits.
