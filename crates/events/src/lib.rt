@@ -3,6 +3,7 @@ use event::read_event;
 use finding::Frame;
 use listing::State;
 use listing::Went;
+use listing::at_place;
 use listing::entry::write;
 use parts::Ran;
 use parts::stopped;
@@ -12,12 +13,11 @@ use rules::Refusal;
 use rules::Slot;
 use rules::Stop;
 use turns::Asking;
-ghost use mathlib.Core.Path.{_≡_};
 ghost use Prim.Native.Nat.{_-_, _≤_};
 ghost use lib.ListN.{length};
 ghost use Rattle.rules.specs.Packet.{readEvents};
 ghost use Rattle.finding.specs.Framed.{Framed, envOf};
-ghost use Rattle.listing.specs.Did.{full, atPlace};
+ghost use Rattle.listing.specs.Did.{full};
 ghost use Rattle.classes.specs.Notes.{notes};
 ghost use Rattle.classes.specs.Fragments.{streamClassAt, askedAt};
 ghost use Rattle.parts.specs.Ran.{RanDid};
@@ -105,22 +105,6 @@ pub fn read_events(
     Ran {
         went: Went::On,
         used: used + 4,
-        state: ended(to, state),
-    }
-}
-
-// The state behind the packet's padding.
-fn ended(to: BitPlace, st: State) -> State
-    ensures { λ r. ⌜ r ≡ atPlace to st ⌝ }
-{
-    let order = st.order;
-    let clock = st.clock;
-    let said = st.said;
-    State {
-        place: to,
-        order,
-        clock,
-        last: st.last,
-        said,
+        state: at_place(to, state),
     }
 }

@@ -10,30 +10,26 @@ use bykind::read_leaf;
 use bytes::size_at;
 use bytes::wide64;
 use finding::Frame;
+use inside::enter;
 use inside::look::Inside;
 use inside::look::look;
 use inside::look::slot_read;
 use listing::State;
 use listing::Went;
-use listing::entry;
 use rules::BitPlace;
 use rules::Content;
-use rules::Entry;
 use rules::Refusal;
 use rules::Slot;
 use rules::Stop;
 ghost use mathlib.Core.Path.{_≡_};
-ghost use mathlib.Core.List.{[], _∷_, _++_};
 ghost use Prim.Native.Nat.{_+_, _≤_, _<_};
-ghost use lib.ListN.{length, drop, getD};
+ghost use lib.ListN.{length, getD};
 ghost use Rattle.rules.specs.Record.{u8};
-ghost use Rattle.rules.specs.Entry.{words};
 ghost use Rattle.rules.specs.Verdict.{stopAt};
 ghost use Rattle.rules.specs.Field.{read, readMembers, times};
 ghost use Rattle.finding.specs.Framed.{Framed, envOf};
 ghost use Rattle.classes.specs.Trees.{whole, wholeMembers, stoodAt, classAt, membersAt};
 ghost use Rattle.classes.specs.Notes.{notes, Prepared};
-ghost use Rattle.listing.specs.Did.{atPlace};
 ghost use Rattle.fields.specs.Reads.{FieldReads, stoppedField};
 ghost use Rattle.fields.specs.Both.{readFields, wholeFields, onward};
 
@@ -325,33 +321,6 @@ fn onward(sizes: &[u16], at: usize, again: bool) -> usize
         return at;
     }
     at + size_at(sizes, at)
-}
-
-// The entry of a field that holds fields: it has no bits of its own. Gives the state at the field's place.
-fn enter(kind: u64, place: BitPlace, value: u64, st: State, list: &mut [u64]) -> State
-    requires { ⌜ 4 ≤ length (now list) ⌝ }
-    ensures { λ r. ⌜ r ≡ atPlace place st ⌝ }
-    ensures { λ _. ⌜ now (list .exit) ≡ words (record { kind = kind; place = place; bits = 0; value = value } ∷ []) ++ drop 4 (now (list .entry)) ⌝ }
-{
-    entry::write(
-        list,
-        Entry {
-            kind,
-            place,
-            bits: 0,
-            value,
-        },
-    );
-    let order = st.order;
-    let clock = st.clock;
-    let said = st.said;
-    State {
-        place,
-        order,
-        clock,
-        last: st.last,
-        said,
-    }
 }
 
 // What stopped at a place.

@@ -1,10 +1,12 @@
 // What a step of a reading lists, and the state that it hands on. In order: entry, the one place where the list is written; role, what a
-// role does with a number.
+// role does with a number; the state, which may move to a place.
 use clock::Clock;
 use rules::BitPlace;
 use rules::LastOrder;
 use rules::Said;
 use rules::Stop;
+ghost use mathlib.Core.Path.{_≡_};
+ghost use Rattle.listing.specs.Did.{atPlace};
 
 pub mod entry;
 pub mod role;
@@ -22,4 +24,20 @@ pub struct State {
 pub enum Went {
     On,
     Stopped(Stop),
+}
+
+// The same state at a place.
+pub fn at_place(place: BitPlace, st: State) -> State
+    ensures { λ r. ⌜ r ≡ atPlace place st ⌝ }
+{
+    let order = st.order;
+    let clock = st.clock;
+    let said = st.said;
+    State {
+        place,
+        order,
+        clock,
+        last: st.last,
+        said,
+    }
 }

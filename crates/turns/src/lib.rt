@@ -3,6 +3,7 @@
 use classes::Found;
 use contradictions::went_back;
 use finding::Frame;
+use inside::enter;
 use inside::look::Inside;
 use inside::look::look;
 use listing::State;
@@ -213,27 +214,10 @@ fn open_root(
                         from,
                         count,
                     } => {
-                        write(
-                            list,
-                            Entry {
-                                kind: STRUCTURE as u64,
-                                place,
-                                bits: 0,
-                                value,
-                            },
-                        );
-                        let order = st.order;
-                        let clock = st.clock;
-                        let said = st.said;
+                        let state = enter(STRUCTURE as u64, place, value, st, list);
                         Opened {
                             used: 4,
-                            state: State {
-                                place,
-                                order,
-                                clock,
-                                last: st.last,
-                                said,
-                            },
+                            state,
                             from,
                             count,
                             left: DEPTH_LIMIT - 1,

@@ -6,7 +6,7 @@ use Rattle.events.proofs.read_events.Lts as lts
 use Rattle.listing.proofs.entry.write.Reads as write-reads
 use Rattle.event.proofs.read_event.Reads as read-event-reads
 use Rattle.parts.proofs.stopped.Reads as stopped-reads
-use Rattle.events.proofs.ended.Reads as ended-reads
+use Rattle.listing.proofs.at_place.Reads as at-place-reads
 use borrow.Author.Needs.{needs}
 use mathlib.Core.Path.{_∙_}
 use native.Mathlib.Omega.{arith}
@@ -109,15 +109,15 @@ write-requires c κs = omega (arith, lent-room (c .before .before .before .befor
 add-t27 : tie.Need-add-t27 Inv-loop μ-loop
 add-t27 c = let w = c .before .before .before .before .before .before .before .before .before .before .before .loop .inv in omega (arith, c .before .before .before .before .before .before .if2 .left, part-length (w .part), w .part .room, c .before .before .before .before .before .before .before .before .before .before .before .before .before .before .before .before .before .before .before .good .1 .1 .1 .1 .1 .1 .1 .1 .1 .1 .1 .0)
 
-ended-requires : tie.Need-ended-requires Inv-loop μ-loop
-ended-requires c κs = search needs
+at-place-requires : tie.Need-at-place-requires Inv-loop μ-loop
+at-place-requires c κs = search needs
 
 same-length-3 : tie.Need-same-length-3 Inv-loop μ-loop
 same-length-3 c = let l = c .before .before .before .before .before .before .before .before .before .before .before .before .loop in same-len-mid (l .used) (length (l .list) - l .used) (l .list) (c .before .before .before .write .last .0) (c .before .before .before .write .kept .0) ∙ part-length (l .inv .part)
 
 returns-3 : tie.Need-returns-3 Inv-loop μ-loop
 returns-3 c = let a = c .before .before .before .before .before .before .before .before .before .before .before .before .before .before .before .before .before .before .before .before .args in let t = a .table .now in let k = streamClassAt t (a .with .class) in let w = c .before .before .before .before .before .before .before .before .before .before .before .before .loop .inv in let o = readEvents (askedAt t) k (envOf (a .stream .now) (a .uuid .now) (a .frame)) (a .to) 0 (a .frame .bound .0 - a .st .place .0) (full (a .st) (a .slots) (length (a .list .now))) in
-    rw (c .ended .ensures) (end-listed (askedAt t) k (a .stream .now) (a .uuid .now) (a .frame) (a .to) o (a .slots) w (c .before .before .before .before .before .before .before .before .before .if1 .left) (a .st) _ (c .before .before .before .before .before .before .before .if2 .left) (c .before .before .before .write .ensures))
+    rw (c .at-place .ensures) (end-listed (askedAt t) k (a .stream .now) (a .uuid .now) (a .frame) (a .to) o (a .slots) w (c .before .before .before .before .before .before .before .before .before .if1 .left) (a .st) _ (c .before .before .before .before .before .before .before .if2 .left) (c .before .before .before .write .ensures))
 
 pub read-events-spec : {M : Type 1} → statement M
 read-events-spec =
@@ -151,6 +151,6 @@ read-events-spec =
     sub-t36
     write-requires
     add-t27
-    ended-requires
+    at-place-requires
     same-length-3
     returns-3)

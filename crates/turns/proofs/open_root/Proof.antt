@@ -5,8 +5,8 @@ use Rattle.turns.proofs.open_root.Tie as tie
 use Rattle.turns.proofs.open_root.Reads as reads
 use Rattle.turns.proofs.open_root.Lts as lts
 use Rattle.turns.proofs.unopened.Reads as unopened-reads
+use Rattle.inside.proofs.enter.Reads as enter-reads
 use Rattle.inside.proofs.look.look.Reads as look-reads
-use Rattle.listing.proofs.entry.write.Reads as write-reads
 use Rattle.rules.specs.Record.{u8}
 use Rattle.turns.proofs.Lefts.{left-no-room, left-other, left-elements, left-refused}
 use Rattle.turns.proofs.Openings.{none-opened, one-opened, root-within, root-looks, root-entered}
@@ -48,14 +48,14 @@ look-requires c κs =
 enum-known-place : tie.Need-enum-known-place
 enum-known-place c = search needs
 
-cast-t27 : tie.Need-cast-t27
-cast-t27 c = search needs
+cast-enter : tie.Need-cast-enter
+cast-enter c = search needs
 
-write-requires : tie.Need-write-requires
-write-requires c κs = search needs
+enter-requires : tie.Need-enter-requires
+enter-requires c κs = search needs
 
-sub-t30 : tie.Need-sub-t30
-sub-t30 c = search needs
+sub-t25 : tie.Need-sub-t25
+sub-t25 c = search needs
 
 enum-told-2 : tie.Need-enum-told-2
 enum-told-2 c = search needs
@@ -75,12 +75,13 @@ same-length c = search needs
 returns-2 : tie.Need-returns-2
 unfolding u8
 returns-2 c =
-    let written = c .before .before .before .before in
-    let looked = written .before .before .before .before .before in
+    let entered = c .before .before in
+    let told = entered .before .before .before in
+    let looked = told .before .before in
     let root = looked .before .before .before .before .before in
     let s = root .before .before .before .before .before .before in
-    root-entered _ _ _ _ _ _ _ (root .root .given .1) (s .pre .0) (s .pre .1 .0) (looked .before .if2 .taken) (looked .before .before .before .if1 .left)
-    (looked .look .ensures) (written .before .before .before .place .given .1) (written .write .ensures)
+    rw (entered .enter .ensures .0) (root-entered _ _ _ _ _ _ _ (root .root .given .1) (s .pre .0) (s .pre .1 .0) (looked .before .if2 .taken)
+    (looked .before .before .before .if1 .left) (looked .look .ensures) (told .place .given .1) (entered .enter .ensures .1))
 
 returns-3 : tie.Need-returns-3
 unfolding u8
@@ -125,9 +126,9 @@ open-root-spec =
     shared-slice-read-if2
     look-requires
     enum-known-place
-    cast-t27
-    write-requires
-    sub-t30
+    cast-enter
+    enter-requires
+    sub-t25
     enum-told-2
     unopened-requires-3
     enum-told-3

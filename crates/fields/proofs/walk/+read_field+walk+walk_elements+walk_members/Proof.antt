@@ -19,10 +19,10 @@ use Rattle.fields.proofs.walk.+read_field+walk+walk_elements+walk_membe
 use Rattle.bytes.proofs.wide64.Reads as wide64-reads
 use Rattle.bykind.proofs.leaf_slot.Reads as leaf-slot-reads
 use Rattle.bykind.proofs.read_leaf.Reads as read-leaf-reads
-use Rattle.fields.proofs.walk.enter.Reads as enter-reads
 use Rattle.fields.proofs.walk.onward.Reads as onward-reads
 use Rattle.fields.proofs.walk.refused.Reads as refused-reads
 use Rattle.fields.proofs.walk.stopped.Reads as stopped-reads
+use Rattle.inside.proofs.enter.Reads as enter-reads
 use Rattle.inside.proofs.look.look.Reads as look-reads
 use Rattle.inside.proofs.look.slot_read.Reads as slot-read-reads
 use Rattle.fields.proofs.walk.+read_field+walk+walk_elements+walk_members.{statement}
