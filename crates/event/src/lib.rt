@@ -10,16 +10,20 @@ use listing::State;
 use listing::Went;
 use listing::entry::write;
 use parts::Ran;
+use parts::refused;
 use parts::stopped;
 use rules::Content;
 use rules::Entry;
 use rules::Refusal;
 use rules::Said;
 use rules::Slot;
-use rules::Stop;
 use turns::Asking;
 use turns::open_turn;
 ghost use mathlib.Core.Path.{_≡_};
+ghost use mathlib.Core.List.{[], _∷_, _++_};
+ghost use Prim.Native.Nat.{_≤_};
+ghost use lib.ListN.{length, drop};
+ghost use Rattle.rules.specs.Entry.{entry, words, eventStarts};
 ghost use Rattle.rules.specs.Slots.{packetSlots};
 ghost use Rattle.rules.specs.Packet.{readEvent};
 ghost use Rattle.finding.specs.Framed.{Framed, envOf};
@@ -62,27 +66,9 @@ pub fn read_event(
         ⌝ }
 {
     if list.len() < 4 {
-        let place = begun.place;
-        return stopped(
-            Stop {
-                why: Refusal::ListFull,
-                place,
-            },
-            0,
-            begun,
-        );
+        return refused(Refusal::ListFull, begun.place, 0, begun);
     }
-    let place = begun.place;
-    write(
-        list,
-        Entry {
-            kind: EVENT_STARTS,
-            place,
-            bits: 0,
-            value: number,
-        },
-    );
-    let mut state = fresh(begun);
+    let mut state = begin(number, begun, list);
     let mut slots = event_slots(given);
     let mut used: usize = 4;
     let mut class: usize = 0;
@@ -108,24 +94,14 @@ pub fn read_event(
             }
             Went::On => {}
         }
-        let entered = o.state;
-        state = entered;
+        state = o.state;
         class = o.class;
         turn = turn + 1;
-        let left = o.left;
         let mut next = o.from;
         let mut todo = o.count;
         while 0 < todo {
             if list.len() - used < 4 {
-                let place = state.place;
-                return stopped(
-                    Stop {
-                        why: Refusal::ListFull, // 40, at the member's place
-                        place,
-                    },
-                    used,
-                    begun,
-                );
+                return refused(Refusal::ListFull, state.place, used, begun); // 40, at the member's place
             }
             if table[next] < FIRST_THAT_HOLDS {
                 let mut content = Content::Unset;
@@ -154,8 +130,7 @@ pub fn read_event(
                 }
                 next = next + size_at(sizes, next);
                 todo = todo - 1;
-                let changed = r.state;
-                state = changed;
+                state = r.state;
                 let to = r.slot as usize;
                 if to < 64 {
                     let content = r.content;
@@ -171,7 +146,7 @@ pub fn read_event(
                 stream,
                 frame,
                 next,
-                left,
+                o.left,
                 state,
                 slots,
                 &mut list[used..],
@@ -186,22 +161,12 @@ pub fn read_event(
             }
             next = next + size_at(sizes, next);
             todo = todo - 1;
-            let changed = r.state;
-            state = changed;
-            let held = r.slots;
-            slots = held;
+            state = r.state;
+            slots = r.slots;
         }
     }
     if state.place.0 == begun.place.0 {
-        let place = state.place;
-        return stopped(
-            Stop {
-                why: Refusal::EventTookNoBits,
-                place,
-            },
-            used,
-            begun,
-        );
+        return refused(Refusal::EventTookNoBits, state.place, used, begun);
     }
     Ran {
         went: Went::On,
@@ -210,11 +175,22 @@ pub fn read_event(
     }
 }
 
-// An event's id is 0 until its header says one.
-fn fresh(st: State) -> State
+// Entry 4, and the state behind it: an event's id is 0 until its header says one.
+fn begin(number: u64, st: State, list: &mut [u64]) -> State
+    requires { ⌜ 4 ≤ length (now list) ⌝ }
     ensures { λ r. ⌜ r ≡ startState st ⌝ }
+    ensures { λ _. ⌜ now (list .exit) ≡ words (entry eventStarts (st .place) 0 number ∷ []) ++ drop 4 (now (list .entry)) ⌝ }
 {
     let place = st.place;
+    write(
+        list,
+        Entry {
+            kind: EVENT_STARTS,
+            place,
+            bits: 0,
+            value: number,
+        },
+    );
     let order = st.order;
     let clock = st.clock;
     let said = st.said;

@@ -6,12 +6,12 @@ use listing::Went;
 use listing::at_place;
 use listing::entry::write;
 use parts::Ran;
+use parts::refused;
 use parts::stopped;
 use rules::BitPlace;
 use rules::Entry;
 use rules::Refusal;
 use rules::Slot;
-use rules::Stop;
 use turns::Asking;
 ghost use Prim.Native.Nat.{_-_, _≤_};
 ghost use lib.ListN.{length};
@@ -84,14 +84,7 @@ pub fn read_events(
     }
     let place = state.place;
     if list.len() - used < 4 {
-        return stopped(
-            Stop {
-                why: Refusal::ListFull,
-                place,
-            },
-            used,
-            st,
-        );
+        return refused(Refusal::ListFull, place, used, st);
     }
     write(
         &mut list[used..],

@@ -5,12 +5,12 @@ use Rattle.event.proofs.read_event.Reads as reads
 use Rattle.event.proofs.read_event.Lts as lts
 use Rattle.bytes.proofs.size_at.Reads as size-at-reads
 use Rattle.event.proofs.event_slots.Reads as event-slots-reads
-use Rattle.event.proofs.fresh.Reads as fresh-reads
+use Rattle.event.proofs.begin.Reads as begin-reads
 use Rattle.turns.proofs.open_turn.Reads as open-turn-reads
 use Rattle.bykind.proofs.leaf_slot.Reads as leaf-slot-reads
 use Rattle.bykind.proofs.read_leaf.Reads as read-leaf-reads
 use Rattle.fields.proofs.walk.read_field.Reads as read-field-reads
-use Rattle.listing.proofs.entry.write.Reads as write-reads
+use Rattle.parts.proofs.refused.Reads as refused-reads
 use Rattle.parts.proofs.stopped.Reads as stopped-reads
 use borrow.Author.Needs.{needs}
 use mathlib.Core.Path.{_≡_}
@@ -43,16 +43,16 @@ use Rattle.event.proofs.Turning.{turn-stops, turn-goes, turns-done, eve
 -- what is left is this.
 
 abbrev Inv-loop2 : tie.InvT-loop2
-Inv-loop2 table sizes aligns index uuid stream frame with number begun list₀ state₀ slots₀ used₀ class turn left next₀ todo₀ list state slots used next todo =
+Inv-loop2 table sizes aligns index uuid stream frame with number begun list₀ state₀ slots₀ used₀ class turn o next₀ todo₀ list state slots used next todo =
     let e = envOf stream uuid frame in
     let rest = turnsAt table with e class turn ⨾ moved begun in
-    wholeMembers (whole left table) (stoodAt left table) next todo
+    wholeMembers (whole (o .left) table) (stoodAt (o .left) table) next todo
     × ((M : Env → Step) (given : Slots) (ws : List ℕ)
-    → Walked (call stream uuid frame M begun given ws) (membersRead left table next₀ todo₀ e ⨾ rest) list₀ used₀ state₀ slots₀
-    → Walked (call stream uuid frame M begun given ws) (membersRead left table next todo e ⨾ rest) list used state slots)
+    → Walked (call stream uuid frame M begun given ws) (membersRead (o .left) table next₀ todo₀ e ⨾ rest) list₀ used₀ state₀ slots₀
+    → Walked (call stream uuid frame M begun given ws) (membersRead (o .left) table next todo e ⨾ rest) list used state slots)
 
 abbrev μ-loop2 : tie.MeasureT-loop2
-μ-loop2 table sizes aligns index uuid stream frame with number begun list₀ state₀ slots₀ used₀ class turn left next₀ todo₀ list state slots used next todo =
+μ-loop2 table sizes aligns index uuid stream frame with number begun list₀ state₀ slots₀ used₀ class turn o next₀ todo₀ list state slots used next todo =
     todo
 
 abbrev Inv-loop : tie.InvT-loop
@@ -72,6 +72,9 @@ abbrev μ-loop : tie.MeasureT-loop
 
 abbrev AtStart : Type 0
 AtStart = tie.Start Inv-loop2 μ-loop2 Inv-loop μ-loop
+
+abbrev AtBegun : Type 0
+AtBegun = tie.After-begin Inv-loop2 μ-loop2 Inv-loop μ-loop
 
 abbrev InFront : Type 0
 InFront = tie.After-event-slots Inv-loop2 μ-loop2 Inv-loop μ-loop
@@ -94,7 +97,10 @@ AtField = tie.After-read-field Inv-loop2 μ-loop2 Inv-loop μ-loop
 -- and the way back from each
 
 abbrev start : InFront → AtStart
-start c = c .before .before .before .before .before .before .before .before .before .before .before .before .before .before .before
+start c = c .before .before .before .before .before .before .before .before .before .before .before .before .before
+
+abbrev behind-start : InFront → AtBegun
+behind-start c = c .before .before .before
 
 abbrev in-front : AtTurn → InFront
 in-front c = c .before .before
@@ -132,17 +138,17 @@ given-many c = start c .good .1 .1 .1 .1 .1 .1 .1 .1 .1 .1 .0 .1 .0 .1
 start-walk : (c : InFront) →
     let a = start c .args in
     Walked (all c) (turnsAt (a .table .now) (a .with) (envOf (a .stream .now) (a .uuid .now) (a .frame)) 0 0 ⨾ moved (a .begun))
-    (c .before .before .before .before .write .last .0) 4 (c .before .fresh .result) (c .event-slots .result)
+    (behind-start c .begin .last .1 .1 .0) 4 (behind-start c .begin .result) (c .event-slots .result)
 start-walk c =
     let a = start c .args in
+    let b = behind-start c in
     let asked = askedAt (a .table .now) in
     let class = streamClassAt (a .table .now) (a .with .class) in
     event-begun (a .table .now) (a .with) (a .stream .now) (a .uuid .now) (a .frame) (event c) asked class (a .begun) (a .given) (a .list .now) _ _ _
     (given-many c)
     (started asked class (a .stream .now) (a .uuid .now) (a .frame) (a .number) (a .begun) (a .given) (a .list .now) _
-    (c .before .before .before .before .before .before .before .if1 .left) (given-many c) (start c .pre .1 .1)
-    (c .before .before .before .before .write .ensures))
-    (c .before .fresh .ensures) (c .event-slots .ensures) _
+    (b .before .before .if1 .left) (given-many c) (start c .pre .1 .1) (b .begin .ensures .1))
+    (b .begin .ensures .0) (c .event-slots .ensures) _
 
 -- a turn of the outer loop: what is left, whatever the event is a part of
 abbrev Outer : (c : AtTurn) → (Env → Step) → Slots → List ℕ → Type 0
@@ -290,20 +296,17 @@ ended c =
     let l = c .before .loop in
     turns-done (a .table .now) (a .with) (l .class) (l .turn) (a .begun) {w = all o} (c .loop-test .left) (l .inv .2 (event o) _ _ (start-walk o))
 
-stopped-requires : tie.Need-stopped-requires Inv-loop2 μ-loop2 Inv-loop μ-loop
-stopped-requires c κs = search needs
+refused-requires : tie.Need-refused-requires Inv-loop2 μ-loop2 Inv-loop μ-loop
+refused-requires c κs = search needs
 
 returns : tie.Need-returns Inv-loop2 μ-loop2 Inv-loop μ-loop
 returns c =
-    let a = c .before .before .before .before .before .before .before .before .before .before .args in
-    rw (c .stopped .ensures) (nothing-did _ _ _ _ _ (event-full (askedAt (a .table .now)) (streamClassAt (a .table .now) (a .with .class))
-    (envOf (a .stream .now) (a .uuid .now) (a .frame)) (a .number) (a .begun) (a .given) (length (a .list .now)) (c .before .before .if1 .taken)))
+    let a = c .before .before .before .before .before .before .before .before .before .args in
+    rw (c .refused .ensures) (nothing-did _ _ _ _ _ (event-full (askedAt (a .table .now)) (streamClassAt (a .table .now) (a .with .class))
+    (envOf (a .stream .now) (a .uuid .now) (a .frame)) (a .number) (a .begun) (a .given) (length (a .list .now)) (c .before .if1 .taken)))
 
-write-requires : tie.Need-write-requires Inv-loop2 μ-loop2 Inv-loop μ-loop
-write-requires c κs = c .before .before .if1 .left
-
-fresh-requires : tie.Need-fresh-requires Inv-loop2 μ-loop2 Inv-loop μ-loop
-fresh-requires c κs = search needs
+begin-requires : tie.Need-begin-requires Inv-loop2 μ-loop2 Inv-loop μ-loop
+begin-requires c κs = c .before .if1 .left
 
 event-slots-requires : tie.Need-event-slots-requires Inv-loop2 μ-loop2 Inv-loop μ-loop
 event-slots-requires c κs = search needs
@@ -337,8 +340,8 @@ add-used c =
 enum-known-went : tie.Need-enum-known-went Inv-loop2 μ-loop2 Inv-loop μ-loop
 enum-known-went c = search needs
 
-stopped-requires-2 : tie.Need-stopped-requires-2 Inv-loop2 μ-loop2 Inv-loop μ-loop
-stopped-requires-2 c κs = search needs
+stopped-requires : tie.Need-stopped-requires Inv-loop2 μ-loop2 Inv-loop μ-loop
+stopped-requires c κs = search needs
 
 same-length : tie.Need-same-length Inv-loop2 μ-loop2 Inv-loop μ-loop
 same-length c =
@@ -348,7 +351,7 @@ same-length c =
 returns-2 : tie.Need-returns-2 Inv-loop2 μ-loop2 Inv-loop μ-loop
 returns-2 c =
     let t = c .before .before .before .before .before .before .before in
-    rw (c .stopped2 .ensures) (turn-stops _ _ _ _ _ _ _ (outer (of-turn t)) (took t) _ (c .before .before .went .given .1))
+    rw (c .stopped .ensures) (turn-stops _ _ _ _ _ _ _ (outer (of-turn t)) (took t) _ (c .before .before .went .given .1))
 
 enum-told : tie.Need-enum-told Inv-loop2 μ-loop2 Inv-loop μ-loop
 enum-told c = search needs
@@ -376,17 +379,17 @@ loop-again c =
 sub-if2 : tie.Need-sub-if2 Inv-loop2 μ-loop2 Inv-loop μ-loop
 sub-if2 c = omega (arith, m-within c)
 
-stopped-requires-3 : tie.Need-stopped-requires-3 Inv-loop2 μ-loop2 Inv-loop μ-loop
-stopped-requires-3 c κs = search needs
+refused-requires-2 : tie.Need-refused-requires-2 Inv-loop2 μ-loop2 Inv-loop μ-loop
+refused-requires-2 c κs = search needs
 
 same-length-2 : tie.Need-same-length-2 Inv-loop2 μ-loop2 Inv-loop μ-loop
-same-length-2 c = part-length (inner (c .before .before .before) .part)
+same-length-2 c = part-length (inner (c .before .before) .part)
 
 returns-3 : tie.Need-returns-3 Inv-loop2 μ-loop2 Inv-loop μ-loop
 returns-3 c =
-    let m = c .before .before .before in
+    let m = c .before .before in
     let o = outside m in
-    rw (c .stopped3 .ensures) (event-stopped (all o) _ _ _ (turn-full (m-turn m (event o) _ _ (inner m)) (c .before .before .if2 .taken)))
+    rw (c .refused2 .ensures) (event-stopped (all o) _ _ _ (turn-full (m-turn m (event o) _ _ (inner m)) (c .before .if2 .taken)))
 
 shared-slice-read-if3 : tie.Need-shared-slice-read-if3 Inv-loop2 μ-loop2 Inv-loop μ-loop
 shared-slice-read-if3 c = m-within-table (c .before .before)
@@ -428,8 +431,8 @@ add-used-2 c = let r = c .before .before .before in omega (arith, leaf-here r .r
 enum-known-went-2 : tie.Need-enum-known-went-2 Inv-loop2 μ-loop2 Inv-loop μ-loop
 enum-known-went-2 c = search needs
 
-stopped-requires-4 : tie.Need-stopped-requires-4 Inv-loop2 μ-loop2 Inv-loop μ-loop
-stopped-requires-4 c κs = search needs
+stopped-requires-2 : tie.Need-stopped-requires-2 Inv-loop2 μ-loop2 Inv-loop μ-loop
+stopped-requires-2 c κs = search needs
 
 same-length-3 : tie.Need-same-length-3 Inv-loop2 μ-loop2 Inv-loop μ-loop
 same-length-3 c = leaf-here (c .before .before .before .before .before .before .before) .same
@@ -437,7 +440,7 @@ same-length-3 c = leaf-here (c .before .before .before .before .before .before .
 returns-4 : tie.Need-returns-4 Inv-loop2 μ-loop2 Inv-loop μ-loop
 returns-4 c =
     let r = c .before .before .before .before .before .before .before in
-    rw (c .stopped4 .ensures) (event-stopped (all (outside (of-leaf r))) _ _ _ (leaf-here r .stops _ (c .before .before .went2 .given .1)))
+    rw (c .stopped2 .ensures) (event-stopped (all (outside (of-leaf r))) _ _ _ (leaf-here r .stops _ (c .before .before .went2 .given .1)))
 
 enum-told-2 : tie.Need-enum-told-2 Inv-loop2 μ-loop2 Inv-loop μ-loop
 enum-told-2 c = search needs
@@ -516,8 +519,8 @@ add-used-3 c = let r = c .before .before .before in omega (arith, field-here r .
 enum-known-went-3 : tie.Need-enum-known-went-3 Inv-loop2 μ-loop2 Inv-loop μ-loop
 enum-known-went-3 c = search needs
 
-stopped-requires-5 : tie.Need-stopped-requires-5 Inv-loop2 μ-loop2 Inv-loop μ-loop
-stopped-requires-5 c κs = search needs
+stopped-requires-3 : tie.Need-stopped-requires-3 Inv-loop2 μ-loop2 Inv-loop μ-loop
+stopped-requires-3 c κs = search needs
 
 same-length-4 : tie.Need-same-length-4 Inv-loop2 μ-loop2 Inv-loop μ-loop
 same-length-4 c = field-here (c .before .before .before .before .before .before .before) .same
@@ -525,7 +528,7 @@ same-length-4 c = field-here (c .before .before .before .before .before .before 
 returns-5 : tie.Need-returns-5 Inv-loop2 μ-loop2 Inv-loop μ-loop
 returns-5 c =
     let r = c .before .before .before .before .before .before .before in
-    rw (c .stopped5 .ensures) (event-stopped (all (outside (of-field r))) _ _ _ (field-here r .stops _ (c .before .before .went3 .given .1)))
+    rw (c .stopped3 .ensures) (event-stopped (all (outside (of-field r))) _ _ _ (field-here r .stops _ (c .before .before .went3 .given .1)))
 
 enum-told-3 : tie.Need-enum-told-3 Inv-loop2 μ-loop2 Inv-loop μ-loop
 enum-told-3 c = search needs
@@ -554,15 +557,15 @@ loop2-again-3 c =
     rw (c .before .before .size-at2 .ensures .0, next)
     (m-first m .rest, λ M given ws h. field r M given ws (m .before .loop2 .inv .1 M given ws h) .goes (c .before .before .before .enum-told3 .given .1))
 
-stopped-requires-6 : tie.Need-stopped-requires-6 Inv-loop2 μ-loop2 Inv-loop μ-loop
-stopped-requires-6 c κs = search needs
+refused-requires-3 : tie.Need-refused-requires-3 Inv-loop2 μ-loop2 Inv-loop μ-loop
+refused-requires-3 c κs = search needs
 
 same-length-5 : tie.Need-same-length-5 Inv-loop2 μ-loop2 Inv-loop μ-loop
-same-length-5 c = part-length (ended (c .before .before .before .before .before))
+same-length-5 c = part-length (ended (c .before .before .before .before))
 
 returns-6 : tie.Need-returns-6 Inv-loop2 μ-loop2 Inv-loop μ-loop
 returns-6 c =
-    rw (c .stopped6 .ensures) (left-stops _ _ _ _ (ended (c .before .before .before .before .before)) _ (not-moved _ _ _ _ (c .before .before .if6 .taken)))
+    rw (c .refused3 .ensures) (left-stops _ _ _ _ (ended (c .before .before .before .before)) _ (not-moved _ _ _ _ (c .before .if6 .taken)))
 
 same-length-6 : tie.Need-same-length-6 Inv-loop2 μ-loop2 Inv-loop μ-loop
 same-length-6 c = part-length (ended (c .before .before .before))
@@ -573,7 +576,7 @@ returns-7 c =
     let a = start o .args in
     let p = start o .pre in
     event-done (askedAt (a .table .now)) (streamClassAt (a .table .now) (a .with .class)) (a .with .id) (envOf (a .stream .now) (a .uuid .now) (a .frame))
-    (p .0 .keeps) (p .1 .0 .found) (a .number) (a .begun) (a .given) (o .before .before .before .before .before .before .before .if1 .left) (given-many o)
+    (p .0 .keeps) (p .1 .0 .found) (a .number) (a .begun) (a .given) (behind-start o .before .before .if1 .left) (given-many o)
     (ended (c .before .before .before)) (c .if6 .left)
 
 pub read-event-spec : {M : Type 1} → statement M
@@ -584,10 +587,9 @@ read-event-spec =
     μ-loop2
     Inv-loop
     μ-loop
-    stopped-requires
+    refused-requires
     returns
-    write-requires
-    fresh-requires
+    begin-requires
     event-slots-requires
     loop-holds
     mul-open-turn
@@ -597,7 +599,7 @@ read-event-spec =
     open-turn-requires
     add-used
     enum-known-went
-    stopped-requires-2
+    stopped-requires
     same-length
     returns-2
     enum-told
@@ -606,7 +608,7 @@ read-event-spec =
     loop-less
     loop-again
     sub-if2
-    stopped-requires-3
+    refused-requires-2
     same-length-2
     returns-3
     shared-slice-read-if3
@@ -620,7 +622,7 @@ read-event-spec =
     read-leaf-requires
     add-used-2
     enum-known-went-2
-    stopped-requires-4
+    stopped-requires-2
     same-length-3
     returns-4
     enum-told-2
@@ -641,7 +643,7 @@ read-event-spec =
     read-field-requires
     add-used-3
     enum-known-went-3
-    stopped-requires-5
+    stopped-requires-3
     same-length-4
     returns-5
     enum-told-3
@@ -650,7 +652,7 @@ read-event-spec =
     sub-todo-2
     loop2-less-3
     loop2-again-3
-    stopped-requires-6
+    refused-requires-3
     same-length-5
     returns-6
     same-length-6

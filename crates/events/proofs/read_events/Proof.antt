@@ -5,6 +5,7 @@ use Rattle.events.proofs.read_events.Reads as reads
 use Rattle.events.proofs.read_events.Lts as lts
 use Rattle.listing.proofs.entry.write.Reads as write-reads
 use Rattle.event.proofs.read_event.Reads as read-event-reads
+use Rattle.parts.proofs.refused.Reads as refused-reads
 use Rattle.parts.proofs.stopped.Reads as stopped-reads
 use Rattle.listing.proofs.at_place.Reads as at-place-reads
 use borrow.Author.Needs.{needs}
@@ -78,15 +79,15 @@ loop-again c = let a = c .before .before .before .before .before .before .before
 sub-if2 : tie.Need-sub-if2 Inv-loop μ-loop
 sub-if2 c = let w = c .before .before .before .before .loop .inv in omega (arith, part-length (w .part), w .part .room, c .before .before .before .before .before .before .before .before .before .before .before .before .good .1 .1 .1 .1 .1 .1 .1 .1 .1 .1 .1 .0)
 
-stopped-requires-2 : tie.Need-stopped-requires-2 Inv-loop μ-loop
-stopped-requires-2 c κs = search needs
+refused-requires : tie.Need-refused-requires Inv-loop μ-loop
+refused-requires c κs = search needs
 
 same-length-2 : tie.Need-same-length-2 Inv-loop μ-loop
 same-length-2 c = part-length (c .before .before .before .before .before .before .loop .inv .part)
 
 returns-2 : tie.Need-returns-2 Inv-loop μ-loop
 returns-2 c = let a = c .before .before .before .before .before .before .before .before .before .before .before .before .before .before .args in let t = a .table .now in let k = streamClassAt t (a .with .class) in let w = c .before .before .before .before .before .before .loop .inv in let o = readEvents (askedAt t) k (envOf (a .stream .now) (a .uuid .now) (a .frame)) (a .to) 0 (a .frame .bound .0 - a .st .place .0) (full (a .st) (a .slots) (length (a .list .now))) in
-    rw (c .stopped2 .ensures) (end-full (askedAt t) k (a .stream .now) (a .uuid .now) (a .frame) (a .to) o (a .slots) w (c .before .before .before .if1 .left) (a .st) (c .before .if2 .taken))
+    rw (c .refused .ensures) (end-full (askedAt t) k (a .stream .now) (a .uuid .now) (a .frame) (a .to) o (a .slots) w (c .before .before .before .if1 .left) (a .st) (c .before .if2 .taken))
 
 mul-write : tie.Need-mul-write Inv-loop μ-loop
 mul-write c = let w = c .before .before .before .before .before .loop .inv in omega (arith, part-length (w .part), w .part .room, c .before .before .before .before .before .before .before .before .before .before .before .before .before .good .1 .1 .1 .1 .1 .1 .1 .1 .1 .1 .1 .0)
@@ -100,8 +101,8 @@ part-write-start c = let w = c .before .before .before .before .before .loop .in
 part-write-end : tie.Need-part-write-end Inv-loop μ-loop
 part-write-end c = omega arith
 
-sub-t36 : tie.Need-sub-t36 Inv-loop μ-loop
-sub-t36 c = let w = c .before .before .before .before .before .before .before .before .loop .inv in omega (arith, w .framed .within, c .before .before .before .before .before .before .before .before .before .before .before .before .before .before .before .before .pre .1 .1 .1)
+sub-t35 : tie.Need-sub-t35 Inv-loop μ-loop
+sub-t35 c = let w = c .before .before .before .before .before .before .before .before .loop .inv in omega (arith, w .framed .within, c .before .before .before .before .before .before .before .before .before .before .before .before .before .before .before .before .pre .1 .1 .1)
 
 write-requires : tie.Need-write-requires Inv-loop μ-loop
 write-requires c κs = omega (arith, lent-room (c .before .before .before .before .before .before .before .before .loop .used) (c .before .before .before .before .before .before .before .before .loop .list), c .before .before .before .if2 .left)
@@ -141,14 +142,14 @@ read-events-spec =
     loop-less
     loop-again
     sub-if2
-    stopped-requires-2
+    refused-requires
     same-length-2
     returns-2
     mul-write
     sub-write
     part-write-start
     part-write-end
-    sub-t36
+    sub-t35
     write-requires
     add-t27
     at-place-requires
