@@ -1,6 +1,7 @@
 // The static library for hosts in C: a table's check and a stream's reading, each for every input the rules' own answer. Nothing is kept
 // between calls. What a caller lends, and what it must see to, is in include/trevoskel.h.
 use reader::read;
+use results::write;
 use rules::ByteLength;
 use rules::Checked;
 use table::check;
@@ -9,7 +10,8 @@ ghost use mathlib.Core.List.{[], _∷_};
 ghost use lib.ListN.{length};
 ghost use Rattle.rules.specs.Parse.{checked, checkedNumber};
 ghost use Rattle.rules.specs.Read.{readAll, resultOf, listAfter};
-ghost use Rattle.trevoskel.specs.Words.{checkedWords, resultWords, written};
+ghost use Rattle.results.specs.Written.{written};
+ghost use Rattle.trevoskel.specs.Words.{checkedWords, resultWords};
 
 // Whether a class table is sound: 0 accepted, or the number that refuses it. The result gets the number and a byte: the table's length, or
 // where the record at fault begins.
@@ -61,15 +63,4 @@ fn answer_check(number: u8, byte: ByteLength, result: &mut [u64]) -> u32
     let words = [number as u64, byte.0 as u64];
     write(&words, result);
     number as u32
-}
-
-// Writes as many of the words as the result has room for.
-fn write(words: &[u64], result: &mut [u64])
-    ensures { λ _. ⌜ now (result .exit) ≡ written (now (words .entry)) (now (result .entry)) ⌝ }
-{
-    let mut i = 0;
-    while i < words.len() && i < result.len() {
-        result[i] = words[i];
-        i += 1;
-    }
 }

@@ -3,7 +3,7 @@ use Rattle.contents.proofs.asking.Statement.{statement}
 use Rattle.contents.proofs.asking.Tie as tie
 use Rattle.contents.proofs.asking.Reads as reads
 use Rattle.contents.proofs.asking.Lts as lts
-use Rattle.lookups.proofs.root_place.Reads as root-place-reads
+use Rattle.sites.proofs.root_place.Reads as root-place-reads
 use mathlib.Core.Path.{refl}
 use native.Mathlib.Omega.{arith}
 use Rattle.rules.specs.Record.{u8}

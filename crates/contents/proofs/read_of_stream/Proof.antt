@@ -4,7 +4,7 @@ use Rattle.contents.proofs.read_of_stream.Statement.{statement}
 use Rattle.contents.proofs.read_of_stream.Tie as tie
 use Rattle.contents.proofs.read_of_stream.Reads as reads
 use Rattle.contents.proofs.read_of_stream.Lts as lts
-use Rattle.lookups.proofs.root_place.Reads as root-place-reads
+use Rattle.sites.proofs.root_place.Reads as root-place-reads
 use Rattle.parts.proofs.stopped.Reads as stopped-reads
 use Rattle.contradictions.proofs.or_else.Reads as or-else-reads
 use Rattle.contents.proofs.read_content.Reads as read-content-reads

@@ -5,8 +5,8 @@ use Rattle.reader.proofs.read_prepared.Tie as tie
 use Rattle.reader.proofs.read_prepared.Reads as reads
 use Rattle.reader.proofs.read_prepared.Lts as lts
 use Rattle.lookups.proofs.find_trace_class.Reads as find-trace-class-reads
-use Rattle.lookups.proofs.root_place.Reads as root-place-reads
-use Rattle.lookups.proofs.uuid_place.Reads as uuid-place-reads
+use Rattle.sites.proofs.root_place.Reads as root-place-reads
+use Rattle.sites.proofs.uuid_place.Reads as uuid-place-reads
 use Rattle.answers.proofs.answer.Reads as answer-reads
 use Rattle.packets.proofs.read_packets.Reads as read-packets-reads
 use native.Mathlib.Omega.{arith}

@@ -3,7 +3,7 @@ use Rattle.turns.proofs.root_of.Statement.{statement}
 use Rattle.turns.proofs.root_of.Tie as tie
 use Rattle.turns.proofs.root_of.Reads as reads
 use Rattle.turns.proofs.root_of.Lts as lts
-use Rattle.lookups.proofs.root_place.Reads as root-place-reads
+use Rattle.sites.proofs.root_place.Reads as root-place-reads
 use mathlib.Core.Path.{_≡_, refl}
 use Prim.Native.Nat.{ℕ, zero, suc}
 use mathlib.Core.List.{List}

@@ -4,9 +4,9 @@ use mathlib.Core.Path.{_≡_, refl, ap, _∙_}
 use Prim.Native.Nat.{_-_, _<_, _≤_}
 use native.Mathlib.Omega.{arith}
 use lib.ListN.{length, getD, set, length-set}
-use Rattle.trevoskel.proofs.Laws.{front, front-more, front-words, front-room}
-use Rattle.trevoskel.proofs.write.Statement.{statement}
-use Rattle.trevoskel.proofs.write.Tie as tie
+use Rattle.results.proofs.Front.{front, front-more, front-words, front-room}
+use Rattle.results.proofs.write.Statement.{statement}
+use Rattle.results.proofs.write.Tie as tie
 
 abbrev Inv-loop : tie.InvT-loop
 Inv-loop words result₀ i₀ result i = (result ≡ front i words result₀) × (i ≤ length words) × (i ≤ length result₀) × (length result ≡ length result₀)

@@ -1,7 +1,7 @@
 -- By the byte that says whether there is one.
 use borrow.Author.Needs.{needs}
-use Rattle.lookups.proofs.uuid_place.Statement.{statement}
-use Rattle.lookups.proofs.uuid_place.Tie as tie
+use Rattle.sites.proofs.uuid_place.Statement.{statement}
+use Rattle.sites.proofs.uuid_place.Tie as tie
 use borrow.Author.Tests.{eq-eqb, ne-eqb}
 use Rattle.rules.specs.Record.{u8}
 use Rattle.classes.specs.Sizes.{uuidPlace, foundOf}

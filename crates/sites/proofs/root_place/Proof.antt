@@ -1,6 +1,6 @@
 -- The invariant: the root looked for is `left` turns further on. The measure: `left`.
-use Rattle.lookups.proofs.root_place.Statement.{statement}
-use Rattle.lookups.proofs.root_place.Tie as tie
+use Rattle.sites.proofs.root_place.Statement.{statement}
+use Rattle.sites.proofs.root_place.Tie as tie
 use mathlib.Core.Path.{sym, _∙_}
 use Prim.Native.Nat.{_+_, _*_, _≤_}
 use native.Mathlib.Omega.{arith}
