@@ -3,12 +3,11 @@ use mathlib.Core.Path.{_≡_, refl}
 use Prim.Native.Nat.{ℕ, zero, suc, _-_, _≤_, _<_}
 use native.Mathlib.Omega.{arith}
 use mathlib.Core.List.{List}
-use lib.ListN.{length}
 use Rattle.rules.specs.Class.{bitArray, boolean, unsignedInt, signedInt, float, noMember, member}
 use Rattle.rules.specs.Record.{Shape, bitField, lebField, signedLebField, zeroString, text, blob, textOf, blobOf, u8}
 use Rattle.rules.specs.Record.{members, elements, elementsOf, option?, options}
 use Rattle.facts.proofs.Cases.{_▷_, below}
-use Rattle.classes.specs.Trees.{Stood, shapes, shapeOf, recordSize, classIn, classAt, stoodAt, membersAt, whole, wholeIn, wholeMembers}
+use Rattle.classes.specs.Trees.{Stood, shapes, shapeOf, classIn, classAt, stoodAt, membersAt, whole, wholeIn, wholeMembers}
 
 module _ (t : List ℕ) (p : ℕ) where
   pub depth-some : (d : ℕ) → whole d t p → d ≡ suc (d - 1)
@@ -20,31 +19,6 @@ module _ (t : List ℕ) (p : ℕ) where
   unfolding whole
   kind-high zero w = absurd w
   kind-high (suc d) w = w .high
-
-  size-some : (k : Shape) → 1 ≤ recordSize k
-  unfolding recordSize
-  size-some (bitField bitArray) = omega arith
-  size-some (bitField boolean) = omega arith
-  size-some (bitField unsignedInt) = omega arith
-  size-some (bitField signedInt) = omega arith
-  size-some (bitField float) = omega arith
-  size-some lebField = omega arith
-  size-some signedLebField = omega arith
-  size-some zeroString = omega arith
-  size-some text = omega arith
-  size-some blob = omega arith
-  size-some textOf = omega arith
-  size-some blobOf = omega arith
-  size-some members = omega arith
-  size-some elements = omega arith
-  size-some elementsOf = omega arith
-  size-some option? = omega arith
-  size-some options = omega arith
-
-  pub stands-within : (d : ℕ) → whole d t p → p < length t
-  unfolding whole
-  stands-within zero w = absurd w
-  stands-within (suc d) w = omega (arith, w .there, size-some (shapeOf (u8 t p)))
 
 -- leaves hold nothing, and so stand at any depth
 

@@ -36,7 +36,7 @@ use Rattle.inside.specs.Held.{Held, HeldMembers}
 use Rattle.inside.proofs.Noted.{opens}
 use Rattle.inside.proofs.Opened.{inside-read}
 use Rattle.inside.proofs.Held.{inside-whole}
-use Rattle.classes.proofs.Standing.{stands-within}
+use Rattle.classes.proofs.Turns.{whole-inside}
 use Rattle.inside.proofs.Slots.{content-met}
 use Rattle.turns.specs.Roots.{classOf, RootStands, partsOf}
 use Rattle.turns.proofs.Looked.{one-member, root-class, root-stands}
@@ -104,7 +104,7 @@ module _ (t : List ℕ) (x : Notes) (root : Found) (f : Frame) (st : State) (ws 
     stood = rw (e) at w
 
     pub root-within : p < length t
-    root-within = stands-within t p depthLimit stood
+    root-within = whole-inside depthLimit t p stood
 
     module _ (kind : u8 t p ≡ 28) where
       pub root-looks : Opens t x p

@@ -31,7 +31,8 @@ use Rattle.listing.proofs.Parts.{Part, part-length, lent-room, lent, merged}
 use Rattle.classes.specs.Trees.{whole, wholeMembers, stoodAt, classAt, nextAt}
 use Rattle.classes.specs.Notes.{notes, Prepared}
 use Rattle.classes.specs.Fragments.{askedAt, streamClassAt}
-use Rattle.classes.proofs.Standing.{stands-within, leaf-whole, leaf-class, First, first}
+use Rattle.classes.proofs.Standing.{leaf-whole, leaf-class, First, first}
+use Rattle.classes.proofs.Turns.{whole-inside}
 use Rattle.fields.proofs.Turns.{Call, call, Walked, Turn, Turned, turn-full, leaf-turned, field-turned, no-slot}
 use Rattle.inside.proofs.Slots.{content-met}
 use Rattle.turns.specs.Turns.{membersRead, turnsAt, Known, TurnAt}
@@ -246,7 +247,7 @@ m-noted : (c : AtMember) →
 m-noted c = start (outside c) .pre .0 .noted
 
 m-within-table : (c : AtMember) → c .before .loop2 .next < length (start (outside c) .args .table .now)
-m-within-table c = stands-within _ _ _ (m-first c .whole)
+m-within-table c = whole-inside _ _ _ (m-first c .whole)
 
 abbrev Leaf : (c : AtLeaf) → (Env → Step) → Slots → List ℕ → Type 0
 Leaf c M given ws =

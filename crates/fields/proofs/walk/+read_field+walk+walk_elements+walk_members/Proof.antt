@@ -45,7 +45,8 @@ use Rattle.fields.specs.Both.{readFields, wholeFields, onward}
 use Rattle.listing.proofs.Parts.{part-length, lent-room}
 use Rattle.classes.specs.Trees.{classAt, nextAt}
 use Rattle.classes.specs.Notes.{notes, Prepared}
-use Rattle.classes.proofs.Standing.{depth-some, kind-high, stands-within, leaf-whole, leaf-class}
+use Rattle.classes.proofs.Standing.{depth-some, kind-high, leaf-whole, leaf-class}
+use Rattle.classes.proofs.Turns.{whole-inside}
 use Rattle.fields.proofs.Turns.{Call, call, env, classRead, Walked, walk-start, walk-end, Foremost, foremost}
 use Rattle.fields.proofs.Turns.{Turn, Turned, fields-turn, turn-full, leaf-turned, field-turned}
 use Rattle.inside.proofs.Slots.{content-met}
@@ -173,7 +174,7 @@ read-field-slot-read-requires t c κs =
     (omega (arith, p .1 .0 .0), kind-high _ _ _ (p .0), slot-within _ _ _ (p .0) (p .1 .0 .0))
 
 read-field-shared-slice-read-wide64 : (t : ℕ) → In-field t read-field-lts.Need-shared-slice-read-wide64
-read-field-shared-slice-read-wide64 t c = stands-within _ _ _ (field-holder t (c .before) .stands)
+read-field-shared-slice-read-wide64 t c = whole-inside _ _ _ (field-holder t (c .before) .stands)
 
 read-field-look-requires : (t : ℕ) → In-field t read-field-lts.Need-look-requires
 read-field-look-requires t c κs =
@@ -347,7 +348,7 @@ walk-returns : (t : ℕ) → In-walk t walk-lts.Need-returns
 walk-returns t c = rw (c .refused .ensures) (turn-full (walk-turn t (c .before .before)) (c .before .if1 .taken))
 
 walk-shared-slice-read-if2 : (t : ℕ) → In-walk t walk-lts.Need-shared-slice-read-if2
-walk-shared-slice-read-if2 t c = stands-within _ _ _ (walk-first t (c .before .before) .stands)
+walk-shared-slice-read-if2 t c = whole-inside _ _ _ (walk-first t (c .before .before) .stands)
 
 walk-leaf-slot-requires : (t : ℕ) → In-walk t walk-lts.Need-leaf-slot-requires
 unfolding u8
@@ -383,7 +384,7 @@ walk-returns-2 t c = rw (c .stopped .ensures) (walk-leaf t (c .before .before .b
 walk-onward-requires : (t : ℕ) → In-walk t walk-lts.Need-onward-requires
 walk-onward-requires t c κs =
     let turn = c .before .before .before .before .before .before .before .before .before .before .before .before in
-    omega (arith, stands-within _ _ _ (walk-first t turn .stands), walk-noted t turn .sized .room)
+    omega (arith, whole-inside _ _ _ (walk-first t turn .stands), walk-noted t turn .sized .room)
 
 walk-sub-todo : (t : ℕ) → In-walk t walk-lts.Need-sub-todo
 walk-sub-todo t c =
@@ -448,7 +449,7 @@ walk-returns-3 t c = rw (c .stopped2 .ensures) (walk-field t (c .before .before 
 walk-onward-requires-2 : (t : ℕ) → In-walk t walk-lts.Need-onward-requires-2
 walk-onward-requires-2 t c κs =
     let turn = c .before .before .before .before .before .before .before .before .before .before in
-    omega (arith, stands-within _ _ _ (walk-first t turn .stands), walk-noted t turn .sized .room)
+    omega (arith, whole-inside _ _ _ (walk-first t turn .stands), walk-noted t turn .sized .room)
 
 walk-sub-todo-2 : (t : ℕ) → In-walk t walk-lts.Need-sub-todo-2
 walk-sub-todo-2 t c =
