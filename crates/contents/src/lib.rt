@@ -8,13 +8,14 @@ use listing::State;
 use listing::Went;
 use listing::entry::write;
 use parts::Ran;
+use parts::refused;
 use parts::stopped;
+use parts::with_last;
 use root::read_root;
 use rules::BitPlace;
 use rules::Entry;
 use rules::Refusal;
 use rules::Slot;
-use rules::Stop;
 use sites::root_place;
 use turns::Asking;
 ghost use mathlib.Core.Path.{_≡_};
@@ -107,18 +108,7 @@ pub fn read_of_stream(
         held,
         &mut list[used..],
     );
-    let went = r.went;
-    match went {
-        Went::Stopped(stop) => stopped(stop, used + r.used, st),
-        Went::On => {
-            let state = r.state;
-            Ran {
-                went: Went::On,
-                used: used + r.used,
-                state,
-            }
-        }
-    }
+    with_last(used, r, st)
 }
 
 // A packet's lengths: 34, 35, entry 3; and then its events.
@@ -150,14 +140,7 @@ fn read_content(
 {
     let place = st.place;
     if list.len() < 4 {
-        return stopped(
-            Stop {
-                why: Refusal::ListFull,
-                place,
-            },
-            0,
-            st,
-        );
+        return refused(Refusal::ListFull, place, 0, st);
     }
     if contradict(
         total,
@@ -166,26 +149,12 @@ fn read_content(
         place,
         whole_frame(stream, start).bound,
     ) {
-        return stopped(
-            Stop {
-                why: Refusal::LengthsContradict,
-                place,
-            },
-            0,
-            st,
-        );
+        return refused(Refusal::LengthsContradict, place, 0, st);
     }
     let said = st.said;
     let ending = said.ending;
     if above(st.clock.value, ending) {
-        return stopped(
-            Stop {
-                why: Refusal::ClocksContradict,
-                place,
-            },
-            0,
-            st,
-        );
+        return refused(Refusal::ClocksContradict, place, 0, st);
     }
     write(
         list,
@@ -213,18 +182,7 @@ fn read_content(
         slots,
         &mut list[4..],
     );
-    let went = r.went;
-    match went {
-        Went::Stopped(stop) => stopped(stop, 4 + r.used, st),
-        Went::On => {
-            let state = r.state;
-            Ran {
-                went: Went::On,
-                used: 4 + r.used,
-                state,
-            }
-        }
-    }
+    with_last(4, r, st)
 }
 
 // What a packet's events ask of the stream class at a byte.

@@ -69,8 +69,7 @@ pub fn read_packets(
             }
             Went::On => {}
         }
-        let next = r.state;
-        state = next;
+        state = r.state;
         first = Stated::As(state.said.stream);
         number = number + 1;
     }

@@ -10,7 +10,9 @@ use listing::Went;
 use listing::entry::write;
 use lookups::find_stream_class;
 use parts::Ran;
+use parts::refused;
 use parts::stopped;
+use parts::with_last;
 use root::read_root;
 use rules::BitPlace;
 use rules::Content;
@@ -20,7 +22,6 @@ use rules::Refusal;
 use rules::Said;
 use rules::Slot;
 use rules::Stated;
-use rules::Stop;
 ghost use mathlib.Core.Path.{_≡_};
 ghost use lib.ListN.{length};
 ghost use Rattle.rules.specs.Slots.{noSlots};
@@ -59,14 +60,7 @@ pub fn read_packet(
 {
     let place = begun.place;
     if list.len() < 4 {
-        return stopped(
-            Stop {
-                why: Refusal::ListFull,
-                place,
-            },
-            0,
-            begun,
-        );
+        return refused(Refusal::ListFull, place, 0, begun);
     }
     write(
         list,
@@ -113,18 +107,7 @@ pub fn read_packet(
         slots,
         &mut list[used..],
     );
-    let went = r.went;
-    match went {
-        Went::Stopped(stop) => stopped(stop, used + r.used, begun),
-        Went::On => {
-            let state = r.state;
-            Ran {
-                went: Went::On,
-                used: used + r.used,
-                state,
-            }
-        }
-    }
+    with_last(used, r, begun)
 }
 
 // Behind the header: 32, the lookup (33), entry 2, and what the stream class says.
@@ -151,34 +134,13 @@ fn read_behind_header(
     let place = st.place;
     let id = st.said.stream;
     if differs(id, first) {
-        return stopped(
-            Stop {
-                why: Refusal::StreamClassChanged,
-                place,
-            },
-            0,
-            st,
-        );
+        return refused(Refusal::StreamClassChanged, place, 0, st);
     }
     if list.len() < 4 {
-        return stopped(
-            Stop {
-                why: Refusal::ListFull,
-                place,
-            },
-            0,
-            st,
-        );
+        return refused(Refusal::ListFull, place, 0, st);
     }
     match find_stream_class(table, sizes, index, id) {
-        Found::Nothing => stopped(
-            Stop {
-                why: Refusal::StreamClassUnknown(id),
-                place,
-            },
-            0,
-            st,
-        ),
+        Found::Nothing => refused(Refusal::StreamClassUnknown(id), place, 0, st),
         Found::At(class) => {
             write(
                 list,
@@ -203,18 +165,7 @@ fn read_behind_header(
                 slots,
                 &mut list[4..],
             );
-            let went = r.went;
-            match went {
-                Went::Stopped(stop) => stopped(stop, 4 + r.used, st),
-                Went::On => {
-                    let state = r.state;
-                    Ran {
-                        went: Went::On,
-                        used: 4 + r.used,
-                        state,
-                    }
-                }
-            }
+            with_last(4, r, st)
         }
     }
 }

@@ -15,7 +15,7 @@ use Rattle.listing.specs.declared.Went.the-variants.{On, Stopped}
 use Rattle.listing.specs.Did.{Did, full, outOf}
 use Rattle.listing.proofs.Parts.{Part, part-last-on, part-last-stopped, back-room, lent, merged}
 use Rattle.parts.specs.declared.Ran.{Ran}
-use Rattle.parts.specs.Ran.{RanDid, stoppedRan}
+use Rattle.parts.specs.Ran.{RanDid, stoppedRan, goneRan, lastRan}
 
 -- nothing was listed
 pub refused-ran : (o : Out) (st : State) (l : Slots) (ws : List ℕ) (v : Stop) → o ≡ stop [] v → RanDid o st (stoppedRan v 0 st) ws ws
@@ -66,9 +66,11 @@ module _ (f : Step) {o : Out} {ws₀ ws : List ℕ} {used : ℕ} {st : State} {l
   pub ran-room : used + r .used ≤ length ws₀
   ran-room = back-room f p (d .did)
 
-  pub ran-stopped : (v : Stop) (came : State) → r .went ≡ Stopped v → RanDid o came (stoppedRan v (used + r .used) came) ws₀ (merged used ws ys)
-  ran-stopped v came off = record { slots = l; did = part-last-stopped f p (d .did) v came l off }
+  -- as it went
+  gone : (w : Went) (came : State) → r .went ≡ w → RanDid o came (goneRan w (used + r .used) (r .state) came) ws₀ (merged used ws ys)
+  unfolding goneRan
+  gone On came on = record { slots = d .slots; did = part-last-on f p (d .did) came on }
+  gone (Stopped v) came off = record { slots = l; did = part-last-stopped f p (d .did) v came l off }
 
-  pub ran-on : (came : State) → r .went ≡ On
-      → RanDid o came (record { went = On; used = used + r .used; state = r .state }) ws₀ (merged used ws ys)
-  ran-on came on = record { slots = d .slots; did = part-last-on f p (d .did) came on }
+  pub ran-last : (came : State) → RanDid o came (lastRan used r came) ws₀ (merged used ws ys)
+  ran-last came = gone (r .went) came refl

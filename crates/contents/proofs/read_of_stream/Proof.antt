@@ -4,12 +4,13 @@ use Rattle.contents.proofs.read_of_stream.Statement.{statement}
 use Rattle.contents.proofs.read_of_stream.Tie as tie
 use Rattle.contents.proofs.read_of_stream.Reads as reads
 use Rattle.contents.proofs.read_of_stream.Lts as lts
-use Rattle.sites.proofs.root_place.Reads as root-place-reads
-use Rattle.parts.proofs.stopped.Reads as stopped-reads
-use Rattle.contradictions.proofs.or_else.Reads as or-else-reads
 use Rattle.contents.proofs.read_content.Reads as read-content-reads
 use Rattle.contents.proofs.whole_frame.Reads as whole-frame-reads
+use Rattle.contradictions.proofs.or_else.Reads as or-else-reads
+use Rattle.parts.proofs.stopped.Reads as stopped-reads
+use Rattle.parts.proofs.with_last.Reads as with-last-reads
 use Rattle.root.proofs.read_root.Reads as read-root-reads
+use Rattle.sites.proofs.root_place.Reads as root-place-reads
 use mathlib.Core.Path.{_∙_}
 use native.Mathlib.Omega.{arith}
 use lib.ListN.{length}
@@ -18,7 +19,7 @@ use borrow.Rule.Slice.PartMut.{same-len-mid}
 use Rattle.listing.proofs.Parts.{part-length}
 use Rattle.turns.proofs.Looked.{root-stands}
 use Rattle.contents.proofs.StreamClass.{stream-sized, context-class}
-use Rattle.parts.proofs.Lists.{ran-room, ran-stopped, ran-on}
+use Rattle.parts.proofs.Lists.{ran-room, ran-last}
 use Rattle.contents.proofs.Running.{context-framed, context-stopped, context-part}
 
 root-place-requires : tie.Need-root-place-requires
@@ -69,32 +70,14 @@ part-read-content-end c = search needs
 read-content-requires : tie.Need-read-content-requires
 read-content-requires c κs = let a = c .before .before .before .before .before .before .before .before .before .before .before .before .before .before .before .before .before .before .before .before .before .before .before .args in let g = c .before .before .before .before .before .before .before .before .before .before .before .before .before .before .before .before .before .before .before .before .before .before .before .pre .0 in (g, (c .before .before .before .before .before .before .before .before .before .before .before .before .before .before .before .before .before .before .before .before .before .before .before .pre .1 .0, context-framed (a .table .now) (a .stream .now) (a .start) (a .class) (a .st) (a .slots) (a .list .now) (a .uuid .now) (g .uuid) (c .before .before .before .before .before .before .before .before .before .before .before .before .before .before .whole-frame .result) (c .before .before .before .before .before .before .before .before .before .before .before .before .before .before .whole-frame .ensures) (c .before .before .before .before .before .before .before .before .before .before .before .before .before .before .before .root-place .result) (context-class (a .table .now) (a .class) (c .before .before .before .before .before .before .before .before .before .before .before .before .before .before .before .root-place .result) (c .before .before .before .before .before .before .before .before .before .before .before .before .before .before .before .root-place .ensures)) (c .before .before .before .before .before .before .before .before .before .before .before .before .read-root .ensures) (c .before .before .before .before .before .before .before .before .before .before .before .before .before .before .before .before .before .before .before .before .before .before .before .pre .1 .1) (c .before .before .before .before .before .before .before .before .enum-told .given .1)))
 
-enum-known-went-2 : tie.Need-enum-known-went-2
-enum-known-went-2 c = search needs
-
-add-stopped : tie.Need-add-stopped
-add-stopped c = let a = c .before .before .before .before .before .before .before .before .before .before .before .before .before .before .before .before .before .before .before .before .before .before .before .before .before .before .before .before .before .before .args in let g = c .before .before .before .before .before .before .before .before .before .before .before .before .before .before .before .before .before .before .before .before .before .before .before .before .before .before .before .before .before .before .pre .0 in omega (arith, ran-room _ (context-part (a .table .now) (a .stream .now) (a .start) (a .class) (a .st) (a .slots) (a .list .now) (a .uuid .now) (g .uuid) (c .before .before .before .before .before .before .before .before .before .before .before .before .before .before .before .before .before .before .before .before .before .whole-frame .result) (c .before .before .before .before .before .before .before .before .before .before .before .before .before .before .before .before .before .before .before .before .before .whole-frame .ensures) (c .before .before .before .before .before .before .before .before .before .before .before .before .before .before .before .before .before .before .before .before .before .before .root-place .result) (context-class (a .table .now) (a .class) (c .before .before .before .before .before .before .before .before .before .before .before .before .before .before .before .before .before .before .before .before .before .before .root-place .result) (c .before .before .before .before .before .before .before .before .before .before .before .before .before .before .before .before .before .before .before .before .before .before .root-place .ensures)) (c .before .before .before .before .before .before .before .before .before .before .before .before .before .before .before .before .before .before .before .read-root .ensures) (c .before .before .before .before .before .before .before .before .before .before .before .before .before .before .before .enum-told .given .1) (c .before .before .before .before .before .before .before .before .before .or-else .result) (c .before .before .before .before .before .before .before .before .or-else2 .result) (rw (c .before .before .before .before .before .before .before .before .before .before .before .before .before .before .before .before .before .before .before .before .before .whole-frame .ensures) at (c .before .before .before .before .before .before .before .before .before .or-else .ensures)) (rw (c .before .before .before .before .before .before .before .before .before .before .before .before .before .before .before .before .before .before .before .before .before .whole-frame .ensures) at (c .before .before .before .before .before .before .before .before .or-else2 .ensures))) (c .before .before .before .before .before .before .read-content .ensures), c .before .before .before .before .before .before .before .before .before .before .before .before .before .before .before .before .before .before .before .before .before .before .before .before .before .before .before .before .before .before .good)
-
-stopped-requires-2 : tie.Need-stopped-requires-2
-stopped-requires-2 c κs = search needs
-
-enum-told-2 : tie.Need-enum-told-2
-enum-told-2 c = search needs
-
-add-t41 : tie.Need-add-t41
-add-t41 c = let a = c .before .before .before .before .before .before .before .before .before .before .before .before .before .before .before .before .before .before .before .before .before .before .before .before .before .before .before .before .before .before .args in let g = c .before .before .before .before .before .before .before .before .before .before .before .before .before .before .before .before .before .before .before .before .before .before .before .before .before .before .before .before .before .before .pre .0 in omega (arith, ran-room _ (context-part (a .table .now) (a .stream .now) (a .start) (a .class) (a .st) (a .slots) (a .list .now) (a .uuid .now) (g .uuid) (c .before .before .before .before .before .before .before .before .before .before .before .before .before .before .before .before .before .before .before .before .before .whole-frame .result) (c .before .before .before .before .before .before .before .before .before .before .before .before .before .before .before .before .before .before .before .before .before .whole-frame .ensures) (c .before .before .before .before .before .before .before .before .before .before .before .before .before .before .before .before .before .before .before .before .before .before .root-place .result) (context-class (a .table .now) (a .class) (c .before .before .before .before .before .before .before .before .before .before .before .before .before .before .before .before .before .before .before .before .before .before .root-place .result) (c .before .before .before .before .before .before .before .before .before .before .before .before .before .before .before .before .before .before .before .before .before .before .root-place .ensures)) (c .before .before .before .before .before .before .before .before .before .before .before .before .before .before .before .before .before .before .before .read-root .ensures) (c .before .before .before .before .before .before .before .before .before .before .before .before .before .before .before .enum-told .given .1) (c .before .before .before .before .before .before .before .before .before .or-else .result) (c .before .before .before .before .before .before .before .before .or-else2 .result) (rw (c .before .before .before .before .before .before .before .before .before .before .before .before .before .before .before .before .before .before .before .before .before .whole-frame .ensures) at (c .before .before .before .before .before .before .before .before .before .or-else .ensures)) (rw (c .before .before .before .before .before .before .before .before .before .before .before .before .before .before .before .before .before .before .before .before .before .whole-frame .ensures) at (c .before .before .before .before .before .before .before .before .or-else2 .ensures))) (c .before .before .before .before .before .before .read-content .ensures), c .before .before .before .before .before .before .before .before .before .before .before .before .before .before .before .before .before .before .before .before .before .before .before .before .before .before .before .before .before .before .good)
+with-last-requires : tie.Need-with-last-requires
+with-last-requires c κs = let a = c .before .before .before .before .before .before .before .before .before .before .before .before .before .before .before .before .before .before .before .before .before .before .before .before .before .before .args in let g = c .before .before .before .before .before .before .before .before .before .before .before .before .before .before .before .before .before .before .before .before .before .before .before .before .before .before .pre .0 in omega (arith, ran-room _ (context-part (a .table .now) (a .stream .now) (a .start) (a .class) (a .st) (a .slots) (a .list .now) (a .uuid .now) (g .uuid) (c .before .before .before .before .before .before .before .before .before .before .before .before .before .before .before .before .before .whole-frame .result) (c .before .before .before .before .before .before .before .before .before .before .before .before .before .before .before .before .before .whole-frame .ensures) (c .before .before .before .before .before .before .before .before .before .before .before .before .before .before .before .before .before .before .root-place .result) (context-class (a .table .now) (a .class) (c .before .before .before .before .before .before .before .before .before .before .before .before .before .before .before .before .before .before .root-place .result) (c .before .before .before .before .before .before .before .before .before .before .before .before .before .before .before .before .before .before .root-place .ensures)) (c .before .before .before .before .before .before .before .before .before .before .before .before .before .before .before .read-root .ensures) (c .before .before .before .before .before .before .before .before .before .before .before .enum-told .given .1) (c .before .before .before .before .before .or-else .result) (c .before .before .before .before .or-else2 .result) (rw (c .before .before .before .before .before .before .before .before .before .before .before .before .before .before .before .before .before .whole-frame .ensures) at (c .before .before .before .before .before .or-else .ensures)) (rw (c .before .before .before .before .before .before .before .before .before .before .before .before .before .before .before .before .before .whole-frame .ensures) at (c .before .before .before .before .or-else2 .ensures))) (c .before .before .read-content .ensures), c .before .before .before .before .before .before .before .before .before .before .before .before .before .before .before .before .before .before .before .before .before .before .before .before .before .before .good)
 
 same-length-2 : tie.Need-same-length-2
-same-length-2 c = same-len-mid (c .before .before .before .before .before .before .before .before .before .before .before .before .before .before .before .before .before .before .before .before .read-root .result .used) (length (c .before .before .before .before .before .before .before .before .before .before .before .before .before .before .before .before .before .before .before .before .read-root .last .1 .1 .1 .1 .1 .1 .1 .1 .1 .0) - (c .before .before .before .before .before .before .before .before .before .before .before .before .before .before .before .before .before .before .before .before .read-root .result .used)) (c .before .before .before .before .before .before .before .before .before .before .before .before .before .before .before .before .before .before .before .before .read-root .last .1 .1 .1 .1 .1 .1 .1 .1 .1 .0) (c .before .before .before .before .before .before .before .read-content .last .1 .1 .1 .1 .1 .1 .1 .1 .1 .1 .1 .1 .1 .0) (c .before .before .before .before .before .before .before .read-content .kept .1 .1 .1 .1 .1 .1 .1 .1 .1 .1 .1 .1 .1 .0) ∙ c .before .before .before .before .before .before .before .before .before .before .before .before .before .before .before .before .before .before .before .before .read-root .kept .1 .1 .1 .1 .1 .1 .1 .1 .1 .0
+same-length-2 c = same-len-mid (c .before .before .before .before .before .before .before .before .before .before .before .before .before .before .before .before .read-root .result .used) (length (c .before .before .before .before .before .before .before .before .before .before .before .before .before .before .before .before .read-root .last .1 .1 .1 .1 .1 .1 .1 .1 .1 .0) - (c .before .before .before .before .before .before .before .before .before .before .before .before .before .before .before .before .read-root .result .used)) (c .before .before .before .before .before .before .before .before .before .before .before .before .before .before .before .before .read-root .last .1 .1 .1 .1 .1 .1 .1 .1 .1 .0) (c .before .before .before .read-content .last .1 .1 .1 .1 .1 .1 .1 .1 .1 .1 .1 .1 .1 .0) (c .before .before .before .read-content .kept .1 .1 .1 .1 .1 .1 .1 .1 .1 .1 .1 .1 .1 .0) ∙ c .before .before .before .before .before .before .before .before .before .before .before .before .before .before .before .before .read-root .kept .1 .1 .1 .1 .1 .1 .1 .1 .1 .0
 
 returns-2 : tie.Need-returns-2
-returns-2 c = let a = c .before .before .before .before .before .before .before .before .before .before .before .before .before .before .before .before .before .before .before .before .before .before .before .before .before .before .before .before .before .before .before .args in let g = c .before .before .before .before .before .before .before .before .before .before .before .before .before .before .before .before .before .before .before .before .before .before .before .before .before .before .before .before .before .before .before .pre .0 in rw (c .stopped2 .ensures) (ran-stopped _ (context-part (a .table .now) (a .stream .now) (a .start) (a .class) (a .st) (a .slots) (a .list .now) (a .uuid .now) (g .uuid) (c .before .before .before .before .before .before .before .before .before .before .before .before .before .before .before .before .before .before .before .before .before .before .whole-frame .result) (c .before .before .before .before .before .before .before .before .before .before .before .before .before .before .before .before .before .before .before .before .before .before .whole-frame .ensures) (c .before .before .before .before .before .before .before .before .before .before .before .before .before .before .before .before .before .before .before .before .before .before .before .root-place .result) (context-class (a .table .now) (a .class) (c .before .before .before .before .before .before .before .before .before .before .before .before .before .before .before .before .before .before .before .before .before .before .before .root-place .result) (c .before .before .before .before .before .before .before .before .before .before .before .before .before .before .before .before .before .before .before .before .before .before .before .root-place .ensures)) (c .before .before .before .before .before .before .before .before .before .before .before .before .before .before .before .before .before .before .before .before .read-root .ensures) (c .before .before .before .before .before .before .before .before .before .before .before .before .before .before .before .before .enum-told .given .1) (c .before .before .before .before .before .before .before .before .before .before .or-else .result) (c .before .before .before .before .before .before .before .before .before .or-else2 .result) (rw (c .before .before .before .before .before .before .before .before .before .before .before .before .before .before .before .before .before .before .before .before .before .before .whole-frame .ensures) at (c .before .before .before .before .before .before .before .before .before .before .or-else .ensures)) (rw (c .before .before .before .before .before .before .before .before .before .before .before .before .before .before .before .before .before .before .before .before .before .before .whole-frame .ensures) at (c .before .before .before .before .before .before .before .before .before .or-else2 .ensures))) (c .before .before .before .before .before .before .before .read-content .ensures) _ _ (c .before .before .before .went2 .given .1))
-
-same-length-3 : tie.Need-same-length-3
-same-length-3 c = same-len-mid (c .before .before .before .before .before .before .before .before .before .before .before .before .before .before .before .before .before .before .before .read-root .result .used) (length (c .before .before .before .before .before .before .before .before .before .before .before .before .before .before .before .before .before .before .before .read-root .last .1 .1 .1 .1 .1 .1 .1 .1 .1 .0) - (c .before .before .before .before .before .before .before .before .before .before .before .before .before .before .before .before .before .before .before .read-root .result .used)) (c .before .before .before .before .before .before .before .before .before .before .before .before .before .before .before .before .before .before .before .read-root .last .1 .1 .1 .1 .1 .1 .1 .1 .1 .0) (c .before .before .before .before .before .before .read-content .last .1 .1 .1 .1 .1 .1 .1 .1 .1 .1 .1 .1 .1 .0) (c .before .before .before .before .before .before .read-content .kept .1 .1 .1 .1 .1 .1 .1 .1 .1 .1 .1 .1 .1 .0) ∙ c .before .before .before .before .before .before .before .before .before .before .before .before .before .before .before .before .before .before .before .read-root .kept .1 .1 .1 .1 .1 .1 .1 .1 .1 .0
-
-returns-3 : tie.Need-returns-3
-returns-3 c = let a = c .before .before .before .before .before .before .before .before .before .before .before .before .before .before .before .before .before .before .before .before .before .before .before .before .before .before .before .before .before .before .args in let g = c .before .before .before .before .before .before .before .before .before .before .before .before .before .before .before .before .before .before .before .before .before .before .before .before .before .before .before .before .before .before .pre .0 in ran-on _ (context-part (a .table .now) (a .stream .now) (a .start) (a .class) (a .st) (a .slots) (a .list .now) (a .uuid .now) (g .uuid) (c .before .before .before .before .before .before .before .before .before .before .before .before .before .before .before .before .before .before .before .before .before .whole-frame .result) (c .before .before .before .before .before .before .before .before .before .before .before .before .before .before .before .before .before .before .before .before .before .whole-frame .ensures) (c .before .before .before .before .before .before .before .before .before .before .before .before .before .before .before .before .before .before .before .before .before .before .root-place .result) (context-class (a .table .now) (a .class) (c .before .before .before .before .before .before .before .before .before .before .before .before .before .before .before .before .before .before .before .before .before .before .root-place .result) (c .before .before .before .before .before .before .before .before .before .before .before .before .before .before .before .before .before .before .before .before .before .before .root-place .ensures)) (c .before .before .before .before .before .before .before .before .before .before .before .before .before .before .before .before .before .before .before .read-root .ensures) (c .before .before .before .before .before .before .before .before .before .before .before .before .before .before .before .enum-told .given .1) (c .before .before .before .before .before .before .before .before .before .or-else .result) (c .before .before .before .before .before .before .before .before .or-else2 .result) (rw (c .before .before .before .before .before .before .before .before .before .before .before .before .before .before .before .before .before .before .before .before .before .whole-frame .ensures) at (c .before .before .before .before .before .before .before .before .before .or-else .ensures)) (rw (c .before .before .before .before .before .before .before .before .before .before .before .before .before .before .before .before .before .before .before .before .before .whole-frame .ensures) at (c .before .before .before .before .before .before .before .before .or-else2 .ensures))) (c .before .before .before .before .before .before .read-content .ensures) _ (c .before .before .enum-told2 .given .1)
+returns-2 c = let a = c .before .before .before .before .before .before .before .before .before .before .before .before .before .before .before .before .before .before .before .before .before .before .before .before .before .before .before .args in let g = c .before .before .before .before .before .before .before .before .before .before .before .before .before .before .before .before .before .before .before .before .before .before .before .before .before .before .before .pre .0 in rw (c .with-last .ensures) (ran-last _ (context-part (a .table .now) (a .stream .now) (a .start) (a .class) (a .st) (a .slots) (a .list .now) (a .uuid .now) (g .uuid) (c .before .before .before .before .before .before .before .before .before .before .before .before .before .before .before .before .before .before .whole-frame .result) (c .before .before .before .before .before .before .before .before .before .before .before .before .before .before .before .before .before .before .whole-frame .ensures) (c .before .before .before .before .before .before .before .before .before .before .before .before .before .before .before .before .before .before .before .root-place .result) (context-class (a .table .now) (a .class) (c .before .before .before .before .before .before .before .before .before .before .before .before .before .before .before .before .before .before .before .root-place .result) (c .before .before .before .before .before .before .before .before .before .before .before .before .before .before .before .before .before .before .before .root-place .ensures)) (c .before .before .before .before .before .before .before .before .before .before .before .before .before .before .before .before .read-root .ensures) (c .before .before .before .before .before .before .before .before .before .before .before .before .enum-told .given .1) (c .before .before .before .before .before .before .or-else .result) (c .before .before .before .before .before .or-else2 .result) (rw (c .before .before .before .before .before .before .before .before .before .before .before .before .before .before .before .before .before .before .whole-frame .ensures) at (c .before .before .before .before .before .before .or-else .ensures)) (rw (c .before .before .before .before .before .before .before .before .before .before .before .before .before .before .before .before .before .before .whole-frame .ensures) at (c .before .before .before .before .before .or-else2 .ensures))) (c .before .before .before .read-content .ensures) _)
 
 pub read-of-stream-spec : {M : Type 1} → statement M
 read-of-stream-spec =
@@ -116,12 +99,6 @@ read-of-stream-spec =
     part-read-content-start
     part-read-content-end
     read-content-requires
-    enum-known-went-2
-    add-stopped
-    stopped-requires-2
-    enum-told-2
-    add-t41
+    with-last-requires
     same-length-2
-    returns-2
-    same-length-3
-    returns-3)
+    returns-2)

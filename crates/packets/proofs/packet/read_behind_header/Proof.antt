@@ -4,33 +4,34 @@ use Rattle.packets.proofs.packet.read_behind_header.Statement.{statemen
 use Rattle.packets.proofs.packet.read_behind_header.Tie as tie
 use Rattle.packets.proofs.packet.read_behind_header.Reads as reads
 use Rattle.packets.proofs.packet.read_behind_header.Lts as lts
+use Rattle.contents.proofs.read_of_stream.Reads as read-of-stream-reads
+use Rattle.contradictions.proofs.differs.Reads as differs-reads
 use Rattle.listing.proofs.entry.write.Reads as write-reads
 use Rattle.lookups.proofs.find_stream_class.Reads as find-stream-class-reads
-use Rattle.parts.proofs.stopped.Reads as stopped-reads
-use Rattle.contradictions.proofs.differs.Reads as differs-reads
-use Rattle.contents.proofs.read_of_stream.Reads as read-of-stream-reads
+use Rattle.parts.proofs.refused.Reads as refused-reads
+use Rattle.parts.proofs.with_last.Reads as with-last-reads
 use mathlib.Core.Path.{sym, _∙_}
 use native.Mathlib.Omega.{arith}
 use lib.ListN.{length}
 use Prim.Native.Nat.{_-_}
 use borrow.Rule.Slice.PartMut.{same-len-mid}
-use Rattle.parts.proofs.Lists.{ran-room, ran-stopped, ran-on}
+use Rattle.parts.proofs.Lists.{ran-room, ran-last}
 use Rattle.packets.proofs.Running.{header-ran-differs, header-ran-full, header-ran-unknown, header-part}
 
 differs-requires : tie.Need-differs-requires
 differs-requires c κs = search needs
 
-stopped-requires : tie.Need-stopped-requires
-stopped-requires c κs = search needs
+refused-requires : tie.Need-refused-requires
+refused-requires c κs = search needs
 
 returns : tie.Need-returns
-returns c = let a = c .before .before .before .before .before .before .before .before .before .before .before .args in let g = c .before .before .before .before .before .before .before .before .before .before .before .pre .0 in rw (c .stopped .ensures) (header-ran-differs (a .table .now) (a .stream .now) (a .start) (a .first) (a .st) (a .slots) (a .list .now) (c .before .before .differs .result) (c .before .before .differs .ensures) (c .before .if1 .taken))
+returns c = let a = c .before .before .before .before .before .before .before .before .before .before .before .args in let g = c .before .before .before .before .before .before .before .before .before .before .before .pre .0 in rw (c .refused .ensures) (header-ran-differs (a .table .now) (a .stream .now) (a .start) (a .first) (a .st) (a .slots) (a .list .now) (c .before .before .differs .result) (c .before .before .differs .ensures) (c .before .if1 .taken))
 
-stopped-requires-2 : tie.Need-stopped-requires-2
-stopped-requires-2 c κs = search needs
+refused-requires-2 : tie.Need-refused-requires-2
+refused-requires-2 c κs = search needs
 
 returns-2 : tie.Need-returns-2
-returns-2 c = let a = c .before .before .before .before .before .before .before .before .before .before .before .before .args in let g = c .before .before .before .before .before .before .before .before .before .before .before .before .pre .0 in rw (c .stopped2 .ensures) (header-ran-full (a .table .now) (a .stream .now) (a .start) (a .first) (a .st) (a .slots) (a .list .now) (c .before .before .before .differs .result) (c .before .before .before .differs .ensures) (c .before .before .if1 .left) (c .before .if2 .taken))
+returns-2 c = let a = c .before .before .before .before .before .before .before .before .before .before .before .before .args in let g = c .before .before .before .before .before .before .before .before .before .before .before .before .pre .0 in rw (c .refused2 .ensures) (header-ran-full (a .table .now) (a .stream .now) (a .start) (a .first) (a .st) (a .slots) (a .list .now) (c .before .before .before .differs .result) (c .before .before .before .differs .ensures) (c .before .before .if1 .left) (c .before .if2 .taken))
 
 find-stream-class-requires : tie.Need-find-stream-class-requires
 find-stream-class-requires c κs = c .before .before .before .before .before .before .before .before .before .before .before .pre .0 .ready .noted .sized
@@ -38,8 +39,8 @@ find-stream-class-requires c κs = c .before .before .before .before .before .be
 enum-told : tie.Need-enum-told
 enum-told c = search needs
 
-stopped-requires-3 : tie.Need-stopped-requires-3
-stopped-requires-3 c κs = search needs
+refused-requires-3 : tie.Need-refused-requires-3
+refused-requires-3 c κs = search needs
 
 enum-known-class : tie.Need-enum-known-class
 enum-known-class c = search needs
@@ -59,61 +60,37 @@ part-read-of-stream-end c = search needs
 read-of-stream-requires : tie.Need-read-of-stream-requires
 read-of-stream-requires c κs = let a = c .before .before .before .before .before .before .before .before .before .before .before .before .before .before .before .before .before .before .before .before .args in let g = c .before .before .before .before .before .before .before .before .before .before .before .before .before .before .before .before .before .before .before .before .pre .0 in (g, (sym (c .before .before .before .before .before .before .before .before .find-stream-class .ensures) ∙ c .before .before .before .before .before .before .class .given .1, c .before .before .before .before .before .before .before .before .before .before .before .before .before .before .before .before .before .before .before .before .pre .1))
 
-enum-known-went : tie.Need-enum-known-went
-enum-known-went c = search needs
-
-add-stopped : tie.Need-add-stopped
-add-stopped c = let a = c .before .before .before .before .before .before .before .before .before .before .before .before .before .before .before .before .before .before .before .before .before .before .before .before .before .before .before .args in let g = c .before .before .before .before .before .before .before .before .before .before .before .before .before .before .before .before .before .before .before .before .before .before .before .before .before .before .before .pre .0 in omega (arith, ran-room _ (header-part (a .table .now) (a .stream .now) (a .start) (a .first) (a .st) (a .slots) (a .list .now) (c .before .before .before .before .before .before .before .before .before .before .before .before .before .before .before .before .before .before .differs .result) (c .before .before .before .before .before .before .before .before .before .before .before .before .before .before .before .before .before .before .differs .ensures) (c .before .before .before .before .before .before .before .before .before .before .before .before .before .before .before .before .before .if1 .left) (c .before .before .before .before .before .before .before .before .before .before .before .before .before .before .before .before .if2 .left) (c .before .before .before .before .before .before .before .before .before .before .before .before .before .before .before .find-stream-class .result) (c .before .before .before .before .before .before .before .before .before .before .before .before .before .before .before .find-stream-class .ensures) _ (c .before .before .before .before .before .before .before .before .before .before .before .before .before .class .given .1) (c .before .before .before .before .before .before .before .before .before .before .write .ensures)) (c .before .before .before .before .before .before .read-of-stream .ensures), c .before .before .before .before .before .before .before .before .before .before .before .before .before .before .before .before .before .before .before .before .before .before .before .before .before .before .before .good)
-
-stopped-requires-4 : tie.Need-stopped-requires-4
-stopped-requires-4 c κs = search needs
-
-enum-told-2 : tie.Need-enum-told-2
-enum-told-2 c = search needs
-
-add-t41 : tie.Need-add-t41
-add-t41 c = let a = c .before .before .before .before .before .before .before .before .before .before .before .before .before .before .before .before .before .before .before .before .before .before .before .before .before .before .before .args in let g = c .before .before .before .before .before .before .before .before .before .before .before .before .before .before .before .before .before .before .before .before .before .before .before .before .before .before .before .pre .0 in omega (arith, ran-room _ (header-part (a .table .now) (a .stream .now) (a .start) (a .first) (a .st) (a .slots) (a .list .now) (c .before .before .before .before .before .before .before .before .before .before .before .before .before .before .before .before .before .before .differs .result) (c .before .before .before .before .before .before .before .before .before .before .before .before .before .before .before .before .before .before .differs .ensures) (c .before .before .before .before .before .before .before .before .before .before .before .before .before .before .before .before .before .if1 .left) (c .before .before .before .before .before .before .before .before .before .before .before .before .before .before .before .before .if2 .left) (c .before .before .before .before .before .before .before .before .before .before .before .before .before .before .before .find-stream-class .result) (c .before .before .before .before .before .before .before .before .before .before .before .before .before .before .before .find-stream-class .ensures) _ (c .before .before .before .before .before .before .before .before .before .before .before .before .before .class .given .1) (c .before .before .before .before .before .before .before .before .before .before .write .ensures)) (c .before .before .before .before .before .before .read-of-stream .ensures), c .before .before .before .before .before .before .before .before .before .before .before .before .before .before .before .before .before .before .before .before .before .before .before .before .before .before .before .good)
+with-last-requires : tie.Need-with-last-requires
+with-last-requires c κs = let a = c .before .before .before .before .before .before .before .before .before .before .before .before .before .before .before .before .before .before .before .before .before .before .before .args in let g = c .before .before .before .before .before .before .before .before .before .before .before .before .before .before .before .before .before .before .before .before .before .before .before .pre .0 in omega (arith, ran-room _ (header-part (a .table .now) (a .stream .now) (a .start) (a .first) (a .st) (a .slots) (a .list .now) (c .before .before .before .before .before .before .before .before .before .before .before .before .before .before .differs .result) (c .before .before .before .before .before .before .before .before .before .before .before .before .before .before .differs .ensures) (c .before .before .before .before .before .before .before .before .before .before .before .before .before .if1 .left) (c .before .before .before .before .before .before .before .before .before .before .before .before .if2 .left) (c .before .before .before .before .before .before .before .before .before .before .before .find-stream-class .result) (c .before .before .before .before .before .before .before .before .before .before .before .find-stream-class .ensures) _ (c .before .before .before .before .before .before .before .before .before .class .given .1) (c .before .before .before .before .before .before .write .ensures)) (c .before .before .read-of-stream .ensures), c .before .before .before .before .before .before .before .before .before .before .before .before .before .before .before .before .before .before .before .before .before .before .before .good)
 
 returns-3 : tie.Need-returns-3
-returns-3 c = let a = c .before .before .before .before .before .before .before .before .before .before .before .before .before .before .before .args in let g = c .before .before .before .before .before .before .before .before .before .before .before .before .before .before .before .pre .0 in rw (c .stopped3 .ensures) (header-ran-unknown (a .table .now) (a .stream .now) (a .start) (a .first) (a .st) (a .slots) (a .list .now) (c .before .before .before .before .before .before .differs .result) (c .before .before .before .before .before .before .differs .ensures) (c .before .before .before .before .before .if1 .left) (c .before .before .before .before .if2 .left) (c .before .before .before .find-stream-class .result) (c .before .before .before .find-stream-class .ensures) (c .before .enum-told .given .1))
+returns-3 c = let a = c .before .before .before .before .before .before .before .before .before .before .before .before .before .before .before .args in let g = c .before .before .before .before .before .before .before .before .before .before .before .before .before .before .before .pre .0 in rw (c .refused3 .ensures) (header-ran-unknown (a .table .now) (a .stream .now) (a .start) (a .first) (a .st) (a .slots) (a .list .now) (c .before .before .before .before .before .before .differs .result) (c .before .before .before .before .before .before .differs .ensures) (c .before .before .before .before .before .if1 .left) (c .before .before .before .before .if2 .left) (c .before .before .before .find-stream-class .result) (c .before .before .before .find-stream-class .ensures) (c .before .enum-told .given .1))
 
 same-length : tie.Need-same-length
-same-length c = same-len-mid 4 (length (c .before .before .before .before .before .before .before .before .before .before .before .write .last .0) - 4) (c .before .before .before .before .before .before .before .before .before .before .before .write .last .0) (c .before .before .before .before .before .before .before .read-of-stream .last .1 .1 .1 .1 .1 .1 .1 .1 .1 .1 .1 .0) (c .before .before .before .before .before .before .before .read-of-stream .kept .1 .1 .1 .1 .1 .1 .1 .1 .1 .1 .1 .0) ∙ c .before .before .before .before .before .before .before .before .before .before .before .write .kept .0
+same-length c = same-len-mid 4 (length (c .before .before .before .before .before .before .before .write .last .0) - 4) (c .before .before .before .before .before .before .before .write .last .0) (c .before .before .before .read-of-stream .last .1 .1 .1 .1 .1 .1 .1 .1 .1 .1 .1 .0) (c .before .before .before .read-of-stream .kept .1 .1 .1 .1 .1 .1 .1 .1 .1 .1 .1 .0) ∙ c .before .before .before .before .before .before .before .write .kept .0
 
 returns-4 : tie.Need-returns-4
-returns-4 c = let a = c .before .before .before .before .before .before .before .before .before .before .before .before .before .before .before .before .before .before .before .before .before .before .before .before .before .before .before .before .args in let g = c .before .before .before .before .before .before .before .before .before .before .before .before .before .before .before .before .before .before .before .before .before .before .before .before .before .before .before .before .pre .0 in rw (c .stopped4 .ensures) (ran-stopped _ (header-part (a .table .now) (a .stream .now) (a .start) (a .first) (a .st) (a .slots) (a .list .now) (c .before .before .before .before .before .before .before .before .before .before .before .before .before .before .before .before .before .before .before .differs .result) (c .before .before .before .before .before .before .before .before .before .before .before .before .before .before .before .before .before .before .before .differs .ensures) (c .before .before .before .before .before .before .before .before .before .before .before .before .before .before .before .before .before .before .if1 .left) (c .before .before .before .before .before .before .before .before .before .before .before .before .before .before .before .before .before .if2 .left) (c .before .before .before .before .before .before .before .before .before .before .before .before .before .before .before .before .find-stream-class .result) (c .before .before .before .before .before .before .before .before .before .before .before .before .before .before .before .before .find-stream-class .ensures) _ (c .before .before .before .before .before .before .before .before .before .before .before .before .before .before .class .given .1) (c .before .before .before .before .before .before .before .before .before .before .before .write .ensures)) (c .before .before .before .before .before .before .before .read-of-stream .ensures) _ _ (c .before .before .before .went .given .1))
-
-same-length-2 : tie.Need-same-length-2
-same-length-2 c = same-len-mid 4 (length (c .before .before .before .before .before .before .before .before .before .before .write .last .0) - 4) (c .before .before .before .before .before .before .before .before .before .before .write .last .0) (c .before .before .before .before .before .before .read-of-stream .last .1 .1 .1 .1 .1 .1 .1 .1 .1 .1 .1 .0) (c .before .before .before .before .before .before .read-of-stream .kept .1 .1 .1 .1 .1 .1 .1 .1 .1 .1 .1 .0) ∙ c .before .before .before .before .before .before .before .before .before .before .write .kept .0
-
-returns-5 : tie.Need-returns-5
-returns-5 c = let a = c .before .before .before .before .before .before .before .before .before .before .before .before .before .before .before .before .before .before .before .before .before .before .before .before .before .before .before .args in let g = c .before .before .before .before .before .before .before .before .before .before .before .before .before .before .before .before .before .before .before .before .before .before .before .before .before .before .before .pre .0 in ran-on _ (header-part (a .table .now) (a .stream .now) (a .start) (a .first) (a .st) (a .slots) (a .list .now) (c .before .before .before .before .before .before .before .before .before .before .before .before .before .before .before .before .before .before .differs .result) (c .before .before .before .before .before .before .before .before .before .before .before .before .before .before .before .before .before .before .differs .ensures) (c .before .before .before .before .before .before .before .before .before .before .before .before .before .before .before .before .before .if1 .left) (c .before .before .before .before .before .before .before .before .before .before .before .before .before .before .before .before .if2 .left) (c .before .before .before .before .before .before .before .before .before .before .before .before .before .before .before .find-stream-class .result) (c .before .before .before .before .before .before .before .before .before .before .before .before .before .before .before .find-stream-class .ensures) _ (c .before .before .before .before .before .before .before .before .before .before .before .before .before .class .given .1) (c .before .before .before .before .before .before .before .before .before .before .write .ensures)) (c .before .before .before .before .before .before .read-of-stream .ensures) _ (c .before .before .enum-told2 .given .1)
+returns-4 c = let a = c .before .before .before .before .before .before .before .before .before .before .before .before .before .before .before .before .before .before .before .before .before .before .before .before .args in let g = c .before .before .before .before .before .before .before .before .before .before .before .before .before .before .before .before .before .before .before .before .before .before .before .before .pre .0 in rw (c .with-last .ensures) (ran-last _ (header-part (a .table .now) (a .stream .now) (a .start) (a .first) (a .st) (a .slots) (a .list .now) (c .before .before .before .before .before .before .before .before .before .before .before .before .before .before .before .differs .result) (c .before .before .before .before .before .before .before .before .before .before .before .before .before .before .before .differs .ensures) (c .before .before .before .before .before .before .before .before .before .before .before .before .before .before .if1 .left) (c .before .before .before .before .before .before .before .before .before .before .before .before .before .if2 .left) (c .before .before .before .before .before .before .before .before .before .before .before .before .find-stream-class .result) (c .before .before .before .before .before .before .before .before .before .before .before .before .find-stream-class .ensures) _ (c .before .before .before .before .before .before .before .before .before .before .class .given .1) (c .before .before .before .before .before .before .before .write .ensures)) (c .before .before .before .read-of-stream .ensures) _)
 
 pub read-behind-header-spec : {M : Type 1} → statement M
 read-behind-header-spec =
     tie.close
     (tie.spec
     differs-requires
-    stopped-requires
+    refused-requires
     returns
-    stopped-requires-2
+    refused-requires-2
     returns-2
     find-stream-class-requires
     enum-told
-    stopped-requires-3
+    refused-requires-3
     enum-known-class
     write-requires
     sub-read-of-stream
     part-read-of-stream-start
     part-read-of-stream-end
     read-of-stream-requires
-    enum-known-went
-    add-stopped
-    stopped-requires-4
-    enum-told-2
-    add-t41
+    with-last-requires
     returns-3
     same-length
-    returns-4
-    same-length-2
-    returns-5)
+    returns-4)

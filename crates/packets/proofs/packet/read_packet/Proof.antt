@@ -4,12 +4,14 @@ use Rattle.packets.proofs.packet.read_packet.Statement.{statement}
 use Rattle.packets.proofs.packet.read_packet.Tie as tie
 use Rattle.packets.proofs.packet.read_packet.Reads as reads
 use Rattle.packets.proofs.packet.read_packet.Lts as lts
+use Rattle.contents.proofs.whole_frame.Reads as whole-frame-reads
 use Rattle.listing.proofs.entry.write.Reads as write-reads
-use Rattle.parts.proofs.stopped.Reads as stopped-reads
 use Rattle.packets.proofs.packet.fresh.Reads as fresh-reads
 use Rattle.packets.proofs.packet.no_slots.Reads as no-slots-reads
 use Rattle.packets.proofs.packet.read_behind_header.Reads as read-behind-header-reads
-use Rattle.contents.proofs.whole_frame.Reads as whole-frame-reads
+use Rattle.parts.proofs.refused.Reads as refused-reads
+use Rattle.parts.proofs.stopped.Reads as stopped-reads
+use Rattle.parts.proofs.with_last.Reads as with-last-reads
 use Rattle.root.proofs.read_root.Reads as read-root-reads
 use mathlib.Core.Path.{_∙_}
 use native.Mathlib.Omega.{arith}
@@ -20,14 +22,14 @@ use Rattle.listing.proofs.Parts.{part-length, merged}
 use Rattle.classes.specs.Notes.{notes}
 use Rattle.rules.specs.Slots.{noSlots}
 use Rattle.packets.specs.Pieces.{freshState}
-use Rattle.parts.proofs.Lists.{ran-room, ran-stopped, ran-on}
+use Rattle.parts.proofs.Lists.{ran-room, ran-last}
 use Rattle.packets.proofs.Running.{start-framed, packet-ran-full, header-framed, header-stopped, header-room, behind-part}
 
-stopped-requires : tie.Need-stopped-requires
-stopped-requires c κs = search needs
+refused-requires : tie.Need-refused-requires
+refused-requires c κs = search needs
 
 returns : tie.Need-returns
-returns c = let a = c .before .before .before .before .before .before .before .before .before .before .args in let g = c .before .before .before .before .before .before .before .before .before .before .pre .0 in record { at = λ l. rw (c .stopped .ensures) (packet-ran-full (a .table .now) (notes (a .sizes .now) (a .aligns .now)) (a .uuid .now) (a .stream .now) (a .header) g (a .number) (a .first) (a .begun) (a .list .now) l (c .before .if1 .taken)) }
+returns c = let a = c .before .before .before .before .before .before .before .before .before .before .args in let g = c .before .before .before .before .before .before .before .before .before .before .pre .0 in record { at = λ l. rw (c .refused .ensures) (packet-ran-full (a .table .now) (notes (a .sizes .now) (a .aligns .now)) (a .uuid .now) (a .stream .now) (a .header) g (a .number) (a .first) (a .begun) (a .list .now) l (c .before .if1 .taken)) }
 
 write-requires : tie.Need-write-requires
 write-requires c κs = search needs
@@ -60,14 +62,14 @@ add-used c = let a = c .before .before .before .before .before .before .before .
 enum-known-went : tie.Need-enum-known-went
 enum-known-went c = search needs
 
-stopped-requires-2 : tie.Need-stopped-requires-2
-stopped-requires-2 c κs = search needs
+stopped-requires : tie.Need-stopped-requires
+stopped-requires c κs = search needs
 
 same-length : tie.Need-same-length
 same-length c = same-len-mid 4 (length (c .before .before .before .before .before .before .before .before .before .before .before .before .before .before .write .last .0) - 4) (c .before .before .before .before .before .before .before .before .before .before .before .before .before .before .write .last .0) (c .before .before .before .before .before .before .before .read-root .last .1 .1 .1 .1 .1 .1 .1 .1 .1 .0) (c .before .before .before .before .before .before .before .read-root .kept .1 .1 .1 .1 .1 .1 .1 .1 .1 .0) ∙ c .before .before .before .before .before .before .before .before .before .before .before .before .before .before .write .kept .0
 
 returns-2 : tie.Need-returns-2
-returns-2 c = let a = c .before .before .before .before .before .before .before .before .before .before .before .before .before .before .before .before .before .before .before .before .before .before .before .before .before .args in let g = c .before .before .before .before .before .before .before .before .before .before .before .before .before .before .before .before .before .before .before .before .before .before .before .before .before .pre .0 in record { at = λ l. rw (c .stopped2 .ensures) (header-stopped (a .table .now) (notes (a .sizes .now) (a .aligns .now)) (a .uuid .now) (a .stream .now) (a .header) g (a .number) (a .first) (a .begun) (a .list .now) (c .before .before .before .before .before .before .before .before .before .before .before .before .before .before .before .before .if1 .left) (c .before .before .before .before .before .before .before .before .before .before .before .before .before .before .write .ensures) (c .before .before .before .before .before .before .before .before .before .before .before .whole-frame .result) (c .before .before .before .before .before .before .before .before .before .before .before .whole-frame .ensures) (c .before .before .before .before .before .before .before .before .before .before .fresh .result) (c .before .before .before .before .before .before .before .before .before .before .fresh .ensures) (c .before .before .before .before .before .before .before .before .before .no-slots .result) (c .before .before .before .before .before .before .before .before .before .no-slots .ensures) (c .before .before .before .before .before .before .before .read-root .ensures) l _ (c .before .before .went .given .1)) }
+returns-2 c = let a = c .before .before .before .before .before .before .before .before .before .before .before .before .before .before .before .before .before .before .before .before .before .before .before .before .before .args in let g = c .before .before .before .before .before .before .before .before .before .before .before .before .before .before .before .before .before .before .before .before .before .before .before .before .before .pre .0 in record { at = λ l. rw (c .stopped .ensures) (header-stopped (a .table .now) (notes (a .sizes .now) (a .aligns .now)) (a .uuid .now) (a .stream .now) (a .header) g (a .number) (a .first) (a .begun) (a .list .now) (c .before .before .before .before .before .before .before .before .before .before .before .before .before .before .before .before .if1 .left) (c .before .before .before .before .before .before .before .before .before .before .before .before .before .before .write .ensures) (c .before .before .before .before .before .before .before .before .before .before .before .whole-frame .result) (c .before .before .before .before .before .before .before .before .before .before .before .whole-frame .ensures) (c .before .before .before .before .before .before .before .before .before .before .fresh .result) (c .before .before .before .before .before .before .before .before .before .before .fresh .ensures) (c .before .before .before .before .before .before .before .before .before .no-slots .result) (c .before .before .before .before .before .before .before .before .before .no-slots .ensures) (c .before .before .before .before .before .before .before .read-root .ensures) l _ (c .before .before .went .given .1)) }
 
 enum-told : tie.Need-enum-told
 enum-told c = search needs
@@ -87,38 +89,20 @@ part-read-behind-header-end c = search needs
 read-behind-header-requires : tie.Need-read-behind-header-requires
 read-behind-header-requires c κs = let a = c .before .before .before .before .before .before .before .before .before .before .before .before .before .before .before .before .before .before .before .before .before .before .before .before .before .before .args in let g = c .before .before .before .before .before .before .before .before .before .before .before .before .before .before .before .before .before .before .before .before .before .before .before .before .before .before .pre .0 in (record { ready = g .ready; uuid = g .uuid; small = g .small }, header-framed (a .table .now) (notes (a .sizes .now) (a .aligns .now)) (a .uuid .now) (a .stream .now) (a .header) g (a .number) (a .first) (a .begun) (a .list .now) (c .before .before .before .before .before .before .before .before .before .before .before .before .before .before .before .before .before .if1 .left) (c .before .before .before .before .before .before .before .before .before .before .before .before .before .before .before .write .ensures) (c .before .before .before .before .before .before .before .before .before .before .before .before .whole-frame .result) (c .before .before .before .before .before .before .before .before .before .before .before .before .whole-frame .ensures) (c .before .before .before .before .before .before .before .before .before .before .before .fresh .result) (c .before .before .before .before .before .before .before .before .before .before .before .fresh .ensures) (c .before .before .before .before .before .before .before .before .before .before .no-slots .result) (c .before .before .before .before .before .before .before .before .before .before .no-slots .ensures) (c .before .before .before .before .before .before .before .before .read-root .ensures) (c .before .before .before .before .before .before .before .before .before .before .before .before .before .before .before .before .before .before .before .before .before .before .before .before .before .before .pre .1) (c .before .before .before .enum-told .given .1))
 
-enum-known-went-2 : tie.Need-enum-known-went-2
-enum-known-went-2 c = search needs
-
-add-stopped : tie.Need-add-stopped
-add-stopped c = let a = c .before .before .before .before .before .before .before .before .before .before .before .before .before .before .before .before .before .before .before .before .before .before .before .before .before .before .before .before .before .before .before .before .before .args in let g = c .before .before .before .before .before .before .before .before .before .before .before .before .before .before .before .before .before .before .before .before .before .before .before .before .before .before .before .before .before .before .before .before .before .pre .0 in omega (arith, ran-room _ (behind-part (a .table .now) (notes (a .sizes .now) (a .aligns .now)) (a .uuid .now) (a .stream .now) (a .header) g (a .number) (a .first) (a .begun) (a .list .now) (c .before .before .before .before .before .before .before .before .before .before .before .before .before .before .before .before .before .before .before .before .before .before .before .before .if1 .left) (c .before .before .before .before .before .before .before .before .before .before .before .before .before .before .before .before .before .before .before .before .before .before .write .ensures) (c .before .before .before .before .before .before .before .before .before .before .before .before .before .before .before .before .before .before .before .whole-frame .result) (c .before .before .before .before .before .before .before .before .before .before .before .before .before .before .before .before .before .before .before .whole-frame .ensures) (c .before .before .before .before .before .before .before .before .before .before .before .before .before .before .before .before .before .before .fresh .result) (c .before .before .before .before .before .before .before .before .before .before .before .before .before .before .before .before .before .before .fresh .ensures) (c .before .before .before .before .before .before .before .before .before .before .before .before .before .before .before .before .before .no-slots .result) (c .before .before .before .before .before .before .before .before .before .before .before .before .before .before .before .before .before .no-slots .ensures) (c .before .before .before .before .before .before .before .before .before .before .before .before .before .before .before .read-root .ensures) noSlots (c .before .before .before .before .before .before .before .before .before .before .enum-told .given .1)) (c .before .before .before .before .before .before .read-behind-header .ensures), c .before .before .before .before .before .before .before .before .before .before .before .before .before .before .before .before .before .before .before .before .before .before .before .before .before .before .before .before .before .before .before .before .before .good)
-
-stopped-requires-3 : tie.Need-stopped-requires-3
-stopped-requires-3 c κs = search needs
-
-enum-told-2 : tie.Need-enum-told-2
-enum-told-2 c = search needs
-
-add-t44 : tie.Need-add-t44
-add-t44 c = let a = c .before .before .before .before .before .before .before .before .before .before .before .before .before .before .before .before .before .before .before .before .before .before .before .before .before .before .before .before .before .before .before .before .before .args in let g = c .before .before .before .before .before .before .before .before .before .before .before .before .before .before .before .before .before .before .before .before .before .before .before .before .before .before .before .before .before .before .before .before .before .pre .0 in omega (arith, ran-room _ (behind-part (a .table .now) (notes (a .sizes .now) (a .aligns .now)) (a .uuid .now) (a .stream .now) (a .header) g (a .number) (a .first) (a .begun) (a .list .now) (c .before .before .before .before .before .before .before .before .before .before .before .before .before .before .before .before .before .before .before .before .before .before .before .before .if1 .left) (c .before .before .before .before .before .before .before .before .before .before .before .before .before .before .before .before .before .before .before .before .before .before .write .ensures) (c .before .before .before .before .before .before .before .before .before .before .before .before .before .before .before .before .before .before .before .whole-frame .result) (c .before .before .before .before .before .before .before .before .before .before .before .before .before .before .before .before .before .before .before .whole-frame .ensures) (c .before .before .before .before .before .before .before .before .before .before .before .before .before .before .before .before .before .before .fresh .result) (c .before .before .before .before .before .before .before .before .before .before .before .before .before .before .before .before .before .before .fresh .ensures) (c .before .before .before .before .before .before .before .before .before .before .before .before .before .before .before .before .before .no-slots .result) (c .before .before .before .before .before .before .before .before .before .before .before .before .before .before .before .before .before .no-slots .ensures) (c .before .before .before .before .before .before .before .before .before .before .before .before .before .before .before .read-root .ensures) noSlots (c .before .before .before .before .before .before .before .before .before .before .enum-told .given .1)) (c .before .before .before .before .before .before .read-behind-header .ensures), c .before .before .before .before .before .before .before .before .before .before .before .before .before .before .before .before .before .before .before .before .before .before .before .before .before .before .before .before .before .before .before .before .before .good)
+with-last-requires : tie.Need-with-last-requires
+with-last-requires c κs = let a = c .before .before .before .before .before .before .before .before .before .before .before .before .before .before .before .before .before .before .before .before .before .before .before .before .before .before .before .before .before .args in let g = c .before .before .before .before .before .before .before .before .before .before .before .before .before .before .before .before .before .before .before .before .before .before .before .before .before .before .before .before .before .pre .0 in omega (arith, ran-room _ (behind-part (a .table .now) (notes (a .sizes .now) (a .aligns .now)) (a .uuid .now) (a .stream .now) (a .header) g (a .number) (a .first) (a .begun) (a .list .now) (c .before .before .before .before .before .before .before .before .before .before .before .before .before .before .before .before .before .before .before .before .if1 .left) (c .before .before .before .before .before .before .before .before .before .before .before .before .before .before .before .before .before .before .write .ensures) (c .before .before .before .before .before .before .before .before .before .before .before .before .before .before .before .whole-frame .result) (c .before .before .before .before .before .before .before .before .before .before .before .before .before .before .before .whole-frame .ensures) (c .before .before .before .before .before .before .before .before .before .before .before .before .before .before .fresh .result) (c .before .before .before .before .before .before .before .before .before .before .before .before .before .before .fresh .ensures) (c .before .before .before .before .before .before .before .before .before .before .before .before .before .no-slots .result) (c .before .before .before .before .before .before .before .before .before .before .before .before .before .no-slots .ensures) (c .before .before .before .before .before .before .before .before .before .before .before .read-root .ensures) noSlots (c .before .before .before .before .before .before .enum-told .given .1)) (c .before .before .read-behind-header .ensures), c .before .before .before .before .before .before .before .before .before .before .before .before .before .before .before .before .before .before .before .before .before .before .before .before .before .before .before .before .before .good)
 
 same-length-2 : tie.Need-same-length-2
-same-length-2 c = let a = c .before .before .before .before .before .before .before .before .before .before .before .before .before .before .before .before .before .before .before .before .before .before .before .before .before .before .before .before .before .before .before .before .before .before .args in let g = c .before .before .before .before .before .before .before .before .before .before .before .before .before .before .before .before .before .before .before .before .before .before .before .before .before .before .before .before .before .before .before .before .before .before .pre .0 in let m = merged 4 (c .before .before .before .before .before .before .before .before .before .before .before .before .before .before .before .before .before .before .before .before .before .before .before .write .last .0) (c .before .before .before .before .before .before .before .before .before .before .before .before .before .before .before .before .read-root .last .1 .1 .1 .1 .1 .1 .1 .1 .1 .0) in same-len-mid (4 + c .before .before .before .before .before .before .before .before .before .before .before .before .before .before .before .before .read-root .result .used) (length m - (4 + c .before .before .before .before .before .before .before .before .before .before .before .before .before .before .before .before .read-root .result .used)) m (c .before .before .before .before .before .before .before .read-behind-header .last .1 .1 .1 .1 .1 .1 .1 .1 .1 .1 .0) (c .before .before .before .before .before .before .before .read-behind-header .kept .1 .1 .1 .1 .1 .1 .1 .1 .1 .1 .0) ∙ part-length (behind-part (a .table .now) (notes (a .sizes .now) (a .aligns .now)) (a .uuid .now) (a .stream .now) (a .header) g (a .number) (a .first) (a .begun) (a .list .now) (c .before .before .before .before .before .before .before .before .before .before .before .before .before .before .before .before .before .before .before .before .before .before .before .before .before .if1 .left) (c .before .before .before .before .before .before .before .before .before .before .before .before .before .before .before .before .before .before .before .before .before .before .before .write .ensures) (c .before .before .before .before .before .before .before .before .before .before .before .before .before .before .before .before .before .before .before .before .whole-frame .result) (c .before .before .before .before .before .before .before .before .before .before .before .before .before .before .before .before .before .before .before .before .whole-frame .ensures) (c .before .before .before .before .before .before .before .before .before .before .before .before .before .before .before .before .before .before .before .fresh .result) (c .before .before .before .before .before .before .before .before .before .before .before .before .before .before .before .before .before .before .before .fresh .ensures) (c .before .before .before .before .before .before .before .before .before .before .before .before .before .before .before .before .before .before .no-slots .result) (c .before .before .before .before .before .before .before .before .before .before .before .before .before .before .before .before .before .before .no-slots .ensures) (c .before .before .before .before .before .before .before .before .before .before .before .before .before .before .before .before .read-root .ensures) noSlots (c .before .before .before .before .before .before .before .before .before .before .before .enum-told .given .1))
+same-length-2 c = let a = c .before .before .before .before .before .before .before .before .before .before .before .before .before .before .before .before .before .before .before .before .before .before .before .before .before .before .before .before .before .before .args in let g = c .before .before .before .before .before .before .before .before .before .before .before .before .before .before .before .before .before .before .before .before .before .before .before .before .before .before .before .before .before .before .pre .0 in let m = merged 4 (c .before .before .before .before .before .before .before .before .before .before .before .before .before .before .before .before .before .before .before .write .last .0) (c .before .before .before .before .before .before .before .before .before .before .before .before .read-root .last .1 .1 .1 .1 .1 .1 .1 .1 .1 .0) in same-len-mid (4 + c .before .before .before .before .before .before .before .before .before .before .before .before .read-root .result .used) (length m - (4 + c .before .before .before .before .before .before .before .before .before .before .before .before .read-root .result .used)) m (c .before .before .before .read-behind-header .last .1 .1 .1 .1 .1 .1 .1 .1 .1 .1 .0) (c .before .before .before .read-behind-header .kept .1 .1 .1 .1 .1 .1 .1 .1 .1 .1 .0) ∙ part-length (behind-part (a .table .now) (notes (a .sizes .now) (a .aligns .now)) (a .uuid .now) (a .stream .now) (a .header) g (a .number) (a .first) (a .begun) (a .list .now) (c .before .before .before .before .before .before .before .before .before .before .before .before .before .before .before .before .before .before .before .before .before .if1 .left) (c .before .before .before .before .before .before .before .before .before .before .before .before .before .before .before .before .before .before .before .write .ensures) (c .before .before .before .before .before .before .before .before .before .before .before .before .before .before .before .before .whole-frame .result) (c .before .before .before .before .before .before .before .before .before .before .before .before .before .before .before .before .whole-frame .ensures) (c .before .before .before .before .before .before .before .before .before .before .before .before .before .before .before .fresh .result) (c .before .before .before .before .before .before .before .before .before .before .before .before .before .before .before .fresh .ensures) (c .before .before .before .before .before .before .before .before .before .before .before .before .before .before .no-slots .result) (c .before .before .before .before .before .before .before .before .before .before .before .before .before .before .no-slots .ensures) (c .before .before .before .before .before .before .before .before .before .before .before .before .read-root .ensures) noSlots (c .before .before .before .before .before .before .before .enum-told .given .1))
 
 returns-3 : tie.Need-returns-3
-returns-3 c = let a = c .before .before .before .before .before .before .before .before .before .before .before .before .before .before .before .before .before .before .before .before .before .before .before .before .before .before .before .before .before .before .before .before .before .before .args in let g = c .before .before .before .before .before .before .before .before .before .before .before .before .before .before .before .before .before .before .before .before .before .before .before .before .before .before .before .before .before .before .before .before .before .before .pre .0 in record { at = λ l. rw (c .stopped3 .ensures) (ran-stopped _ (behind-part (a .table .now) (notes (a .sizes .now) (a .aligns .now)) (a .uuid .now) (a .stream .now) (a .header) g (a .number) (a .first) (a .begun) (a .list .now) (c .before .before .before .before .before .before .before .before .before .before .before .before .before .before .before .before .before .before .before .before .before .before .before .before .before .if1 .left) (c .before .before .before .before .before .before .before .before .before .before .before .before .before .before .before .before .before .before .before .before .before .before .before .write .ensures) (c .before .before .before .before .before .before .before .before .before .before .before .before .before .before .before .before .before .before .before .before .whole-frame .result) (c .before .before .before .before .before .before .before .before .before .before .before .before .before .before .before .before .before .before .before .before .whole-frame .ensures) (c .before .before .before .before .before .before .before .before .before .before .before .before .before .before .before .before .before .before .before .fresh .result) (c .before .before .before .before .before .before .before .before .before .before .before .before .before .before .before .before .before .before .before .fresh .ensures) (c .before .before .before .before .before .before .before .before .before .before .before .before .before .before .before .before .before .before .no-slots .result) (c .before .before .before .before .before .before .before .before .before .before .before .before .before .before .before .before .before .before .no-slots .ensures) (c .before .before .before .before .before .before .before .before .before .before .before .before .before .before .before .before .read-root .ensures) l (c .before .before .before .before .before .before .before .before .before .before .before .enum-told .given .1)) (c .before .before .before .before .before .before .before .read-behind-header .ensures) _ _ (c .before .before .before .went2 .given .1)) }
-
-same-length-3 : tie.Need-same-length-3
-same-length-3 c = let a = c .before .before .before .before .before .before .before .before .before .before .before .before .before .before .before .before .before .before .before .before .before .before .before .before .before .before .before .before .before .before .before .before .before .args in let g = c .before .before .before .before .before .before .before .before .before .before .before .before .before .before .before .before .before .before .before .before .before .before .before .before .before .before .before .before .before .before .before .before .before .pre .0 in let m = merged 4 (c .before .before .before .before .before .before .before .before .before .before .before .before .before .before .before .before .before .before .before .before .before .before .write .last .0) (c .before .before .before .before .before .before .before .before .before .before .before .before .before .before .before .read-root .last .1 .1 .1 .1 .1 .1 .1 .1 .1 .0) in same-len-mid (4 + c .before .before .before .before .before .before .before .before .before .before .before .before .before .before .before .read-root .result .used) (length m - (4 + c .before .before .before .before .before .before .before .before .before .before .before .before .before .before .before .read-root .result .used)) m (c .before .before .before .before .before .before .read-behind-header .last .1 .1 .1 .1 .1 .1 .1 .1 .1 .1 .0) (c .before .before .before .before .before .before .read-behind-header .kept .1 .1 .1 .1 .1 .1 .1 .1 .1 .1 .0) ∙ part-length (behind-part (a .table .now) (notes (a .sizes .now) (a .aligns .now)) (a .uuid .now) (a .stream .now) (a .header) g (a .number) (a .first) (a .begun) (a .list .now) (c .before .before .before .before .before .before .before .before .before .before .before .before .before .before .before .before .before .before .before .before .before .before .before .before .if1 .left) (c .before .before .before .before .before .before .before .before .before .before .before .before .before .before .before .before .before .before .before .before .before .before .write .ensures) (c .before .before .before .before .before .before .before .before .before .before .before .before .before .before .before .before .before .before .before .whole-frame .result) (c .before .before .before .before .before .before .before .before .before .before .before .before .before .before .before .before .before .before .before .whole-frame .ensures) (c .before .before .before .before .before .before .before .before .before .before .before .before .before .before .before .before .before .before .fresh .result) (c .before .before .before .before .before .before .before .before .before .before .before .before .before .before .before .before .before .before .fresh .ensures) (c .before .before .before .before .before .before .before .before .before .before .before .before .before .before .before .before .before .no-slots .result) (c .before .before .before .before .before .before .before .before .before .before .before .before .before .before .before .before .before .no-slots .ensures) (c .before .before .before .before .before .before .before .before .before .before .before .before .before .before .before .read-root .ensures) noSlots (c .before .before .before .before .before .before .before .before .before .before .enum-told .given .1))
-
-returns-4 : tie.Need-returns-4
-returns-4 c = let a = c .before .before .before .before .before .before .before .before .before .before .before .before .before .before .before .before .before .before .before .before .before .before .before .before .before .before .before .before .before .before .before .before .before .args in let g = c .before .before .before .before .before .before .before .before .before .before .before .before .before .before .before .before .before .before .before .before .before .before .before .before .before .before .before .before .before .before .before .before .before .pre .0 in record { at = λ l. ran-on _ (behind-part (a .table .now) (notes (a .sizes .now) (a .aligns .now)) (a .uuid .now) (a .stream .now) (a .header) g (a .number) (a .first) (a .begun) (a .list .now) (c .before .before .before .before .before .before .before .before .before .before .before .before .before .before .before .before .before .before .before .before .before .before .before .before .if1 .left) (c .before .before .before .before .before .before .before .before .before .before .before .before .before .before .before .before .before .before .before .before .before .before .write .ensures) (c .before .before .before .before .before .before .before .before .before .before .before .before .before .before .before .before .before .before .before .whole-frame .result) (c .before .before .before .before .before .before .before .before .before .before .before .before .before .before .before .before .before .before .before .whole-frame .ensures) (c .before .before .before .before .before .before .before .before .before .before .before .before .before .before .before .before .before .before .fresh .result) (c .before .before .before .before .before .before .before .before .before .before .before .before .before .before .before .before .before .before .fresh .ensures) (c .before .before .before .before .before .before .before .before .before .before .before .before .before .before .before .before .before .no-slots .result) (c .before .before .before .before .before .before .before .before .before .before .before .before .before .before .before .before .before .no-slots .ensures) (c .before .before .before .before .before .before .before .before .before .before .before .before .before .before .before .read-root .ensures) l (c .before .before .before .before .before .before .before .before .before .before .enum-told .given .1)) (c .before .before .before .before .before .before .read-behind-header .ensures) _ (c .before .before .enum-told2 .given .1) }
+returns-3 c = let a = c .before .before .before .before .before .before .before .before .before .before .before .before .before .before .before .before .before .before .before .before .before .before .before .before .before .before .before .before .before .before .args in let g = c .before .before .before .before .before .before .before .before .before .before .before .before .before .before .before .before .before .before .before .before .before .before .before .before .before .before .before .before .before .before .pre .0 in record { at = λ l. rw (c .with-last .ensures) (ran-last _ (behind-part (a .table .now) (notes (a .sizes .now) (a .aligns .now)) (a .uuid .now) (a .stream .now) (a .header) g (a .number) (a .first) (a .begun) (a .list .now) (c .before .before .before .before .before .before .before .before .before .before .before .before .before .before .before .before .before .before .before .before .before .if1 .left) (c .before .before .before .before .before .before .before .before .before .before .before .before .before .before .before .before .before .before .before .write .ensures) (c .before .before .before .before .before .before .before .before .before .before .before .before .before .before .before .before .whole-frame .result) (c .before .before .before .before .before .before .before .before .before .before .before .before .before .before .before .before .whole-frame .ensures) (c .before .before .before .before .before .before .before .before .before .before .before .before .before .before .before .fresh .result) (c .before .before .before .before .before .before .before .before .before .before .before .before .before .before .before .fresh .ensures) (c .before .before .before .before .before .before .before .before .before .before .before .before .before .before .no-slots .result) (c .before .before .before .before .before .before .before .before .before .before .before .before .before .before .no-slots .ensures) (c .before .before .before .before .before .before .before .before .before .before .before .before .read-root .ensures) l (c .before .before .before .before .before .before .before .enum-told .given .1)) (c .before .before .before .read-behind-header .ensures) _) }
 
 pub read-packet-spec : {M : Type 1} → statement M
 read-packet-spec =
     tie.close
     (tie.spec
-    stopped-requires
+    refused-requires
     returns
     write-requires
     whole-frame-requires
@@ -130,7 +114,7 @@ read-packet-spec =
     read-root-requires
     add-used
     enum-known-went
-    stopped-requires-2
+    stopped-requires
     same-length
     returns-2
     enum-told
@@ -139,12 +123,6 @@ read-packet-spec =
     part-read-behind-header-start
     part-read-behind-header-end
     read-behind-header-requires
-    enum-known-went-2
-    add-stopped
-    stopped-requires-3
-    enum-told-2
-    add-t44
+    with-last-requires
     same-length-2
-    returns-3
-    same-length-3
-    returns-4)
+    returns-3)
