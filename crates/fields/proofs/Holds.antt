@@ -28,12 +28,13 @@ use Rattle.inside.proofs.Held.{inside-whole}
 use Rattle.finding.specs.declared.Frame.{Frame}
 use Rattle.finding.specs.Framed.{Framed, envOf}
 use Rattle.listing.specs.declared.State.{State}
+use Rattle.listing.specs.declared.Went.{Went}
 use Rattle.listing.specs.declared.Went.the-variants.{On, Stopped}
 use Rattle.listing.specs.Did.{full, atPlace}
 use Rattle.listing.proofs.Roles.{went-no-further}
 use Rattle.listing.proofs.Parts.{Part, part-last-on, part-last-stopped, part-length, back-room, lent, merged}
 use Rattle.fields.specs.declared.Field.{Field}
-use Rattle.fields.specs.Reads.{FieldReads}
+use Rattle.fields.specs.Reads.{FieldReads, gone, entered}
 use Rattle.classes.proofs.Standing.{depth-some}
 use Rattle.fields.proofs.Turns.{Call, call, outcome, CallReads, stoppedCall, classRead, membersRead, elementsRead, did-length}
 
@@ -69,6 +70,15 @@ pub record Closed (w : Call) (ws : List ℕ) (r : Field) : Type 0 where
   pub same : length ws ≡ length (w .list)
   pub stops : (v : Stop) → r .went ≡ Stopped v → CallReads w (stoppedCall w v (4 + r .used)) ws
   pub goes : r .went ≡ On → CallReads w (record { went = On; used = 4 + r .used; state = r .state; slots = r .slots }) ws
+
+-- as it went
+pub closed-reads : {w : Call} {ws : List ℕ} {r : Field} → Closed w ws r → CallReads w (entered r (w .came) (w .given)) ws
+unfolding gone
+closed-reads {w} {ws} {r} k = by (r .went) refl
+  where
+    by : (g : Went) → r .went ≡ g → CallReads w (gone g (4 + r .used) (r .state) (r .slots) (w .came) (w .given)) ws
+    by On on = k .goes on
+    by (Stopped v) off = k .stops v off
 
 module _ {b u : List ℕ} {f : Frame} {t : List ℕ} {x : Notes} {d at : ℕ} {c : Content} {st : State} {l : Slots} {ws : List ℕ}
     (h : Holder b u f t x d at c st l ws) where

@@ -22,7 +22,7 @@ use rules::Refusal;
 use rules::Slot;
 use rules::Stop;
 ghost use mathlib.Core.Path.{_≡_};
-ghost use Prim.Native.Nat.{_+_, _≤_, _<_};
+ghost use Prim.Native.Nat.{_+_, _^_, _≤_, _<_};
 ghost use lib.ListN.{length, getD};
 ghost use Rattle.rules.specs.Record.{u8};
 ghost use Rattle.rules.specs.Verdict.{stopAt};
@@ -30,7 +30,7 @@ ghost use Rattle.rules.specs.Field.{read, readMembers, times};
 ghost use Rattle.finding.specs.Framed.{Framed, envOf};
 ghost use Rattle.classes.specs.Trees.{whole, wholeMembers, stoodAt, classAt, membersAt};
 ghost use Rattle.classes.specs.Notes.{notes, Prepared};
-ghost use Rattle.fields.specs.Reads.{FieldReads, stoppedField};
+ghost use Rattle.fields.specs.Reads.{FieldReads, stoppedField, entered};
 ghost use Rattle.fields.specs.Both.{readFields, wholeFields, onward};
 
 // The field of the class at a byte, which holds fields, where there is room for its entry. `left` depths are left, its own among them.
@@ -112,15 +112,23 @@ pub fn read_field(
             )
         }
     };
-    let went = r.went;
+    behind_entry(r, st, slots)
+}
+
+// A field's own entry stands before what is inside it. What stopped hands back what came to the field, not what its entry left.
+fn behind_entry(inside: Field, st: State, slots: [Slot; 64]) -> Field
+    requires { ⌜ 4 + inside .used < 2 ^ 64 ⌝ }
+    ensures { λ r. ⌜ r ≡ entered inside st slots ⌝ }
+{
+    let went = inside.went;
     match went {
-        Went::Stopped(stop) => stopped(stop, 4 + r.used, st, slots), // not `next`
+        Went::Stopped(stop) => stopped(stop, 4 + inside.used, st, slots),
         Went::On => {
-            let state = r.state;
-            let changed = r.slots;
+            let state = inside.state;
+            let changed = inside.slots;
             Field {
                 went: Went::On,
-                used: 4 + r.used,
+                used: 4 + inside.used,
                 state,
                 slots: changed,
             }

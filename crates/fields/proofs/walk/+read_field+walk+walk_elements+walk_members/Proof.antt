@@ -19,6 +19,7 @@ use Rattle.fields.proofs.walk.+read_field+walk+walk_elements+walk_membe
 use Rattle.bytes.proofs.wide64.Reads as wide64-reads
 use Rattle.bykind.proofs.leaf_slot.Reads as leaf-slot-reads
 use Rattle.bykind.proofs.read_leaf.Reads as read-leaf-reads
+use Rattle.fields.proofs.walk.behind_entry.Reads as behind-entry-reads
 use Rattle.fields.proofs.walk.onward.Reads as onward-reads
 use Rattle.fields.proofs.walk.refused.Reads as refused-reads
 use Rattle.fields.proofs.walk.stopped.Reads as stopped-reads
@@ -52,7 +53,7 @@ use Rattle.fields.proofs.Turns.{Turn, Turned, fields-turn, turn-full, l
 use Rattle.inside.proofs.Slots.{content-met}
 use Rattle.fields.proofs.Turns.{no-slot, fields-end}
 use Rattle.fields.proofs.Holds.{Holder, Closed, slot-within, can-look, members-held, elements-held}
-use Rattle.fields.proofs.Holds.{refusal-reads, members-closed, elements-closed}
+use Rattle.fields.proofs.Holds.{refusal-reads, members-closed, elements-closed, closed-reads}
 
 abbrev μ-read-field : Measures 6 read-field-kinds.ps ℕ
 μ-read-field κs a = a .1 .1 .1 .1 .1 .1 .1 .0 + a .1 .1 .1 .1 .1 .1 .1 .0 + a .1 .1 .1 .1 .1 .1 .1 .0
@@ -108,8 +109,8 @@ read-field-calls t = (
   walk-members.Post,
   walk-elements-below t,
   walk-elements.Post,
-  stopped-reads.Asked,
-  stopped-reads.Learnt,
+  behind-entry-reads.Asked,
+  behind-entry-reads.Learnt,
 )
 
 abbrev walk-calls : ℕ → walk-lts.Claims
@@ -224,23 +225,14 @@ read-field-walk-elements-requires t c κs =
     let entered = c .before .before .before .enter2 .ensures .0 in
     (omega (arith, s .pre .0, depth-some _ _ _ (h .stands)), (inside .0, (h .noted, rw (entered) (inside .1))))
 
-read-field-add-stopped : (t : ℕ) → In-field t read-field-lts.Need-add-stopped
-read-field-add-stopped t c = omega (arith, field-closed t (c .before .before .before .before) .fits)
-
-read-field-add-t63 : (t : ℕ) → In-field t read-field-lts.Need-add-t63
-read-field-add-t63 t c = omega (arith, field-closed t (c .before .before .before .before .before) .fits)
+read-field-behind-entry-requires : (t : ℕ) → In-field t read-field-lts.Need-behind-entry-requires
+read-field-behind-entry-requires t c κs = omega (arith, field-closed t c .fits)
 
 read-field-same-length : (t : ℕ) → In-field t read-field-lts.Need-same-length
-read-field-same-length t c = field-closed t (c .before .before .before .before .before) .same
+read-field-same-length t c = field-closed t (c .before) .same
 
 read-field-returns-2 : (t : ℕ) → In-field t read-field-lts.Need-returns-2
-read-field-returns-2 t c = rw (c .stopped .ensures) (field-closed t (c .before .before .before .before .before) .stops _ (c .before .before .before .went .given .1))
-
-read-field-same-length-2 : (t : ℕ) → In-field t read-field-lts.Need-same-length-2
-read-field-same-length-2 t c = field-closed t (c .before .before .before .before .before) .same
-
-read-field-returns-3 : (t : ℕ) → In-field t read-field-lts.Need-returns-3
-read-field-returns-3 t c = field-closed t (c .before .before .before .before .before) .goes (c .before .before .before .enum-told .given .1)
+read-field-returns-2 t c = rw (c .behind-entry .ensures) (closed-reads (field-closed t (c .before)))
 
 -- the classes that are left stand, and the walk is what was read and then these
 abbrev walk-Inv-loop : walk-lts.InvT-loop
@@ -533,15 +525,9 @@ pub +read-field+walk+walk-elements+walk-members-spec : {M : Type 1} → statemen
     (read-field-part-walk-elements-start t)
     (λ c. omega arith)
     (read-field-walk-elements-requires t)
-    (λ c. search needs)
-    (read-field-add-stopped t)
-    (λ c κs. search needs)
-    (λ c. search needs)
-    (read-field-add-t63 t)
+    (read-field-behind-entry-requires t)
     (read-field-same-length t)
-    (read-field-returns-2 t)
-    (read-field-same-length-2 t)
-    (read-field-returns-3 t))
+    (read-field-returns-2 t))
     (λ t. walk-lts.spec (walk-calls t)
     (walk-at t)
     walk.Post
