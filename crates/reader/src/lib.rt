@@ -26,6 +26,7 @@ ghost use Rattle.rules.specs.Read.{readAll, readStream, resultOf, listAfter};
 ghost use Rattle.classes.specs.Notes.{notes};
 ghost use Rattle.classes.specs.Fragments.{askedAt};
 ghost use Rattle.turns.specs.Ready.{Ready};
+ghost use Rattle.packets.specs.Pieces.{Lent};
 ghost use Rattle.answers.specs.Answer.{refusedWith};
 ghost use Rattle.reader.specs.Answers.{Answers};
 
@@ -87,45 +88,63 @@ fn read_prepared(
         Answers (readStream (askedAt (now (table .entry))) (now (stream .entry)) (length (now (list .entry)))) r (now (list .entry)) (now (list .exit))
         ⌝ }
 {
-    let index = [0u32; 0];
-    let none = &table[0..0];
     match find_trace_class(table, sizes) {
-        Found::Nothing => answer(read_packets(
+        Found::Nothing => read_by(
             table,
             sizes,
             aligns,
-            &index,
-            none,
+            &table[0..0],
             Found::Nothing,
             stream,
             list,
-        )),
+        ),
         Found::At(trace) => {
             let header = root_place(table, sizes, trace, 0);
             match uuid_place(table, trace) {
-                Found::Nothing => answer(read_packets(
+                Found::Nothing => {
+                    read_by(table, sizes, aligns, &table[0..0], header, stream, list)
+                }
+                Found::At(at) => read_by(
                     table,
                     sizes,
                     aligns,
-                    &index,
-                    none,
-                    header,
-                    stream,
-                    list,
-                )),
-                Found::At(at) => answer(read_packets(
-                    table,
-                    sizes,
-                    aligns,
-                    &index,
                     &table[at..at + 16],
                     header,
                     stream,
                     list,
-                )),
+                ),
             }
         }
     }
+}
+
+// By the trace class's UUID and header: the packets, and the result's numbers.
+fn read_by(
+    table: &[u8],
+    sizes: &[u16],
+    aligns: &[u8],
+    uuid: &[u8],
+    header: Found,
+    stream: &[u8],
+    list: &mut [u64],
+) -> Result
+    requires { ⌜ Lent (now table) (notes (now sizes) (now aligns)) (now uuid) header (now stream) ⌝ }
+    requires { ⌜ 1 ≤ length (now stream) ⌝ }
+    ensures { λ r. ⌜
+        Answers (readStream (askedAt (now (table .entry))) (now (stream .entry)) (length (now (list .entry)))) r (now (list .entry)) (now (list .exit))
+        ⌝ }
+{
+    let index = [0u32; 0];
+    answer(read_packets(
+        table,
+        sizes,
+        aligns,
+        &index,
+        uuid,
+        header,
+        stream,
+        list,
+    ))
 }
 
 // Room for the notes of the longest table.
