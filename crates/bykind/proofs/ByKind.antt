@@ -25,7 +25,8 @@ use Rattle.finding.specs.declared.Frame.{Frame}
 use Rattle.listing.specs.declared.State.{State}
 use Rattle.leaves.specs.declared.Leaf.{Leaf}
 use Rattle.finding.specs.Framed.{envOf}
-use Rattle.finding.specs.Found.{foundBits, foundUnsigned, foundSigned, foundString, foundText, foundBlob}
+use Rattle.finding.specs.Found.{foundBits, foundUnsigned, foundSigned}
+use Rattle.spans.specs.Found.{foundString, foundText, foundBlob}
 use Rattle.slots.specs.Taken.{lengthOf}
 use Rattle.leaves.specs.Settled.{settle, listing, thenFixed, thenLeb, thenBlob, forLength}
 use Rattle.leaves.specs.Done.{LeafDid}

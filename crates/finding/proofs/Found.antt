@@ -1,35 +1,30 @@
 -- Each way that a leaf is found or refused, by the tests that lead to it.
-use Prim.Native.Nat.{ℕ, _+_, _-_, _*_, _/_, _%_, _<_, _≤_}
+use Prim.Native.Nat.{ℕ, _+_, _-_, _/_, _%_, _<_, _≤_}
 use native.Mathlib.Omega.{arith}
 use mathlib.Core.Path.{_≡_, refl, sym, _∙_}
 use mathlib.Core.List.{List}
 use mathlib.Core.Bool.{Bool, true, false, not, _&&_}
 use lib.Dec.{eqb}
-use lib.ListN.{length, take, drop, length-take, length-drop}
+use lib.ListN.{take, drop}
 use borrow.Author.Tests.{lt-ltb, le-ltb}
 use Rattle.rules.specs.declared.BitPlace.{BitPlace}
 use Rattle.rules.specs.declared.ByteLength.{ByteLength}
 use Rattle.rules.specs.declared.Leb.{Leb}
 use Rattle.rules.specs.declared.Leb.the-variants.{Value, Past, Large}
-use Rattle.rules.specs.declared.Ended.{Ended}
-use Rattle.rules.specs.declared.Ended.the-variants.{After, Never}
 use Rattle.rules.specs.declared.Order.{Order}
 use Rattle.rules.specs.declared.LastOrder.{LastOrder}
-use Rattle.rules.specs.declared.Refusal.the-variants.{PastBound, OrderChanged, NoZeroByte}
-use Rattle.rules.specs.Place.{bitPlace, byteLength, alignFrom}
+use Rattle.rules.specs.declared.Refusal.the-variants.{PastBound, OrderChanged}
+use Rattle.rules.specs.Place.{bitPlace, alignFrom}
 use Rattle.rules.specs.Bits.{bits}
 use Rattle.rules.specs.Field.{otherOrder}
 use Rattle.rules.specs.Leb128.{lebUnsigned, lebSigned}
-use Rattle.rules.specs.Text.{textLength, zeroAt}
 use Rattle.places.proofs.Multiple.{aligning}
-use Rattle.text.proofs.Laws.{zero-found}
 use Rattle.leb128.proofs.ValueSays.{unsigned-value, signed-value}
 use Rattle.finding.specs.declared.Frame.{Frame}
 use Rattle.finding.specs.declared.find.Found.{Found}
 use Rattle.finding.specs.declared.find.Found.the-variants.{At, Refused}
-use Rattle.finding.specs.Found.{alignedAt, unless, within, foundBits, foundUnsigned, foundSigned, foundString, foundBlob, foundText}
+use Rattle.finding.specs.Found.{alignedAt, unless, within, bytesAhead, foundBits, foundUnsigned, foundSigned, foundLeb}
 use Rattle.finding.specs.Framed.{Short}
-use Rattle.finding.specs.Found.{bytesAhead, foundLeb, foundZero}
 
 pub within-past : (f : Frame) (p : BitPlace) (n : ℕ) (x : Found) → f .bound .0 < p .0 + n → within f p n x ≡ Refused PastBound
 unfolding within unless
@@ -57,18 +52,6 @@ module _ (f : Frame) (from p : BitPlace) (e : p ≡ alignedAt f 8 from) where
   pub aligned-whole : f .start .0 % 8 ≡ 0 → p .0 % 8 ≡ 0
   unfolding alignedAt alignFrom
   aligned-whole whole = rw (e) (omega (arith, aligning .is-least 8 (from .0 - f .start .0) (omega arith) .multiple))
-
-  pub blob-past : (n : ℕ) → f .bound .0 < p .0 → Refused PastBound ≡ foundBlob f from n
-  unfolding foundBlob
-  blob-past n past = rw (← e) (sym (within-past f p 0 _ (omega arith)))
-
-  pub blob-short : (n : ℕ) → p .0 ≤ f .bound .0 → f .bound .0 < p .0 + 8 * n → Refused PastBound ≡ foundBlob f from n
-  unfolding foundBlob
-  blob-short n l past = rw (← e) (sym (within-fits f p 0 _ (omega arith) ∙ within-past f p (8 * n) _ past))
-
-  pub blob-at : (n : ℕ) → p .0 + 8 * n ≤ f .bound .0 → At p (8 * n) n ≡ foundBlob f from n
-  unfolding foundBlob
-  blob-at n fits = rw (← e) (sym (within-fits f p 0 _ (omega arith) ∙ within-fits f p (8 * n) _ fits))
 
 -- a field that stands at p once it is aligned
 module _ (b : List ℕ) (f : Frame) (from p : BitPlace) where
@@ -100,7 +83,7 @@ module _ (b : List ℕ) (f : Frame) (from p : BitPlace) where
     abbrev pub read : List ℕ
     read = take (f .bound .0 / 8 - p .0 / 8) (drop (p .0 / 8) b)
 
-    bytes-ahead : f .start .0 % 8 ≡ 0 → p .0 ≤ f .bound .0 → read ≡ bytesAhead b f p
+    pub bytes-ahead : f .start .0 % 8 ≡ 0 → p .0 ≤ f .bound .0 → read ≡ bytesAhead b f p
     unfolding bytesAhead
     bytes-ahead whole l =
         let at-byte : p .0 % 8 ≡ 0 = aligned-whole f from p e whole in
@@ -123,27 +106,6 @@ module _ (b : List ℕ) (f : Frame) (from p : BitPlace) where
     unfolding foundSigned
     signed-at whole l = rw (bytes-ahead whole l, ← e) (sym (within-fits f p 0 _ (omega arith)))
 
-    pub string-past : f .bound .0 < p .0 → Refused PastBound ≡ foundString b f from
-    unfolding foundString
-    string-past past = rw (← e) (sym (within-past f p 0 _ (omega arith)))
-
-    pub string-at : f .start .0 % 8 ≡ 0 → p .0 ≤ f .bound .0 → foundZero p (zeroAt read) ≡ foundString b f from
-    unfolding foundString
-    string-at whole l = rw (bytes-ahead whole l, ← e) (sym (within-fits f p 0 _ (omega arith)))
-
-    pub text-past : (n : ℕ) → f .bound .0 < p .0 → Refused PastBound ≡ foundText b f from n
-    unfolding foundText
-    text-past n past = rw (← e) (sym (within-past f p 0 _ (omega arith)))
-
-    pub text-short : (n : ℕ) → p .0 ≤ f .bound .0 → f .bound .0 < p .0 + 8 * n → Refused PastBound ≡ foundText b f from n
-    unfolding foundText
-    text-short n l past = rw (← e) (sym (within-fits f p 0 _ (omega arith) ∙ within-past f p (8 * n) _ past))
-
-    pub text-at : (n : ℕ) → p .0 + 8 * n ≤ f .bound .0 →
-        At p (8 * n) (textLength (take n (drop (p .0 / 8) b))) ≡ foundText b f from n
-    unfolding foundText
-    text-at n fits = rw (← e) (sym (within-fits f p 0 _ (omega arith) ∙ within-fits f p (8 * n) _ fits))
-
 -- an answer of ten bytes at most
 pub short-value : (x : Leb) (v : ℕ) (n : ByteLength) → Short x → x ≡ Value v n → n .0 ≤ 10
 unfolding Short
@@ -163,24 +125,3 @@ short-unsigned x b e = short-of x (λ v n h. unsigned-value b v n (sym e ∙ h) 
 
 pub short-signed : (x : Leb) (b : List ℕ) → x ≡ lebSigned b → Short x
 short-signed x b e = short-of x (λ v n h. signed-value b v n (sym e ∙ h) .most)
-
--- the answer of a search for a zero byte from one byte to another
-module _ (b : List ℕ) (from to : ByteLength) (x : Ended) (e : x ≡ zeroAt (take (to .0 - from .0) (drop (from .0) b))) where
-  -- a text has fewer bytes than the stream
-  pub short-zero : (n : ByteLength) → x ≡ After n → n .0 < length b
-  short-zero n h =
-      let searched = take (to .0 - from .0) (drop (from .0) b) in
-      omega (arith, zero-found searched n (sym e ∙ h) .0, length-take (to .0 - from .0) (drop (from .0) b), length-drop (from .0) b)
-
-  module _ (f : Frame) (place p : BitPlace) (aligned : p ≡ alignedAt f 8 place) (whole : f .start .0 % 8 ≡ 0) (l : p .0 ≤ f .bound .0) where
-    module _ (from-is : from ≡ byteLength (p .0 / 8)) (to-is : to ≡ byteLength (f .bound .0 / 8)) where
-      string-is : foundZero p x ≡ foundString b f place
-      string-is = rw (e, from-is, to-is) (string-at b f place p aligned whole l)
-
-      pub string-ends : (n : ByteLength) → x ≡ After n → At p (8 * (n .0 + 1)) (n .0) ≡ foundString b f place
-      unfolding foundZero
-      string-ends n h = rw (← string-is, h) refl
-
-      pub string-endless : x ≡ Never → Refused NoZeroByte ≡ foundString b f place
-      unfolding foundZero
-      string-endless h = rw (← string-is, h) refl

@@ -1,4 +1,4 @@
--- What was found lies before the bound, and a number fits its bits. In order: the tests; kinds 16 to 20; LEB128; bytes.
+-- What was found lies before the bound, and a number fits its bits. In order: the tests; kinds 16 to 20; LEB128.
 use mathlib.Core.Path.{_≡_, refl, sym, _∙_}
 use mathlib.Core.List.{List}
 use mathlib.Core.Logic.{⊎-elim}
@@ -13,21 +13,17 @@ use Rattle.rules.specs.declared.LastOrder.{LastOrder}
 use Rattle.rules.specs.declared.Refusal.{Refusal}
 use Rattle.rules.specs.declared.Leb.{Leb}
 use Rattle.rules.specs.declared.Leb.the-variants.{Value, Past, Large}
-use Rattle.rules.specs.declared.Ended.{Ended}
-use Rattle.rules.specs.declared.Ended.the-variants.{After, Never}
 use Rattle.rules.specs.Bits.{bits}
-use Rattle.rules.specs.Text.{zeroAt}
 use Rattle.facts.specs.Bytes.{Bytes}
 use Rattle.facts.proofs.Bytes.{bytes-take, bytes-drop}
 use Rattle.facts.proofs.Numbers.{lt-or-ge}
 use Rattle.bits.proofs.Laws.{bits-below}
 use Rattle.leb128.proofs.ValueSays.{unsigned-value, signed-value, unsigned-small}
-use Rattle.text.proofs.Laws.{zero-found}
 use Rattle.finding.specs.declared.Frame.{Frame}
 use Rattle.finding.specs.declared.find.Found.{Found}
-use Rattle.finding.specs.declared.find.Found.the-variants.{At, Refused}
+use Rattle.finding.specs.declared.find.Found.the-variants.{At}
 use Rattle.finding.specs.Framed.{Framed}
-use Rattle.finding.specs.Found.{Ends, alignedAt, unless, within, bytesAhead, foundBits, foundLeb, foundUnsigned, foundSigned, foundZero, foundString, foundBlob, foundText}
+use Rattle.finding.specs.Found.{alignedAt, unless, within, bytesAhead, foundBits, foundLeb, foundUnsigned, foundSigned}
 use Rattle.finding.proofs.Found.{within-past, within-fits}
 
 -- A leaf that was found passed each test
@@ -38,7 +34,7 @@ module _ (f : Frame) (p : BitPlace) (m v : ℕ) where
   unless-found true r x e = let z : _≡_ {A = ℕ} 0 1 = cc in absurd (omega arith)
   unless-found false r x e = e
 
-  within-found : (q : BitPlace) (n : ℕ) (x : Found) → within f q n x ≡ At p m v → (q .0 + n ≤ f .bound .0) × (x ≡ At p m v)
+  pub within-found : (q : BitPlace) (n : ℕ) (x : Found) → within f q n x ≡ At p m v → (q .0 + n ≤ f .bound .0) × (x ≡ At p m v)
   within-found q n x e = ⊎-elim
       (λ (past : f .bound .0 < q .0 + n). let z : _≡_ {A = ℕ} 0 1 = cc (within-past f q n x past) in absurd (omega arith))
       (λ (fits : q .0 + n ≤ f .bound .0). (fits, sym (within-fits f q n x fits) ∙ e))
@@ -76,7 +72,7 @@ module _ (f : Frame) (p : BitPlace) (m v : ℕ) where
   leb-found Says q Large says e = let z : _≡_ {A = ℕ} 0 1 = cc in absurd (omega arith)
 
 -- no more bytes are ahead than lie before the bound
-ahead-length : (b : List ℕ) (f : Frame) (q : BitPlace) → length (bytesAhead b f q) ≤ (f .bound .0 - q .0) / 8
+pub ahead-length : (b : List ℕ) (f : Frame) (q : BitPlace) → length (bytesAhead b f q) ≤ (f .bound .0 - q .0) / 8
 unfolding bytesAhead
 ahead-length b f q = omega (arith, length-take ((f .bound .0 - q .0) / 8) (drop (q .0 / 8) b))
 
@@ -105,50 +101,10 @@ module _ (b : List ℕ) (f : Frame) (from p : BitPlace) (m v : ℕ) where
       (omega (arith, inside .0, signed-value _ w k is .inside, ahead-length b f q), signed-value _ w k is .fits))
       (inside .1) .0
 
--- Bytes
-
-module _ (f : Frame) (p : BitPlace) (m v : ℕ) where
-  zero-lies : (bs : List ℕ) (q : BitPlace) (x : Ended) → x ≡ zeroAt bs → length bs ≤ (f .bound .0 - q .0) / 8 → q .0 ≤ f .bound .0
-      → foundZero q x ≡ At p m v → p .0 + m ≤ f .bound .0
-  unfolding foundZero
-  zero-lies bs q (After n) is h l e =
-      let place : q ≡ p = cc in
-      let width : 8 * (n .0 + 1) ≡ m = cc in
-      rw (← place, ← width) (omega (arith, zero-found bs n (sym is) .0))
-  zero-lies bs q Never is h l e = let z : _≡_ {A = ℕ} 0 1 = cc in absurd (omega arith)
-
-  bytes-lie : (q : BitPlace) (n w : ℕ) → q .0 + n ≤ f .bound .0 → At q n w ≡ At p m v → (p .0 + m ≤ f .bound .0) × (m ≡ n) × (v ≡ w)
-  bytes-lie q n w fits e =
-      let place : q ≡ p = cc in
-      let width : n ≡ m = cc in
-      let value : w ≡ v = cc in
-      rw (← place, ← width, ← value) (fits, refl, refl)
-
-  string-found : (b : List ℕ) (from : BitPlace) → foundString b f from ≡ At p m v → p .0 + m ≤ f .bound .0
-  unfolding foundString
-  string-found b from e =
-      let q = alignedAt f 8 from in
-      let inside = within-found f p m v q 0 _ e in
-      zero-lies (bytesAhead b f q) q _ refl (ahead-length b f q) (omega (arith, inside .0)) (inside .1)
-
-  blob-found : (from : BitPlace) (n : ℕ) → foundBlob f from n ≡ At p m v → (p .0 + m ≤ f .bound .0) × (m ≡ 8 * n) × (v ≡ n)
-  unfolding foundBlob
-  blob-found from n e =
-      let q = alignedAt f 8 from in
-      let inside = within-found f p m v q (8 * n) _ (within-found f p m v q 0 _ e .1) in
-      bytes-lie q (8 * n) _ (inside .0) (inside .1)
-
-  text-found : (b : List ℕ) (from : BitPlace) (n : ℕ) → foundText b f from n ≡ At p m v → p .0 + m ≤ f .bound .0
-  unfolding foundText
-  text-found b from n e =
-      let q = alignedAt f 8 from in
-      let inside = within-found f p m v q (8 * n) _ (within-found f p m v q 0 _ e .1) in
-      bytes-lie q (8 * n) _ (inside .0) (inside .1) .0
-
 -- What the code rests on: x is what was found in a frame
 
 module _ {b : List ℕ} {f : Frame} {from : BitPlace} (framed : Framed b f from) where
-  below-bound : (e : ℕ) → e ≤ f .bound .0 → e < 2 ^ 64
+  pub below-bound : (e : ℕ) → e ≤ f .bound .0 → e < 2 ^ 64
   below-bound e h = omega (arith, framed .ends, framed .small)
 
   module _ {x : Found} {p : BitPlace} {m v : ℕ} (at : x ≡ At p m v) where
@@ -163,26 +119,3 @@ module _ {b : List ℕ} {f : Frame} {from : BitPlace} (framed : Framed b f from)
 
     pub signed-lies : x ≡ foundSigned b f from → p .0 + m < 2 ^ 64
     signed-lies is = below-bound _ (signed-found b f from p m v (sym is ∙ at))
-
-    pub blob-lies : (n : ℕ) → x ≡ foundBlob f from n → (p .0 + m < 2 ^ 64) × (p .0 / 8 + n ≤ length b) × (v ≡ n)
-    blob-lies n is =
-        let found = blob-found f p m v from n (sym is ∙ at) in
-        (below-bound _ (found .0), omega (arith, found .0, found .1, framed .ends), found .2)
-
-  ends-of : (x : Found) → ((p : BitPlace) (m v : ℕ) → x ≡ At p m v → p .0 + m ≤ f .bound .0) → Ends x
-  unfolding Ends
-  ends-of (At p m v) h = below-bound _ (h p m v refl)
-  ends-of (Refused r) h = tt
-
-  pub string-ends : {x : Found} → x ≡ foundString b f from → Ends x
-  string-ends {x} e = ends-of x (λ p m v is. string-found f p m v b from (sym e ∙ is))
-
-  pub blob-ends : (n : ℕ) {x : Found} → x ≡ foundBlob f from n → Ends x
-  blob-ends n {x} e = ends-of x (λ p m v is. blob-found f p m v from n (sym e ∙ is) .0)
-
-  pub text-ends : (n : ℕ) {x : Found} → x ≡ foundText b f from n → Ends x
-  text-ends n {x} e = ends-of x (λ p m v is. text-found f p m v b from n (sym e ∙ is))
-
-pub ends-at : {x : Found} {p : BitPlace} {m v : ℕ} → x ≡ At p m v → Ends x → p .0 + m < 2 ^ 64
-unfolding Ends
-ends-at e h = rw (e) at h

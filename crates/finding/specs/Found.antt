@@ -1,6 +1,6 @@
 -- Where a leaf stands and what it says, or why it is refused: "alignment, 23, then its bits or bytes" (Reading). The steps of `read` in
--- which nothing is listed yet, as numbers.
-use Prim.Native.Nat.{ℕ, _+_, _-_, _*_, _/_, _%_, _^_, _<_}
+-- which nothing is listed yet, as numbers. Kinds 23 to 27 are in the crate spans.
+use Prim.Native.Nat.{ℕ, _+_, _-_, _*_, _/_, _%_}
 use mathlib.Core.List.{List}
 use mathlib.Core.Bool.{Bool, true, false, not, _&&_}
 use lib.Dec.{ltb, eqb}
@@ -9,24 +9,16 @@ use Rattle.rules.specs.declared.BitPlace.{BitPlace}
 use Rattle.rules.specs.declared.Order.{Order}
 use Rattle.rules.specs.declared.LastOrder.{LastOrder}
 use Rattle.rules.specs.declared.Refusal.{Refusal}
-use Rattle.rules.specs.declared.Refusal.the-variants.{PastBound, OrderChanged, LebTooLarge, NoZeroByte}
+use Rattle.rules.specs.declared.Refusal.the-variants.{PastBound, OrderChanged, LebTooLarge}
 use Rattle.rules.specs.declared.Leb.{Leb}
 use Rattle.rules.specs.declared.Leb.the-variants.{Value, Past, Large}
-use Rattle.rules.specs.declared.Ended.{Ended}
-use Rattle.rules.specs.declared.Ended.the-variants.{After, Never}
 use Rattle.rules.specs.Bits.{bits}
 use Rattle.rules.specs.Leb128.{lebUnsigned, lebSigned}
-use Rattle.rules.specs.Text.{textLength, zeroAt}
 use Rattle.rules.specs.Place.{bitPlace, alignFrom}
 use Rattle.rules.specs.Field.{otherOrder}
 use Rattle.finding.specs.declared.Frame.{Frame}
 use Rattle.finding.specs.declared.find.Found.{Found}
 use Rattle.finding.specs.declared.find.Found.the-variants.{At, Refused}
-
--- a leaf that ends below what a place can be
-unfoldable pub Ends : Found → Type 0
-Ends (At p n v) = p .0 + n < 2 ^ 64
-Ends (Refused r) = Unit {0}
 
 -- "A field aligns (place - P) up to its requirement"
 unfoldable pub alignedAt : Frame → ℕ → BitPlace → BitPlace
@@ -63,21 +55,3 @@ foundUnsigned b f from = let p = alignedAt f 8 from in within f p 0 (foundLeb p 
 
 unfoldable pub foundSigned : List ℕ → Frame → BitPlace → Found
 foundSigned b f from = let p = alignedAt f 8 from in within f p 0 (foundLeb p (lebSigned (bytesAhead b f p)))
-
--- "string 23 counts without its zero (bits include it)"
-unfoldable pub foundZero : BitPlace → Ended → Found
-foundZero p (After n) = At p (8 * (n .0 + 1)) (n .0)
-foundZero p Never = Refused NoZeroByte
-
-unfoldable pub foundString : List ℕ → Frame → BitPlace → Found
-foundString b f from = let p = alignedAt f 8 from in within f p 0 (foundZero p (zeroAt (bytesAhead b f p)))
-
--- "BLOBs their byte count"
-unfoldable pub foundBlob : Frame → BitPlace → ℕ → Found
-foundBlob f from n = let p = alignedAt f 8 from in within f p 0 (within f p (8 * n) (At p (8 * n) n))
-
--- "Strings 24 and 26 have bits for all their bytes"
-unfoldable pub foundText : List ℕ → Frame → BitPlace → ℕ → Found
-foundText b f from n =
-    let p = alignedAt f 8 from in
-    within f p 0 (within f p (8 * n) (At p (8 * n) (textLength (take n (drop (p .0 / 8) b)))))

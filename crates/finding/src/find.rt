@@ -1,9 +1,7 @@
-// Where a leaf, kinds 16 to 27, stands and what it says, or why it is refused: alignment, order, then its bits or bytes. Nothing is
+// Where a number, kinds 16 to 22, stands and what it says, or why it is refused: alignment, order, then its bits or bytes. Nothing is
 // listed here.
 use crate::Frame;
 use rules::BitPlace;
-use rules::ByteLength;
-use rules::Ended;
 use rules::LastOrder;
 use rules::Leb;
 use rules::Order;
@@ -14,7 +12,7 @@ ghost use Prim.Native.Nat.{_%_, _^_, _≤_};
 ghost use lib.Dec.{eqb};
 ghost use Rattle.rules.specs.Field.{otherOrder};
 ghost use Rattle.finding.specs.Framed.{Framed, Short};
-ghost use Rattle.finding.specs.Found.{foundBits, foundUnsigned, foundSigned, foundString, foundBlob, foundText, foundLeb};
+ghost use Rattle.finding.specs.Found.{foundBits, foundUnsigned, foundSigned, foundLeb};
 
 // A leaf that stands at its aligned place with so many bits and says a value; or why it is refused.
 pub enum Found {
@@ -27,7 +25,7 @@ pub enum Found {
 }
 
 // The exponent of the alignment of kinds 21 to 27: whole bytes.
-const BYTE: u64 = 3;
+pub const BYTE: u64 = 3;
 
 // Kinds 16 to 20: a number of `width` bits.
 pub fn find_bits(
@@ -129,69 +127,5 @@ fn leb_at(place: BitPlace, answer: Leb) -> Found
         },
         Leb::Past => Found::Refused(Refusal::PastBound),
         Leb::Large => Found::Refused(Refusal::LebTooLarge),
-    }
-}
-
-// Kind 23: a string up to its zero byte.
-pub fn find_string(stream: &[u8], frame: Frame, from: BitPlace) -> Found
-    requires { ⌜ Framed (now stream) frame from ⌝ }
-    ensures { λ r. ⌜ r ≡ foundString (now (stream .entry)) frame from ⌝ }
-{
-    let place = places::align(from, frame.start, BYTE);
-    if frame.bound.0 < place.0 {
-        return Found::Refused(Refusal::PastBound);
-    }
-    let at = places::bytes_before(place);
-    let end = places::bytes_before(frame.bound);
-    match text::find_zero(stream, at, end) {
-        Ended::After(n) => Found::At {
-            place,
-            bits: places::bits_in(ByteLength(n.0 + 1)),
-            value: n.0 as u64,
-        },
-        Ended::Never => Found::Refused(Refusal::NoZeroByte),
-    }
-}
-
-// Kinds 25 and 27: so many bytes, of which nothing is said but where they stand.
-pub fn find_blob(stream: &[u8], frame: Frame, from: BitPlace, bytes: ByteLength) -> Found
-    requires { ⌜ Framed (now stream) frame from ⌝ }
-    requires { ⌜ bytes .0 ≤ 65535 ⌝ }
-    ensures { λ r. ⌜ r ≡ foundBlob frame from (bytes .0) ⌝ }
-{
-    let place = places::align(from, frame.start, BYTE);
-    if frame.bound.0 < place.0 {
-        return Found::Refused(Refusal::PastBound);
-    }
-    let bits = places::bits_in(bytes);
-    if frame.bound.0 < place.0 + bits {
-        return Found::Refused(Refusal::PastBound);
-    }
-    Found::At {
-        place,
-        bits,
-        value: bytes.0 as u64,
-    }
-}
-
-// Kinds 24 and 26: so many bytes of text, "the count before the first zero byte, or of all".
-pub fn find_text(stream: &[u8], frame: Frame, from: BitPlace, bytes: ByteLength) -> Found
-    requires { ⌜ Framed (now stream) frame from ⌝ }
-    requires { ⌜ bytes .0 ≤ 65535 ⌝ }
-    ensures { λ r. ⌜ r ≡ foundText (now (stream .entry)) frame from (bytes .0) ⌝ }
-{
-    let place = places::align(from, frame.start, BYTE);
-    if frame.bound.0 < place.0 {
-        return Found::Refused(Refusal::PastBound);
-    }
-    let bits = places::bits_in(bytes);
-    if frame.bound.0 < place.0 + bits {
-        return Found::Refused(Refusal::PastBound);
-    }
-    let count = text::count(stream, places::bytes_before(place), bytes);
-    Found::At {
-        place,
-        bits,
-        value: count.0 as u64,
     }
 }

@@ -1,4 +1,5 @@
-// Where a leaf stands and what it says, before anything of it is listed: kinds 16 to 27.
+// Where a leaf stands and what it says, before anything of it is listed: the numbers, kinds 16 to 22. Kinds 23 to 27 are in the crate above,
+// spans.
 use rules::BitPlace;
 
 pub mod find;

@@ -29,7 +29,8 @@ use Rattle.slots.specs.declared.Length.the-variants.{Of, NotOf}
 use Rattle.finding.specs.declared.find.Found.{Found}
 use Rattle.finding.specs.declared.find.Found.the-variants.{At, Refused}
 use Rattle.finding.specs.Framed.{envOf}
-use Rattle.finding.specs.Found.{alignedAt, unless, within, bytesAhead, foundBits, foundLeb, foundUnsigned, foundSigned, foundZero, foundString, foundText, foundBlob}
+use Rattle.finding.specs.Found.{alignedAt, unless, within, bytesAhead, foundBits, foundLeb, foundUnsigned, foundSigned}
+use Rattle.spans.specs.Found.{foundZero, foundString, foundText, foundBlob}
 use Rattle.slots.specs.Taken.{lengthOf}
 use Rattle.listing.proofs.Checks.{check-stops, check-goes, room-first}
 use Rattle.leaves.specs.Settled.{Then, settle, listing, thenFixed, thenLeb, thenBlob, forLength}

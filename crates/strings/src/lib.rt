@@ -1,6 +1,5 @@
 // Kinds 23 to 27: bytes, as a text or as a BLOB.
 use finding::Frame;
-use finding::find;
 use finding::find::Found;
 use leaves::Leaf;
 use leaves::after::NO_SLOT;
@@ -23,7 +22,7 @@ ghost use Rattle.rules.specs.Faults.{roleOf};
 ghost use Rattle.rules.specs.Class.{uuid as uuidRole};
 ghost use Rattle.rules.specs.Field.{sameBytes};
 ghost use Rattle.finding.specs.Framed.{Framed, envOf};
-ghost use Rattle.finding.specs.Found.{Ends, foundString, foundText, foundBlob};
+ghost use Rattle.spans.specs.Found.{Ends, foundString, foundText, foundBlob};
 ghost use Rattle.slots.specs.Taken.{lengthOf};
 ghost use Rattle.leaves.specs.Settled.{settle, listing, thenBlob, forLength};
 ghost use Rattle.leaves.specs.Done.{LeafDid};
@@ -49,7 +48,7 @@ pub fn read_string(stream: &[u8], frame: Frame, st: State, list: &mut [u64]) -> 
         ⌝ }
 {
     let from = st.place;
-    list_found(STRING, find::find_string(stream, frame, from), st, list)
+    list_found(STRING, spans::find_string(stream, frame, from), st, list)
 }
 
 // Kind 24.
@@ -70,7 +69,7 @@ pub fn read_static_string(
     let from = st.place;
     list_found(
         STATIC_STRING,
-        find::find_text(stream, frame, from, bytes),
+        spans::find_text(stream, frame, from, bytes),
         st,
         list,
     )
@@ -100,7 +99,7 @@ pub fn read_static_blob(
     let from = st.place;
     list_found(
         STATIC_BLOB,
-        find::find_blob(stream, frame, from, bytes),
+        spans::find_blob(stream, frame, from, bytes),
         st,
         list,
     )
@@ -125,7 +124,7 @@ fn read_uuid(
 {
     let from = st.place;
     let last = st.order;
-    match find::find_blob(stream, frame, from, bytes) {
+    match spans::find_blob(stream, frame, from, bytes) {
         Found::Refused(why) => refused(why, st),
         Found::At { place, bits, value } => {
             let entry = Entry {
@@ -190,7 +189,7 @@ pub fn read_dynamic_string(
         Length::NotOf(why) => refused(why, st),
         Length::Of(bytes) => list_found(
             DYNAMIC_STRING,
-            find::find_text(stream, frame, from, bytes),
+            spans::find_text(stream, frame, from, bytes),
             st,
             list,
         ),
@@ -217,7 +216,7 @@ pub fn read_dynamic_blob(
         Length::NotOf(why) => refused(why, st),
         Length::Of(bytes) => list_found(
             DYNAMIC_BLOB,
-            find::find_blob(stream, frame, from, bytes),
+            spans::find_blob(stream, frame, from, bytes),
             st,
             list,
         ),

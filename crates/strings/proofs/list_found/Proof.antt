@@ -8,7 +8,7 @@ use Rattle.leaves.proofs.after.finish_without_role.Reads as finish-without-role
 use Rattle.leaves.proofs.after.refused.Reads as refused-reads
 use mathlib.Core.Path.{refl}
 use Rattle.leaves.proofs.Done.{refused-did, plain-did}
-use Rattle.finding.proofs.Lies.{ends-at}
+use Rattle.spans.proofs.Lies.{ends-at}
 
 enum-known-found : tie.Need-enum-known-found
 enum-known-found c = search needs

@@ -6,9 +6,9 @@ use Rattle.strings.proofs.read_static_blob.Reads as reads
 use Rattle.strings.proofs.read_static_blob.Lts as lts
 use Rattle.strings.proofs.list_found.Reads as list-found-reads
 use Rattle.strings.proofs.read_uuid.Reads as read-uuid-reads
-use Rattle.finding.proofs.find.find_blob.Reads as find-blob-reads
+use Rattle.spans.proofs.find_blob.Reads as find-blob-reads
 use Rattle.rules.specs.Faults.{roles, roleOf}
-use Rattle.finding.proofs.Lies.{blob-ends}
+use Rattle.spans.proofs.Lies.{blob-ends}
 use Rattle.strings.proofs.Uuid.{no-uuid-did}
 
 read-uuid-requires : tie.Need-read-uuid-requires

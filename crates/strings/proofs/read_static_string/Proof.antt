@@ -5,8 +5,8 @@ use Rattle.strings.proofs.read_static_string.Tie as tie
 use Rattle.strings.proofs.read_static_string.Reads as reads
 use Rattle.strings.proofs.read_static_string.Lts as lts
 use Rattle.strings.proofs.list_found.Reads as list-found-reads
-use Rattle.finding.proofs.find.find_text.Reads as find-text-reads
-use Rattle.finding.proofs.Lies.{text-ends}
+use Rattle.spans.proofs.find_text.Reads as find-text-reads
+use Rattle.spans.proofs.Lies.{text-ends}
 
 find-text-requires : tie.Need-find-text-requires
 find-text-requires c κs = search needs

@@ -5,8 +5,8 @@ use Rattle.strings.proofs.read_string.Tie as tie
 use Rattle.strings.proofs.read_string.Reads as reads
 use Rattle.strings.proofs.read_string.Lts as lts
 use Rattle.strings.proofs.list_found.Reads as list-found-reads
-use Rattle.finding.proofs.find.find_string.Reads as find-string-reads
-use Rattle.finding.proofs.Lies.{string-ends}
+use Rattle.spans.proofs.find_string.Reads as find-string-reads
+use Rattle.spans.proofs.Lies.{string-ends}
 
 find-string-requires : tie.Need-find-string-requires
 find-string-requires c κs = search needs

@@ -9,11 +9,11 @@ use Rattle.leaves.proofs.after.refused.Reads as refused-reads
 use Rattle.leaves.proofs.after.stopped.Reads as stopped-reads
 use Rattle.strings.proofs.same.Reads as same-reads
 use Rattle.listing.proofs.entry.write.Reads as write-reads
-use Rattle.finding.proofs.find.find_blob.Reads as find-blob-reads
+use Rattle.spans.proofs.find_blob.Reads as find-blob-reads
 use Rattle.places.proofs.bytes_before.Reads as bytes-before-reads
 use Rattle.places.proofs.further.Reads as further-reads
 use Rattle.leaves.proofs.Done.{refused-did}
-use Rattle.finding.proofs.Lies.{blob-lies}
+use Rattle.spans.proofs.Lies.{blob-lies}
 use Rattle.strings.proofs.Uuid.{uuid-did, wrong-uuid-did}
 
 find-blob-requires : tie.Need-find-blob-requires

@@ -1,14 +1,14 @@
 -- Each return is the law of the test that leads to it.
 use borrow.Author.Needs.{needs}
-use Rattle.finding.proofs.find.find_blob.Statement.{statement}
-use Rattle.finding.proofs.find.find_blob.Tie as tie
-use Rattle.finding.proofs.find.find_blob.Reads as reads
-use Rattle.finding.proofs.find.find_blob.Lts as lts
+use Rattle.spans.proofs.find_blob.Statement.{statement}
+use Rattle.spans.proofs.find_blob.Tie as tie
+use Rattle.spans.proofs.find_blob.Reads as reads
+use Rattle.spans.proofs.find_blob.Lts as lts
 use Rattle.places.proofs.align.Reads as align-reads
 use Rattle.places.proofs.bits_in.Reads as bits-in-reads
 use native.Mathlib.Omega.{arith}
-use Rattle.finding.proofs.Found.{blob-past, blob-short, blob-at}
+use Rattle.spans.proofs.Found.{blob-past, blob-short, blob-at}
 use Rattle.finding.specs.Found.{alignedAt}
 
 align-requires : tie.Need-align-requires
 align-requires c κs = search needs

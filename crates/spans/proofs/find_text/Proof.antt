@@ -1,16 +1,16 @@
 -- Each return is the law of the test that leads to it; the text lies in the stream.
 use borrow.Author.Needs.{needs}
-use Rattle.finding.proofs.find.find_text.Statement.{statement}
-use Rattle.finding.proofs.find.find_text.Tie as tie
-use Rattle.finding.proofs.find.find_text.Reads as reads
-use Rattle.finding.proofs.find.find_text.Lts as lts
+use Rattle.spans.proofs.find_text.Statement.{statement}
+use Rattle.spans.proofs.find_text.Tie as tie
+use Rattle.spans.proofs.find_text.Reads as reads
+use Rattle.spans.proofs.find_text.Lts as lts
 use Rattle.places.proofs.align.Reads as align-reads
 use Rattle.places.proofs.bits_in.Reads as bits-in-reads
 use Rattle.places.proofs.bytes_before.Reads as bytes-before-reads
 use Rattle.text.proofs.count.Reads as count-reads
 use native.Mathlib.Omega.{arith}
-use Rattle.finding.proofs.Found.{text-past, text-short, text-at}
+use Rattle.spans.proofs.Found.{text-past, text-short, text-at}
 use Rattle.finding.specs.Found.{alignedAt}
 
 align-requires : tie.Need-align-requires
 align-requires c κs = search needs

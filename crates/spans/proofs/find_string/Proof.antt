@@ -1,16 +1,16 @@
 -- The bytes from the aligned place to the bound are those that the rules search.
 use borrow.Author.Needs.{needs}
-use Rattle.finding.proofs.find.find_string.Statement.{statement}
-use Rattle.finding.proofs.find.find_string.Tie as tie
-use Rattle.finding.proofs.find.find_string.Reads as reads
-use Rattle.finding.proofs.find.find_string.Lts as lts
+use Rattle.spans.proofs.find_string.Statement.{statement}
+use Rattle.spans.proofs.find_string.Tie as tie
+use Rattle.spans.proofs.find_string.Reads as reads
+use Rattle.spans.proofs.find_string.Lts as lts
 use Rattle.places.proofs.align.Reads as align-reads
 use Rattle.places.proofs.bits_in.Reads as bits-in-reads
 use Rattle.places.proofs.bytes_before.Reads as bytes-before-reads
 use Rattle.text.proofs.find_zero.Reads as find-zero-reads
 use native.Mathlib.Omega.{arith}
-use Rattle.finding.proofs.Found.{string-past, short-zero, string-ends, string-endless}
+use Rattle.spans.proofs.Found.{string-past, short-zero, string-ends, string-endless}
 use Rattle.finding.specs.Found.{alignedAt}
 
 align-requires : tie.Need-align-requires
 align-requires c κs = search needs
