@@ -6,10 +6,14 @@ use mathlib.Core.Option.{Option, none, some}
 use Prim.Native.Nat.{ℕ, zero, suc, _+_, _-_, _≤_}
 use native.Mathlib.Omega.{arith}
 use lib.ListN.{length, take, replicate, length-take, length-append, length-replicate}
+use lib.Dec.{eqb}
+use borrow.Author.Tests.{eqb-true, eq-eqb}
 use borrow.Rule.Slice.PartMut.{same-len-mid}
 use Rattle.rules.specs.declared.Entry.{Entry}
 use Rattle.rules.specs.declared.Stop.{Stop}
 use Rattle.rules.specs.declared.Refusal.{Refusal}
+use Rattle.rules.specs.declared.Refusal.the-variants.{EventTookNoBits}
+use Rattle.rules.specs.Verdict.{stopAt}
 use Rattle.rules.specs.declared.Content.the-variants.{Unset}
 use Rattle.rules.specs.Limits.{slotCount, packetSlotCount}
 use Rattle.rules.specs.Slots.{Slots, slot, packetSlots}
@@ -19,6 +23,7 @@ use Rattle.rules.specs.Table.{StreamClass, EventClass, Asked}
 use Rattle.rules.specs.Packet.{mark, withEvent, startEvent, readEvent}
 use Rattle.rules.specs.Entry.{eventClassFound}
 use Rattle.facts.proofs.Steps.{onto-nil, after-onto}
+use Rattle.facts.proofs.Truth.{clash}
 use Rattle.finding.specs.declared.Frame.{Frame}
 use Rattle.finding.specs.Framed.{envOf}
 use Rattle.listing.specs.declared.State.{State}
@@ -37,9 +42,9 @@ use Rattle.parts.proofs.Parted.{Parted}
 use Rattle.turns.specs.declared.Asking.{Asking}
 use Rattle.turns.specs.declared.Turn.{Turn as Taken}
 use Rattle.turns.specs.Event.{bodyOf}
-use Rattle.event.specs.Start.{startState}
+use Rattle.event.specs.Start.{startState, endedRan}
 use Rattle.turns.specs.Turns.{Begun, TurnAt, membersRead, turnsAt, turnsFrom}
-use Rattle.event.proofs.Evented.{seq-assoc, moved, behindStart, event-starts, unset-again, left-goes, has-moved}
+use Rattle.event.proofs.Evented.{seq-assoc, moved, behindStart, event-starts, unset-again, left-stops, left-goes, not-moved, has-moved}
 
 walked-same : {w : Call} (m m′ : Step) {ws : List ℕ} {used : ℕ} {st : State} {l : Slots} → ((s : Full) → m s ≡ m′ s)
     → Walked w m ws used st l → Walked w m′ ws used st l
@@ -236,3 +241,16 @@ event-done a c i e keeps found n came l₀ {ws₀} {ws} {used} {st} {l} h many p
     let on = has-moved came st l (length ws₀ - used) k in
     left-goes (moved came) (readEvent a c e n) came l₀ p
     (event-keeps a c i e keeps found n came l₀ (length ws₀) h many _ (full st l (length ws₀ - used)) (p .rest ∙ ap (onto (p .listed)) on)) on
+
+-- the event's end, whether the place moved or not
+pub event-ended : (a : Asked) (c : StreamClass) (i : ℕ) (e : Env) → KeepsEvents a → a .stream i ≡ some c → (n : ℕ) (came : State) (l₀ : Slots)
+    {ws₀ ws : List ℕ} {used : ℕ} {st : State} {l : Slots} → 4 ≤ length ws₀ → length l₀ ≡ slotCount
+    → Part (readEvent a c e n (full came l₀ (length ws₀))) (moved came) ws₀ ws used st l → EventDid (readEvent a c e n) came l₀ (endedRan used st came) ws₀ ws
+unfolding endedRan
+event-ended a c i e keeps found n came l₀ {ws₀} {ws} {used} {st} {l} h many p = by (eqb (st .place .0) (came .place .0)) refl
+  where
+    by : (z : Bool) → eqb (st .place .0) (came .place .0) ≡ z
+        → EventDid (readEvent a c e n) came l₀
+        (elim z [ true ↦ stoppedRan (stopAt EventTookNoBits (st .place)) used came | false ↦ record { went = On; used = used; state = st } ]) ws₀ ws
+    by true q = left-stops (moved came) (readEvent a c e n) came l₀ p _ (not-moved came st l (length ws₀ - used) (eqb-true _ _ q))
+    by false q = event-done a c i e keeps found n came l₀ h many p (λ y. clash (sym q ∙ eq-eqb _ _ y))

@@ -31,7 +31,7 @@ ghost use Rattle.classes.specs.Notes.{notes};
 ghost use Rattle.classes.specs.Fragments.{streamClassAt, askedAt};
 ghost use Rattle.parts.specs.Ran.{EventDid};
 ghost use Rattle.turns.specs.Ready.{Ready, OfStream};
-ghost use Rattle.event.specs.Start.{startState};
+ghost use Rattle.event.specs.Start.{startState, endedRan};
 
 const EVENT_STARTS: u64 = 4;
 
@@ -165,6 +165,13 @@ pub fn read_event(
             slots = r.slots;
         }
     }
+    ended(used, state, begun)
+}
+
+// 38, if the place did not move.
+fn ended(used: usize, state: State, begun: State) -> Ran
+    ensures { λ r. ⌜ r ≡ endedRan used state begun ⌝ }
+{
     if state.place.0 == begun.place.0 {
         return refused(Refusal::EventTookNoBits, state.place, used, begun);
     }

@@ -135,16 +135,7 @@ fn read_by(
         ⌝ }
 {
     let index = [0u32; 0];
-    answer(read_packets(
-        table,
-        sizes,
-        aligns,
-        &index,
-        uuid,
-        header,
-        stream,
-        list,
-    ))
+    answer(read_packets(table, sizes, aligns, &index, uuid, header, stream, list))
 }
 
 // Room for the notes of the longest table.

@@ -36,9 +36,9 @@ use Rattle.classes.proofs.Turns.{whole-inside}
 use Rattle.fields.proofs.Turns.{Call, call, Walked, Turn, Turned, turn-full, leaf-turned, field-turned, no-slot}
 use Rattle.inside.proofs.Slots.{content-met}
 use Rattle.turns.specs.Turns.{membersRead, turnsAt, Known, TurnAt}
-use Rattle.event.proofs.Evented.{nothing-did, moved, event-full, started, left-stops, not-moved}
+use Rattle.event.proofs.Evented.{nothing-did, moved, event-full, started}
 use Rattle.event.proofs.Turning.{event-begun, member-then, members-done, event-stopped, turn-room, turn-same}
-use Rattle.event.proofs.Turning.{turn-stops, turn-goes, turns-done, event-done}
+use Rattle.event.proofs.Turning.{turn-stops, turn-goes, turns-done, event-ended}
 
 -- The event's slots are its own, so what a loop keeps is said from its start on: whatever the event had listed there is still listed, and
 -- what is left is this.
@@ -286,12 +286,12 @@ field-here : (c : AtField) →
 field-here c = field c (event (outside (of-field c))) _ _ (inner (of-field c))
 
 -- behind the loops, 38 is left
-ended : (c : tie.After-loop Inv-loop2 μ-loop2 Inv-loop μ-loop) →
+done : (c : tie.After-loop Inv-loop2 μ-loop2 Inv-loop μ-loop) →
     let a = start (c .before .before) .args in
     let l = c .before .loop in
     Part (event (c .before .before) (envOf (a .stream .now) (a .uuid .now) (a .frame)) (full (a .begun) (a .given) (length (a .list .now))))
     (moved (a .begun)) (a .list .now) (l .list) (l .used) (l .state) (l .slots)
-ended c =
+done c =
     let o = c .before .before in
     let a = start o .args in
     let l = c .before .loop in
@@ -558,27 +558,20 @@ loop2-again-3 c =
     rw (c .before .before .size-at2 .ensures .0, next)
     (m-first m .rest, λ M given ws h. field r M given ws (m .before .loop2 .inv .1 M given ws h) .goes (c .before .before .before .enum-told3 .given .1))
 
-refused-requires-3 : tie.Need-refused-requires-3 Inv-loop2 μ-loop2 Inv-loop μ-loop
-refused-requires-3 c κs = search needs
+ended-requires : tie.Need-ended-requires Inv-loop2 μ-loop2 Inv-loop μ-loop
+ended-requires c κs = search needs
 
 same-length-5 : tie.Need-same-length-5 Inv-loop2 μ-loop2 Inv-loop μ-loop
-same-length-5 c = part-length (ended (c .before .before .before .before))
+same-length-5 c = part-length (done (c .before))
 
 returns-6 : tie.Need-returns-6 Inv-loop2 μ-loop2 Inv-loop μ-loop
 returns-6 c =
-    rw (c .refused3 .ensures) (left-stops _ _ _ _ (ended (c .before .before .before .before)) _ (not-moved _ _ _ _ (c .before .if6 .taken)))
-
-same-length-6 : tie.Need-same-length-6 Inv-loop2 μ-loop2 Inv-loop μ-loop
-same-length-6 c = part-length (ended (c .before .before .before))
-
-returns-7 : tie.Need-returns-7 Inv-loop2 μ-loop2 Inv-loop μ-loop
-returns-7 c =
-    let o = c .before .before .before .before .before in
+    let o = c .before .before .before in
     let a = start o .args in
     let p = start o .pre in
-    event-done (askedAt (a .table .now)) (streamClassAt (a .table .now) (a .with .class)) (a .with .id) (envOf (a .stream .now) (a .uuid .now) (a .frame))
-    (p .0 .keeps) (p .1 .0 .found) (a .number) (a .begun) (a .given) (behind-start o .before .before .if1 .left) (given-many o)
-    (ended (c .before .before .before)) (c .if6 .left)
+    rw (c .ended .ensures)
+    (event-ended (askedAt (a .table .now)) (streamClassAt (a .table .now) (a .with .class)) (a .with .id) (envOf (a .stream .now) (a .uuid .now) (a .frame))
+    (p .0 .keeps) (p .1 .0 .found) (a .number) (a .begun) (a .given) (behind-start o .before .before .if1 .left) (given-many o) (done (c .before)))
 
 pub read-event-spec : {M : Type 1} → statement M
 read-event-spec =
@@ -653,8 +646,6 @@ read-event-spec =
     sub-todo-2
     loop2-less-3
     loop2-again-3
-    refused-requires-3
+    ended-requires
     same-length-5
-    returns-6
-    same-length-6
-    returns-7)
+    returns-6)
