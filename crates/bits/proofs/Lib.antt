@@ -1,4 +1,4 @@
 pub mod Laws
 pub mod Signed
-pub mod Cut
+mod Cut
 pub mod Standard

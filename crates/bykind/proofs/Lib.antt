@@ -1,1 +1,1 @@
-pub mod ByKind
+mod ByKind

@@ -1,2 +1,2 @@
-pub mod LittleEndian
-pub mod Eight
+mod LittleEndian
+mod Eight

@@ -1,3 +1,3 @@
-pub mod Keys
-pub mod Search
-pub mod Choosing
+mod Keys
+mod Search
+mod Choosing

@@ -1,16 +1,16 @@
-pub mod Records
-pub mod ClassRecords
-pub mod Sound
-pub mod Stands
+mod Records
+mod ClassRecords
+mod Sound
+mod Stands
 pub mod Standing
-pub mod One
+mod One
 pub mod Aligned
-pub mod Ends
-pub mod Rooted
+mod Ends
+mod Rooted
 pub mod Asked
 pub mod Lookups
 pub mod Ahead
 pub mod Turns
-pub mod Noted
+mod Noted
 pub mod Reached
 pub mod Written

@@ -1,2 +1,2 @@
 pub mod Least
-pub mod Wrapped
+mod Wrapped

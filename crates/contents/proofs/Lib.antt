@@ -1,3 +1,3 @@
-pub mod StreamClass
+mod StreamClass
 pub mod Lengths
-pub mod Running
+mod Running

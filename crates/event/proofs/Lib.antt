@@ -1,3 +1,3 @@
-pub mod Unset
+mod Unset
 pub mod Evented
-pub mod Turning
+mod Turning

@@ -1,5 +1,5 @@
-pub mod Standing
-pub mod Holders
+mod Standing
+mod Holders
 pub mod Noted
 pub mod Opened
 pub mod Held

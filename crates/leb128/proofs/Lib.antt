@@ -1,4 +1,4 @@
-pub mod FirstNine
-pub mod Tenth
-pub mod Settled
+mod FirstNine
+mod Tenth
+mod Settled
 pub mod ValueSays

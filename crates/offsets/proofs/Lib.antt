@@ -1,7 +1,7 @@
 pub mod Rows
 pub mod Picked
 pub mod Sound
-pub mod Places
+mod Places
 pub mod Searched
 pub mod Ordered
 pub mod Walked
@@ -10,18 +10,18 @@ pub mod Ends
 pub mod Opens
 pub mod Rounds
 pub mod Begun
-pub mod TieTests
-pub mod TieBytes
-pub mod TieKinds
-pub mod TieHead
-pub mod TieIds
-pub mod TieOrder
-pub mod TieWalk
-pub mod TieSays
-pub mod TieClass
-pub mod TieRanges
-pub mod TieOptions
-pub mod TieClasses
-pub mod TieRoots
-pub mod TieFragments
+mod TieTests
+mod TieBytes
+mod TieKinds
+mod TieHead
+mod TieIds
+mod TieOrder
+mod TieWalk
+mod TieSays
+mod TieClass
+mod TieRanges
+mod TieOptions
+mod TieClasses
+mod TieRoots
+mod TieFragments
 pub mod TieCheck

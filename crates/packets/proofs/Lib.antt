@@ -1,5 +1,5 @@
-pub mod Packeted
-pub mod Running
-pub mod Fitted
-pub mod Onward
-pub mod Rounds
+mod Packeted
+mod Running
+mod Fitted
+mod Onward
+mod Rounds

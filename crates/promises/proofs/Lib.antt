@@ -1,30 +1,30 @@
-pub mod Simple
-pub mod Each
-pub mod Rising
-pub mod Rounds
-pub mod Spent
-pub mod Room
-pub mod Values
-pub mod Bounds
-pub mod Packets
-pub mod Local
-pub mod TableRounds
-pub mod Roots
-pub mod Edited
-pub mod Figures
-pub mod Leave
-pub mod Exact
-pub mod Finds
-pub mod Numbered
-pub mod Clocks
-pub mod Calls
-pub mod Words
-pub mod Listed
-pub mod Laws
-pub mod Answers
+mod Simple
+mod Each
+mod Rising
+mod Rounds
+mod Spent
+mod Room
+mod Values
+mod Bounds
+mod Packets
+mod Local
+mod TableRounds
+mod Roots
+mod Edited
+mod Figures
+mod Leave
+mod Exact
+mod Finds
+mod Numbered
+mod Clocks
+mod Calls
+mod Words
+mod Listed
+mod Laws
+mod Answers
 pub mod Promised
-pub mod Only
-pub mod OnlyRan
-pub mod Cases
-pub mod Rejected
-pub mod Standard
+mod Only
+mod OnlyRan
+mod Cases
+mod Rejected
+mod Standard

@@ -1,1 +1,1 @@
-pub mod Front
+mod Front

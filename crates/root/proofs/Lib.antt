@@ -1,1 +1,1 @@
-pub mod Rooted
+mod Rooted

@@ -1,2 +1,2 @@
-pub mod Found
+mod Found
 pub mod Lies

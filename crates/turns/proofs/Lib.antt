@@ -1,4 +1,4 @@
 pub mod Looked
-pub mod Bodies
-pub mod Lefts
-pub mod Openings
+mod Bodies
+mod Lefts
+mod Openings
