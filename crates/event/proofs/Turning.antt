@@ -232,7 +232,7 @@ turns-done t a class (suc (suc (suc (suc zero)))) st h w = absurd (omega arith)
 turns-done t a class (suc (suc (suc (suc (suc n))))) st h w = part-same _ (moved st) (onto-nil _) (w .part)
 
 -- the place moved, and slots 0 to 15 are as they were
-pub event-done : (a : Asked) (c : StreamClass) (i : ℕ) (e : Env) → KeepsEvents a → a .stream i ≡ some c → (n : ℕ) (came : State) (l₀ : Slots) {ws₀ ws : List ℕ}
+event-done : (a : Asked) (c : StreamClass) (i : ℕ) (e : Env) → KeepsEvents a → a .stream i ≡ some c → (n : ℕ) (came : State) (l₀ : Slots) {ws₀ ws : List ℕ}
     {used : ℕ} {st : State} {l : Slots} → 4 ≤ length ws₀ → length l₀ ≡ slotCount
     → Part (readEvent a c e n (full came l₀ (length ws₀))) (moved came) ws₀ ws used st l → (st .place .0 ≡ came .place .0 → ⊥)
     → EventDid (readEvent a c e n) came l₀ (record { went = On; used = used; state = st }) ws₀ ws

@@ -13,7 +13,7 @@ use Rattle.finding.specs.declared.Frame.{Frame}
 use Rattle.finding.specs.declared.find.Found.{Found}
 use Rattle.finding.specs.declared.find.Found.the-variants.{At, Refused}
 use Rattle.finding.specs.Framed.{Framed}
-use Rattle.finding.specs.Found.{alignedAt, bytesAhead}
+use Rattle.finding.specs.Found.{alignedAt, within, bytesAhead}
 use Rattle.finding.proofs.Lies.{within-found, ahead-length, below-bound}
 use Rattle.spans.specs.Found.{Ends, foundZero, foundString, foundBlob, foundText}
 
@@ -27,12 +27,16 @@ module _ (f : Frame) (p : BitPlace) (m v : ℕ) where
       rw (← place, ← width) (omega (arith, zero-found bs n (sym is) .0))
   zero-lies bs q Never is h l e = let z : _≡_ {A = ℕ} 0 1 = cc in absurd (omega arith)
 
-  bytes-lie : (q : BitPlace) (n w : ℕ) → q .0 + n ≤ f .bound .0 → At q n w ≡ At p m v → (p .0 + m ≤ f .bound .0) × (m ≡ n) × (v ≡ w)
-  bytes-lie q n w fits e =
+  -- so many bytes from a place on, whatever they say
+  bytes-found : (q : BitPlace) (n w : ℕ) → within f q 0 (within f q (8 * n) (At q (8 * n) w)) ≡ At p m v
+      → (p .0 + m ≤ f .bound .0) × (m ≡ 8 * n) × (v ≡ w)
+  bytes-found q n w e =
+      let inside = within-found f p m v q (8 * n) _ (within-found f p m v q 0 _ e .1) in
+      let same = inside .1 in
       let place : q ≡ p = cc in
-      let width : n ≡ m = cc in
+      let width : 8 * n ≡ m = cc in
       let value : w ≡ v = cc in
-      rw (← place, ← width, ← value) (fits, refl, refl)
+      rw (← place, ← width, ← value) (inside .0, refl, refl)
 
   string-found : (b : List ℕ) (from : BitPlace) → foundString b f from ≡ At p m v → p .0 + m ≤ f .bound .0
   unfolding foundString
@@ -43,17 +47,11 @@ module _ (f : Frame) (p : BitPlace) (m v : ℕ) where
 
   blob-found : (from : BitPlace) (n : ℕ) → foundBlob f from n ≡ At p m v → (p .0 + m ≤ f .bound .0) × (m ≡ 8 * n) × (v ≡ n)
   unfolding foundBlob
-  blob-found from n e =
-      let q = alignedAt f 8 from in
-      let inside = within-found f p m v q (8 * n) _ (within-found f p m v q 0 _ e .1) in
-      bytes-lie q (8 * n) _ (inside .0) (inside .1)
+  blob-found from n e = bytes-found (alignedAt f 8 from) n n e
 
   text-found : (b : List ℕ) (from : BitPlace) (n : ℕ) → foundText b f from n ≡ At p m v → p .0 + m ≤ f .bound .0
   unfolding foundText
-  text-found b from n e =
-      let q = alignedAt f 8 from in
-      let inside = within-found f p m v q (8 * n) _ (within-found f p m v q 0 _ e .1) in
-      bytes-lie q (8 * n) _ (inside .0) (inside .1) .0
+  text-found b from n e = bytes-found (alignedAt f 8 from) n _ e .0
 
 -- What the code rests on: x is what was found in a frame
 
