@@ -1,40 +1,57 @@
--- The leaf of the class at a byte: what the reading of its kind did, handed the numbers of its record, is what the rules' reading of the
--- class that stands there did.
-use mathlib.Core.Path.{_≡_, refl, ap, subst, _∙_}
+-- The leaf of the class at a byte: what is seen of it by the numbers of its record is what the rules' reading of the class that stands there
+-- does.
+use mathlib.Core.Path.{_≡_, refl, sym, ap, subst, _∙_}
 use Prim.Native.Nat.{ℕ, zero, suc, _+_, _-_, _^_, _≤_, _<_}
 use native.Mathlib.Omega.{arith}
 use mathlib.Core.List.{List}
 use mathlib.Core.Logic.{⊎-elim}
 use lib.ListN.{length}
-use borrow.Author.Tests.{le-ltb}
+use borrow.Author.Tests.{le-ltb, eq-eqb, ne-eqb}
+use Rattle.rules.specs.declared.BitPlace.{BitPlace}
+use Rattle.rules.specs.declared.ByteLength.{ByteLength}
+use Rattle.rules.specs.declared.LastOrder.{LastOrder}
+use Rattle.rules.specs.declared.Refusal.{Refusal}
 use Rattle.rules.specs.declared.Order.{Order}
 use Rattle.rules.specs.declared.Order.the-variants.{Big}
 use Rattle.rules.specs.declared.Content.{Content}
 use Rattle.rules.specs.declared.Content.the-variants.{Unsigned, Signed}
-use Rattle.rules.specs.Limits.{noSlot}
-use Rattle.rules.specs.Class.{Role, noRole, Sort, bitArray, boolean, unsignedInt, signedInt, float, Class, fixed}
+use Rattle.rules.specs.Limits.{noSlot, slotCount}
+use Rattle.rules.specs.Class.{Sort, bitArray, boolean, unsignedInt, signedInt, float, Class, fixed}
 use Rattle.rules.specs.Record.{bitField, u8, u16}
-use Rattle.rules.specs.Faults.{roleOf, roles}
+use Rattle.rules.specs.Faults.{roleOf}
 use Rattle.rules.specs.Parse.{orderOf}
 use Rattle.rules.specs.Slots.{Slots, slotAt}
-use Rattle.rules.specs.Step.{Step}
-use Rattle.rules.specs.Field.{read}
+use Rattle.rules.specs.Step.{State as Whole, Step}
+use Rattle.rules.specs.Field.{read, valueOf}
+use Rattle.facts.specs.Bytes.{Bytes}
 use Rattle.facts.proofs.Numbers.{lt-or-ge}
 use Rattle.facts.proofs.Cases.{_▷_, below}
 use Rattle.finding.specs.declared.Frame.{Frame}
-use Rattle.listing.specs.declared.State.{State}
-use Rattle.leaves.specs.declared.Leaf.{Leaf}
-use Rattle.finding.specs.Framed.{envOf}
+use Rattle.finding.specs.declared.find.Found.{Found}
+use Rattle.finding.specs.declared.find.Found.the-variants.{At, Refused}
+use Rattle.finding.specs.Framed.{Framed, envOf}
+use Rattle.finding.proofs.Lies.{bits-lie}
 use Rattle.finding.specs.Found.{foundBits, foundUnsigned, foundSigned}
 use Rattle.spans.specs.Found.{foundString, foundText, foundBlob}
+use Rattle.spans.proofs.Lies.{string-ends, text-ends, blob-ends, blob-lies}
+use Rattle.slots.specs.declared.Length.{Length}
+use Rattle.slots.specs.declared.Length.the-variants.{Of, NotOf}
 use Rattle.slots.specs.Taken.{lengthOf}
-use Rattle.leaves.specs.Settled.{settle, listing, thenFixed, thenLeb, thenBlob, forLength}
-use Rattle.leaves.specs.Done.{LeafDid}
+use Rattle.listing.specs.declared.State.{State}
 use Rattle.listing.specs.Did.{full}
-use Rattle.leaves.proofs.Settled.{fixed-settles, unsigned-settles, signed-settles, string-settles, static-string-settles}
-use Rattle.leaves.proofs.Settled.{static-blob-settles, dynamic-string-settles, dynamic-blob-settles}
+use Rattle.leaves.specs.declared.Leaf.{Leaf}
+use Rattle.leaves.specs.declared.Seen.{Seen}
+use Rattle.leaves.specs.declared.Seen.the-variants.{Stops}
+use Rattle.leaves.specs.Seeing.{Fits, done, seen, fixedSeen, lebSeen, plainSeen, blobSeen, forLength}
+use Rattle.leaves.specs.Done.{LeafDid}
+use Rattle.leaves.proofs.Seeing.{fixed-read, unsigned-read, signed-read, string-read, static-string-read, static-blob-read}
+use Rattle.leaves.proofs.Seeing.{dynamic-string-read, dynamic-blob-read}
+use Rattle.leaves.proofs.Fits.{fixed-fits, unsigned-fits, signed-fits, plain-fits, blob-fits}
+use Rattle.numbers.specs.Extends.{Extends}
+use Rattle.strings.specs.Within.{Within}
 use Rattle.classes.specs.Trees.{shapes, shapeOf, recordSize, stoodAt, classIn, classAt, whole, wholeIn}
 use Rattle.bykind.specs.Reads.{LeafReads, leafSlot}
+use Rattle.bykind.specs.Seen.{LeafSeen, dynamicSeen}
 
 -- a kind that is none of the n kinds from a on, as `match` says it
 abbrev pub NoneOf : ℕ → ℕ → ℕ → Type 0
@@ -52,8 +69,8 @@ module _ (t : List ℕ) (at : ℕ) where
   unfolding whole
   is-float w h none = omega (arith, past 16 (u8 t at) 4 (w .low) none)
 
-  pub is-dynamic-blob : 21 ≤ u8 t at → u8 t at < 28 → NoneOf 21 (u8 t at) 6 → u8 t at ≡ 27
-  is-dynamic-blob l h none = omega (arith, past 21 (u8 t at) 6 l none)
+  pub is-dynamic : 21 ≤ u8 t at → NoneOf 21 (u8 t at) 5 → 26 ≤ u8 t at
+  is-dynamic l none = omega (arith, past 21 (u8 t at) 5 l none)
 
 -- what the record of a class of kinds 16 to 20 says: width, order, and align as an exponent
 pub record BitsSay (t : List ℕ) (at w : ℕ) (o : Order) (e : ℕ) : Type 0 where
@@ -131,86 +148,134 @@ module _ (t : List ℕ) (at : ℕ) where
   unfolding leafSlot
   slot-of k e h l s = rw (e, le-ltb k 26 h, leafSlot) at s
 
-  -- to do m is to read the class that stands there
-  abbrev Means : List ℕ → List ℕ → Frame → Step → Content → State → Leaf → List ℕ → List ℕ → Type 0
-  Means b u f m x st r ws ws′ = LeafDid m st r ws ws′ → LeafReads (read (envOf b u f) (classAt 1 t at)) (leafSlot t at) x st r ws ws′
+-- to do what is seen is to read the class that stands there
+abbrev SeesAt : List ℕ → List ℕ → Frame → List ℕ → ℕ → Content → BitPlace → LastOrder → Seen → Type 0
+SeesAt b u f t at = LeafSeen (read (envOf b u f) (classAt 1 t at)) (leafSlot t at)
 
-  -- so of kinds 16 to 20, by their width, order, align, slot and role
-  abbrev MeansBits : List ℕ → List ℕ → Frame → Sort → ℕ → Order → ℕ → ℕ → Role → Content → State → Leaf → List ℕ → List ℕ → Type 0
-  MeansBits b u f k w o e i ro x st = Means b u f (settle (foundBits b f (st .place) (st .order) w o (2 ^ e)) (thenFixed k o i ro)) x st
+-- kinds 26 and 27, by what the slot holds
+abbrev dynamically : List ℕ → Frame → Content → ℕ → BitPlace → LastOrder → Seen
+dynamically b f x k p o = forLength (lengthOf x) (dynamicSeen b f p o k)
 
-module _ (b u : List ℕ) (f : Frame) (t : List ℕ) (at : ℕ) {x : Content} {st : State} {r : Leaf} {ws ws′ : List ℕ}
-    (room : 4 ≤ length ws) where
-  by-class : (c : Class) (m : Step) → classAt 1 t at ≡ c
-      → ((l : Slots) → slotAt l (leafSlot t at) ≡ x → read (envOf b u f) c (full st l (length ws)) ≡ m (full st l (length ws)))
-      → Means t at b u f m x st r ws ws′
-  by-class c m e h did = record {
-    at = λ l long s. rw (e, h l s) (did .at l long);
-    none = did .none;
+module _ (b u : List ℕ) (f : Frame) (t : List ℕ) (at : ℕ) {x : Content} {p : BitPlace} {o : LastOrder} {r : Seen} (framed : Framed b f p) where
+  -- y is what is seen from a place on, with an order as the last
+  by-class : (c : Class) (y : BitPlace → LastOrder → Seen) → classAt 1 t at ≡ c → Fits (y p o) → r ≡ y p o
+      → ((s : Whole) → 4 ≤ s .room → length (s .slots) ≡ slotCount → slotAt (s .slots) (leafSlot t at) ≡ x
+      → read (envOf b u f) c s ≡ done (y (s .place) (s .order)) s)
+      → SeesAt b u f t at x p o r
+  by-class c y e fits is law = record {
+    same = λ s room long slot place order.
+        rw (e) (law s room long slot ∙ ap (λ q. done (y q (s .order)) s) place ∙ ap (λ l. done (y p l) s) order ∙ ap (λ z. done z s) (sym is));
+    fits = rw (is) fits;
   }
 
-  module _ {w e : ℕ} {o : Order} (n : BitsSay t at w o e) where
-    bits-read : (k : Sort) (i : ℕ) (ro : Role)
-        → classAt 1 t at ≡ fixed k (u8 t (at + 1)) (orderOf (u8 t (at + 2))) (u8 t (at + 3)) i ro
-        → MeansBits t at b u f k w o e i ro x st r ws ws′
+  module _ {w e : ℕ} {d : Order} (n : BitsSay t at w d e) where
+    bits-sees : (k : Sort) (i ro : ℕ)
+        → classAt 1 t at ≡ fixed k (u8 t (at + 1)) (orderOf (u8 t (at + 2))) (u8 t (at + 3)) i (roleOf ro)
+        → (ro ≡ 7 → (m v : ℕ) → valueOf k m v ≡ v) → r ≡ seen (foundBits b f p o w d (2 ^ e)) (fixedSeen k d i ro) → SeesAt b u f t at x p o r
     unfolding read
-    bits-read k i ro c did =
-        by-class _ _ c (λ l s. fixed-settles b u f _ room k _ _ _ i ro) (rw (n .width, n .order, n .exponent) at did)
+    bits-sees k i ro c same is =
+        by-class (fixed k w d e i (roleOf ro)) (λ q l. seen (foundBits b f q l w d (2 ^ e)) (fixedSeen k d i ro))
+        (rw (n .width, n .order, n .exponent) c) (fixed-fits framed o w d (2 ^ e) k i ro same) is
+        (λ s room long slot. fixed-read b u f s room k w d (2 ^ e) i ro)
 
-    pub bit-array-reads : u8 t at ≡ 16 → MeansBits t at b u f bitArray w o e noSlot noRole x st r ws ws′
-    unfolding shapeOf shapes classIn roleOf roles
-    bit-array-reads k = bits-read bitArray _ _ (class-of t at 16 k)
-
-    pub boolean-reads : u8 t at ≡ 17 → MeansBits t at b u f boolean w o e (u8 t (at + 4)) noRole x st r ws ws′
-    unfolding shapeOf shapes classIn roleOf roles
-    boolean-reads k = bits-read boolean _ _ (class-of t at 17 k)
-
-    pub unsigned-reads : u8 t at ≡ 18 → MeansBits t at b u f unsignedInt w o e (u8 t (at + 4)) (roleOf (u8 t (at + 5))) x st r ws ws′
+    pub bit-array-sees : u8 t at ≡ 16 → r ≡ seen (foundBits b f p o w d (2 ^ e)) (fixedSeen bitArray d noSlot 0) → SeesAt b u f t at x p o r
     unfolding shapeOf shapes classIn
-    unsigned-reads k = bits-read unsignedInt _ _ (class-of t at 18 k)
+    bit-array-sees k = bits-sees bitArray noSlot 0 (class-of t at 16 k) (λ z. absurd (omega arith))
 
-    pub signed-reads : u8 t at ≡ 19 → MeansBits t at b u f signedInt w o e (u8 t (at + 4)) noRole x st r ws ws′
-    unfolding shapeOf shapes classIn roleOf roles
-    signed-reads k = bits-read signedInt _ _ (class-of t at 19 k)
+    pub boolean-sees : u8 t at ≡ 17 → r ≡ seen (foundBits b f p o w d (2 ^ e)) (fixedSeen boolean d (u8 t (at + 4)) 0) → SeesAt b u f t at x p o r
+    unfolding shapeOf shapes classIn
+    boolean-sees k = bits-sees boolean (u8 t (at + 4)) 0 (class-of t at 17 k) (λ z. absurd (omega arith))
 
-    pub float-reads : u8 t at ≡ 20 → MeansBits t at b u f float w o e noSlot noRole x st r ws ws′
-    unfolding shapeOf shapes classIn roleOf roles
-    float-reads k = bits-read float _ _ (class-of t at 20 k)
+    pub unsigned-sees : u8 t at ≡ 18 → r ≡ seen (foundBits b f p o w d (2 ^ e)) (fixedSeen unsignedInt d (u8 t (at + 4)) (u8 t (at + 5))) → SeesAt b u f t at x p o r
+    unfolding shapeOf shapes classIn valueOf
+    unsigned-sees k = bits-sees unsignedInt (u8 t (at + 4)) (u8 t (at + 5)) (class-of t at 18 k) (λ z m v. refl)
 
-  pub unsigned-leb-reads : u8 t at ≡ 21
-      → Means t at b u f (settle (foundUnsigned b f (st .place)) (thenLeb 21 Unsigned (u8 t (at + 1)) (roleOf (u8 t (at + 2))))) x st r ws ws′
+    pub signed-sees : u8 t at ≡ 19 → r ≡ seen (foundBits b f p o w d (2 ^ e)) (fixedSeen signedInt d (u8 t (at + 4)) 0) → SeesAt b u f t at x p o r
+    unfolding shapeOf shapes classIn
+    signed-sees k = bits-sees signedInt (u8 t (at + 4)) 0 (class-of t at 19 k) (λ z. absurd (omega arith))
+
+    pub float-sees : u8 t at ≡ 20 → r ≡ seen (foundBits b f p o w d (2 ^ e)) (fixedSeen float d noSlot 0) → SeesAt b u f t at x p o r
+    unfolding shapeOf shapes classIn
+    float-sees k = bits-sees float noSlot 0 (class-of t at 20 k) (λ z. absurd (omega arith))
+
+  pub unsigned-leb-sees : Bytes b → u8 t at ≡ 21
+      → r ≡ seen (foundUnsigned b f p) (lebSeen 21 Unsigned o (u8 t (at + 1)) (u8 t (at + 2))) → SeesAt b u f t at x p o r
   unfolding shapeOf shapes classIn
-  unsigned-leb-reads k = by-class _ _ (class-of t at 21 k) (λ l s. unsigned-settles b u f _ room _ _)
+  unsigned-leb-sees h k is =
+      by-class _ (λ q l. seen (foundUnsigned b f q) (lebSeen 21 Unsigned l (u8 t (at + 1)) (u8 t (at + 2))))
+      (class-of t at 21 k) (unsigned-fits framed h o _ _) is (λ s room long slot. unsigned-read b u f s room _ _)
 
-  pub signed-leb-reads : u8 t at ≡ 22
-      → Means t at b u f (settle (foundSigned b f (st .place)) (thenLeb 22 Signed (u8 t (at + 1)) noRole)) x st r ws ws′
+  pub signed-leb-sees : u8 t at ≡ 22 → r ≡ seen (foundSigned b f p) (lebSeen 22 Signed o (u8 t (at + 1)) 0) → SeesAt b u f t at x p o r
   unfolding shapeOf shapes classIn
-  signed-leb-reads k = by-class _ _ (class-of t at 22 k) (λ l s. signed-settles b u f _ room _)
+  signed-leb-sees k is =
+      by-class _ (λ q l. seen (foundSigned b f q) (lebSeen 22 Signed l (u8 t (at + 1)) 0))
+      (class-of t at 22 k) (signed-fits framed o _) is (λ s room long slot. signed-read b u f s room _)
 
-  pub string-reads : u8 t at ≡ 23 → Means t at b u f (settle (foundString b f (st .place)) (listing 23)) x st r ws ws′
+  pub string-sees : u8 t at ≡ 23 → r ≡ seen (foundString b f p) (plainSeen 23 o) → SeesAt b u f t at x p o r
   unfolding shapeOf shapes classIn
-  string-reads k = by-class _ _ (class-of t at 23 k) (λ l s. string-settles b u f _ room)
+  string-sees k is =
+      by-class _ (λ q l. seen (foundString b f q) (plainSeen 23 l))
+      (class-of t at 23 k) (plain-fits 23 o _ (string-ends framed refl)) is (λ s room long slot. string-read b u f s room long)
 
-  pub static-string-reads : u8 t at ≡ 24
-      → Means t at b u f (settle (foundText b f (st .place) (u16 t (at + 1))) (listing 24)) x st r ws ws′
+  pub static-string-sees : u8 t at ≡ 24 → r ≡ seen (foundText b f p (u16 t (at + 1))) (plainSeen 24 o) → SeesAt b u f t at x p o r
   unfolding shapeOf shapes classIn
-  static-string-reads k = by-class _ _ (class-of t at 24 k) (λ l s. static-string-settles b u f _ room _)
+  static-string-sees k is =
+      by-class _ (λ q l. seen (foundText b f q (u16 t (at + 1))) (plainSeen 24 l))
+      (class-of t at 24 k) (plain-fits 24 o _ (text-ends framed _ refl)) is (λ s room long slot. static-string-read b u f s room long _)
 
-  pub static-blob-reads : u8 t at ≡ 25
-      → Means t at b u f (settle (foundBlob f (st .place) (u16 t (at + 1))) (thenBlob (envOf b u f) 25 (roleOf (u8 t (at + 3))))) x st r ws ws′
+  pub static-blob-sees : u8 t at ≡ 25 → r ≡ seen (foundBlob f p (u16 t (at + 1))) (blobSeen b u (u8 t (at + 3)) o) → SeesAt b u f t at x p o r
   unfolding shapeOf shapes classIn
-  static-blob-reads k = by-class _ _ (class-of t at 25 k) (λ l s. static-blob-settles b u f _ room _ _)
+  static-blob-sees k is =
+      by-class _ (λ q l. seen (foundBlob f q (u16 t (at + 1))) (blobSeen b u (u8 t (at + 3)) l))
+      (class-of t at 25 k) (blob-fits b u o _ _ (blob-ends framed _ refl)) is (λ s room long slot. static-blob-read b u f s room long _ _)
 
-  pub dynamic-string-reads : u8 t at ≡ 26
-      → Means t at b u f (forLength (lengthOf x) (λ n. settle (foundText b f (st .place) n) (listing 26))) x st r ws ws′
-  unfolding shapeOf shapes classIn
-  dynamic-string-reads k =
-      by-class _ _ (class-of t at 26 k)
-      (λ l s. dynamic-string-settles b u f _ room _ ∙ rw (slot-of t at 26 k (omega arith) l s) refl)
+  pub dynamic-sees : 26 ≤ u8 t at → u8 t at < 28 → Fits (dynamically b f x (u8 t at) p o) → r ≡ dynamically b f x (u8 t at) p o → SeesAt b u f t at x p o r
+  unfolding shapeOf shapes classIn dynamicSeen
+  dynamic-sees low high fits is = ⊎-elim
+      (λ (h : u8 t at < 27).
+      let k : u8 t at ≡ 26 = omega arith in
+      by-class _ (dynamically b f x 26) (class-of t at 26 k) (rw (k) at fits) (rw (k) at is)
+      (λ s room long slot. dynamic-string-read b u f s room long _ ∙ rw (slot-of t at 26 k (omega arith) (s .slots) slot) refl))
+      (λ (h : 27 ≤ u8 t at).
+      let k : u8 t at ≡ 27 = omega arith in
+      by-class _ (dynamically b f x 27) (class-of t at 27 k) (rw (k) at fits) (rw (k) at is)
+      (λ s room long slot. dynamic-blob-read b u f s room long _ ∙ rw (slot-of t at 27 k (omega arith) (s .slots) slot) refl))
+      (lt-or-ge (u8 t at) 27)
 
-  pub dynamic-blob-reads : u8 t at ≡ 27
-      → Means t at b u f (forLength (lengthOf x) (λ n. settle (foundBlob f (st .place) n) (listing 27))) x st r ws ws′
-  unfolding shapeOf shapes classIn
-  dynamic-blob-reads k =
-      by-class _ _ (class-of t at 27 k)
-      (λ l s. dynamic-blob-settles b u f _ room _ ∙ rw (slot-of t at 27 k (omega arith) l s) refl)
+-- what the code rests on: a number in bits can be extended, and a BLOB's bytes lie in the stream
+module _ {b : List ℕ} {f : Frame} {p : BitPlace} (framed : Framed b f p) where
+  pub bits-extend : (x : Found) (o : LastOrder) (w : ℕ) (d : Order) (a : ℕ) → x ≡ foundBits b f p o w d a → 1 ≤ w → w ≤ 64 → Extends x
+  unfolding Extends
+  bits-extend (At q n v) o w d a is low high =
+      let lies = bits-lie framed refl o w d a is in
+      (omega (arith, lies .2), omega (arith, lies .2), lies .1)
+  bits-extend (Refused r) o w d a is low high = tt
+
+  pub blob-within : (x : Found) (n : ℕ) → x ≡ foundBlob f p n → Within b x
+  unfolding Within
+  blob-within (At q m v) n is = let lies = blob-lies framed refl n is in rw (lies .2) (lies .1)
+  blob-within (Refused r) n is = tt
+
+-- A length that a slot gives, or none
+
+module _ (b : List ℕ) (f : Frame) (p : BitPlace) (o : LastOrder) {x y : Length} (is : x ≡ y) where
+  pub no-length-seen : {why : Refusal} → x ≡ NotOf why → (k : ℕ) → Stops why ≡ forLength y (dynamicSeen b f p o k)
+  unfolding forLength
+  no-length-seen e k = rw (← is, e) refl
+
+  module _ {n : ByteLength} (e : x ≡ Of n) (k : ℕ) where
+    pub text-seen : k ≡ 26 → seen (foundText b f p (n .0)) (plainSeen k o) ≡ forLength y (dynamicSeen b f p o k)
+    unfolding forLength dynamicSeen
+    text-seen h = rw (← is, e, eq-eqb k 26 h, dynamicSeen) refl
+
+    pub blob-seen : (k ≡ 26 → ⊥) → seen (foundBlob f p (n .0)) (plainSeen k o) ≡ forLength y (dynamicSeen b f p o k)
+    unfolding forLength dynamicSeen
+    blob-seen h = rw (← is, e, ne-eqb k 26 h, dynamicSeen) refl
+
+-- what was done with what is seen
+pub seen-did : {m : Step} {i : ℕ} {x : Content} {st : State} {y : Seen} {r : Leaf} {ws ws′ : List ℕ}
+    → LeafSeen m i x (st .place) (st .order) y → 4 ≤ length ws → LeafDid (done y) st r ws ws′ → LeafReads m i x st r ws ws′
+seen-did {st = st} {ws = ws} sees room did = record {
+  at = λ l long slot. rw (sees .same (full st l (length ws)) room long slot refl refl) (did .at l long);
+  none = did .none;
+}

@@ -12,11 +12,7 @@ use Rattle.rules.specs.Limits.{slotCount, noSlot}
 use Rattle.rules.specs.Record.{u8}
 use Rattle.rules.specs.Slots.{Slots, slotAt, setSlot}
 use Rattle.rules.specs.Step.{Step}
-use Rattle.rules.specs.Field.{read}
-use Rattle.finding.specs.declared.Frame.{Frame}
 use Rattle.listing.specs.declared.State.{State}
-use Rattle.finding.specs.Framed.{envOf}
-use Rattle.classes.specs.Trees.{classAt}
 use Rattle.leaves.specs.declared.Leaf.{Leaf}
 use Rattle.listing.specs.declared.Went.the-variants.{Stopped}
 use Rattle.listing.specs.Did.{Did, full}
@@ -30,7 +26,3 @@ pub record LeafReads (m : Step) (i : ℕ) (x : Content) (st : State) (r : Leaf) 
   pub at : (l : Slots) → length l ≡ slotCount → slotAt l i ≡ x
       → Did (m (full st l (length ws))) st (r .went) (r .used) (r .state) (setSlot l (r .slot) (r .content)) ws ws′
   pub none : (v : Stop) → r .went ≡ Stopped v → (r .slot ≡ noSlot) × (r .content ≡ Unset)
-
--- what a leaf of kinds 16 to 20 did: it reads no slot and asks for no UUID
-abbrev pub BitsRead : List ℕ → Frame → List ℕ → ℕ → State → Leaf → List ℕ → List ℕ → Type 0
-BitsRead b f t at st r ws ws′ = (u : List ℕ) (x : Content) → LeafReads (read (envOf b u f) (classAt 1 t at)) (leafSlot t at) x st r ws ws′

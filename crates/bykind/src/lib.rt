@@ -1,26 +1,35 @@
-// The leaf of the class at a byte of the table: its record's numbers are handed to the reading of its kind. Each number is read where it
-// is needed; what the check of the table has shown of it is not tested again.
+// The leaf of the class at a byte of the table: it is found by the numbers of its record, and what is seen of it is told by its kind. Each
+// number is read where it is needed; what the check of the table has shown of it is not tested again.
 use bytes::u16_at;
 use bytes::wide;
 use bytes::wide64;
 use finding::Frame;
+use finding::find::find_bits;
+use finding::find::find_signed;
+use finding::find::find_unsigned;
 use leaves::Leaf;
+use leaves::Seen;
+use leaves::after::finish;
 use listing::State;
-use numbers::fixed::read_bit_array;
-use numbers::fixed::read_boolean;
-use numbers::fixed::read_float;
-use numbers::fixed::read_signed;
-use numbers::fixed::read_unsigned;
-use numbers::leb::read_signed_leb;
-use numbers::leb::read_unsigned_leb;
+use numbers::bit_array;
+use numbers::boolean;
+use numbers::float;
+use numbers::signed;
+use numbers::signed_leb;
+use numbers::unsigned;
+use numbers::unsigned_leb;
+use rules::BitPlace;
 use rules::ByteLength;
 use rules::Content;
+use rules::LastOrder;
 use rules::Order;
-use strings::read_dynamic_blob;
-use strings::read_dynamic_string;
-use strings::read_static_blob;
-use strings::read_static_string;
-use strings::read_string;
+use slots::Length;
+use slots::length_of;
+use spans::find_blob;
+use spans::find_string;
+use spans::find_text;
+use strings::plain;
+use strings::static_blob;
 ghost use mathlib.Core.Path.{_≡_};
 ghost use Prim.Native.Nat.{_≤_, _<_};
 ghost use lib.ListN.{length};
@@ -28,8 +37,11 @@ ghost use Rattle.rules.specs.Record.{u8};
 ghost use Rattle.rules.specs.Parse.{orderOf};
 ghost use Rattle.rules.specs.Field.{read};
 ghost use Rattle.finding.specs.Framed.{Framed, envOf};
+ghost use Rattle.slots.specs.Taken.{lengthOf};
+ghost use Rattle.leaves.specs.Seeing.{Fits, forLength};
 ghost use Rattle.classes.specs.Trees.{whole, classAt};
-ghost use Rattle.bykind.specs.Reads.{LeafReads, BitsRead, leafSlot};
+ghost use Rattle.bykind.specs.Reads.{LeafReads, leafSlot};
+ghost use Rattle.bykind.specs.Seen.{LeafSeen, BitsSeen, dynamicSeen};
 
 const BIT_ARRAY: u8 = 16;
 
@@ -88,86 +100,112 @@ pub fn read_leaf(
         (leafSlot (now (table .entry)) at) content st r (now (list .entry)) (now (list .exit))
         ⌝ }
 {
+    let place = st.place;
+    let order = st.order;
+    finish(
+        see_leaf(table, at, uuid, stream, frame, place, order, content),
+        st,
+        list,
+    )
+}
+
+// What is seen of it, from a place on; `last` is the order of the packet's last field of kind 16 to 20.
+fn see_leaf(
+    table: &[u8],
+    at: usize,
+    uuid: &[u8],
+    stream: &[u8],
+    frame: Frame,
+    from: BitPlace,
+    last: LastOrder,
+    content: Content,
+) -> Seen
+    requires { ⌜ whole 1 (now table) at ⌝ }
+    requires { ⌜ u8 (now table) at < 28 ⌝ }
+    requires { ⌜ Framed (now stream) frame from ⌝ }
+    ensures { λ r. ⌜
+        LeafSeen (read (envOf (now (stream .entry)) (now (uuid .entry)) frame) (classAt 1 (now (table .entry)) at))
+        (leafSlot (now (table .entry)) at) content from last r
+        ⌝ }
+{
     if table[at] < UNSIGNED_LEB {
-        return read_bits(table, at, stream, frame, st, list);
+        return see_bits(table, at, stream, frame, from, last);
     }
     match table[at] {
-        UNSIGNED_LEB => read_unsigned_leb(table[at + 1], table[at + 2], stream, frame, st, list),
-        SIGNED_LEB => read_signed_leb(table[at + 1], stream, frame, st, list),
-        STRING => read_string(stream, frame, st, list),
-        STATIC_STRING => read_static_string(
-            ByteLength(u16_at(table, at + 1)),
-            stream,
-            frame,
-            st,
-            list,
+        UNSIGNED_LEB => unsigned_leb(
+            find_unsigned(stream, frame, from),
+            last,
+            table[at + 1],
+            table[at + 2],
         ),
-        STATIC_BLOB => read_static_blob(
-            ByteLength(u16_at(table, at + 1)),
-            table[at + 3],
-            uuid,
-            stream,
-            frame,
-            st,
-            list,
-        ),
-        DYNAMIC_STRING => read_dynamic_string(content, stream, frame, st, list),
-        _ => read_dynamic_blob(content, stream, frame, st, list),
+        SIGNED_LEB => signed_leb(find_signed(stream, frame, from), last, table[at + 1]),
+        STRING => plain(STRING, find_string(stream, frame, from), last),
+        STATIC_STRING => {
+            let bytes = ByteLength(u16_at(table, at + 1));
+            plain(STATIC_STRING, find_text(stream, frame, from, bytes), last)
+        }
+        STATIC_BLOB => {
+            let bytes = ByteLength(u16_at(table, at + 1));
+            static_blob(
+                find_blob(stream, frame, from, bytes),
+                table[at + 3],
+                last,
+                uuid,
+                stream,
+            )
+        }
+        _ => see_dynamic(table[at], content, stream, frame, from, last),
+    }
+}
+
+// Kinds 26 and 27, as long as a slot says.
+fn see_dynamic(
+    kind: u8,
+    content: Content,
+    stream: &[u8],
+    frame: Frame,
+    from: BitPlace,
+    last: LastOrder,
+) -> Seen
+    requires { ⌜ Framed (now stream) frame from ⌝ }
+    ensures { λ r. ⌜ r ≡ forLength (lengthOf content) (dynamicSeen (now (stream .entry)) frame from last kind) ⌝ }
+    ensures { λ r. ⌜ Fits r ⌝ }
+{
+    match length_of(content) {
+        Length::NotOf(why) => Seen::Stops(why),
+        Length::Of(bytes) => {
+            if kind == DYNAMIC_STRING {
+                return plain(kind, find_text(stream, frame, from, bytes), last);
+            }
+            plain(kind, find_blob(stream, frame, from, bytes), last)
+        }
     }
 }
 
 // Kinds 16 to 20: width, order and align, as an exponent of 2, stand first in each of their records.
-fn read_bits(
+fn see_bits(
     table: &[u8],
     at: usize,
     stream: &[u8],
     frame: Frame,
-    st: State,
-    list: &mut [u64],
-) -> Leaf
+    from: BitPlace,
+    last: LastOrder,
+) -> Seen
     requires { ⌜ whole 1 (now table) at ⌝ }
     requires { ⌜ u8 (now table) at < 21 ⌝ }
-    requires { ⌜ Framed (now stream) frame (st .place) ⌝ }
-    requires { ⌜ 4 ≤ length (now list) ⌝ }
-    ensures { λ r. ⌜ BitsRead (now (stream .entry)) frame (now (table .entry)) at st r (now (list .entry)) (now (list .exit)) ⌝ }
+    requires { ⌜ Framed (now stream) frame from ⌝ }
+    ensures { λ r. ⌜ BitsSeen (now (stream .entry)) frame (now (table .entry)) at from last r ⌝ }
 {
     let width = wide64(table[at + 1]);
     let order = order_of(table[at + 2]);
     let exponent = wide64(table[at + 3]);
+    let found = find_bits(stream, frame, from, last, width, order, exponent);
     match table[at] {
-        BIT_ARRAY => read_bit_array(width, order, exponent, stream, frame, st, list),
-        BOOLEAN => read_boolean(
-            width,
-            order,
-            exponent,
-            table[at + 4],
-            stream,
-            frame,
-            st,
-            list,
-        ),
-        UNSIGNED => read_unsigned(
-            width,
-            order,
-            exponent,
-            table[at + 4],
-            table[at + 5],
-            stream,
-            frame,
-            st,
-            list,
-        ),
-        SIGNED => read_signed(
-            width,
-            order,
-            exponent,
-            table[at + 4],
-            stream,
-            frame,
-            st,
-            list,
-        ),
-        _ => read_float(width, order, exponent, stream, frame, st, list),
+        BIT_ARRAY => bit_array(found, order),
+        BOOLEAN => boolean(found, order, table[at + 4]),
+        UNSIGNED => unsigned(found, order, table[at + 4], table[at + 5]),
+        SIGNED => signed(found, order, table[at + 4]),
+        _ => float(found, order),
     }
 }
 

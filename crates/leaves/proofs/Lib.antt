@@ -1,2 +1,3 @@
-pub mod Settled
-pub mod Done
+pub mod Seeing
+pub mod Fits
+mod Done

@@ -1,2 +1,2 @@
-pub mod Settled
+pub mod Seeing
 pub mod Done

@@ -1,5 +1,7 @@
-// What comes behind the finding of a leaf: "Afterwards, in order: entry, slot, role" (Reading); and what a leaf that stopped hands back.
+// What comes behind the seeing of a leaf: "Afterwards, in order: entry, slot, role" (Reading); and what a leaf that stopped hands back.
+use crate::Due;
 use crate::Leaf;
+use crate::Seen;
 use listing::State;
 use listing::Went;
 use listing::entry;
@@ -12,78 +14,61 @@ use rules::Stop;
 ghost use mathlib.Core.Path.{_≡_};
 ghost use Prim.Native.Nat.{_+_, _<_, _≤_, _^_};
 ghost use lib.ListN.{length};
-ghost use Rattle.rules.specs.Faults.{roleOf};
-ghost use Rattle.rules.specs.Verdict.{stopAt};
-ghost use Rattle.listing.specs.Roled.{Stamp};
-ghost use Rattle.leaves.specs.Done.{LeafDid, thenSet, withoutRole, behindState, stoppedLeaf};
+ghost use Rattle.leaves.specs.Seeing.{DueFits, Fits, done, doneDue};
+ghost use Rattle.leaves.specs.Done.{LeafDid, behindState, onLeaf, stoppedLeaf};
 
 pub const NO_SLOT: u8 = 255;
 
 pub const NO_ROLE: u8 = 0;
 
-// "The place is where the failing step began" (Refusing a stream)
-pub fn refused(why: Refusal, st: State) -> Leaf
-    ensures { λ r. ⌜ r ≡ stoppedLeaf (stopAt why (st .place)) 0 st ⌝ }
+// By what is seen. "The place is where the failing step began" (Refusing a stream): of a BLOB that is not the UUID it is behind the entry.
+pub fn finish(seen: Seen, st: State, list: &mut [u64]) -> Leaf
+    requires { ⌜ 4 ≤ length (now list) ⌝ }
+    requires { ⌜ Fits seen ⌝ }
+    ensures { λ r. ⌜ LeafDid (done seen) st r (now (list .entry)) (now (list .exit)) ⌝ }
 {
-    let place = st.place;
-    stopped(Stop { why, place }, 0, st)
+    match seen {
+        Seen::Field(due) => finish_due(due, st, list),
+        Seen::OtherUuid(entry) => {
+            entry::write(list, entry);
+            let place = places::further(entry.place, entry.bits);
+            stopped(
+                Stop {
+                    why: Refusal::WrongUuid,
+                    place,
+                },
+                4,
+                st,
+            )
+        }
+        Seen::Stops(why) => {
+            let place = st.place;
+            stopped(Stop { why, place }, 0, st)
+        }
+    }
 }
 
-// "Afterwards, in order: entry, slot, role" (Reading). The role's number is the entry's value.
-pub fn finish(
-    entry: Entry,
-    order: LastOrder,
-    slot: u8,
-    content: Content,
-    role: u8,
-    width: u64,
-    st: State,
-    list: &mut [u64],
-) -> Leaf
+// "Afterwards, in order: entry, slot, role" (Reading). The role's number is the entry's value; most leaves have no role.
+fn finish_due(due: Due, st: State, list: &mut [u64]) -> Leaf
     requires { ⌜ 4 ≤ length (now list) ⌝ }
-    requires { ⌜ entry .place .0 + entry .bits < 2 ^ 64 ⌝ }
-    requires { ⌜ Stamp role width (entry .value) ⌝ }
-    ensures { λ r. ⌜ LeafDid (thenSet entry order slot content (roleOf role) width) st r (now (list .entry)) (now (list .exit)) ⌝ }
+    requires { ⌜ DueFits due ⌝ }
+    ensures { λ r. ⌜ LeafDid (doneDue due) st r (now (list .entry)) (now (list .exit)) ⌝ }
 {
+    let entry = due.entry;
     entry::write(list, entry);
+    let order = due.order;
     let next = behind(entry, order, st);
-    let done = role::apply(role, width, entry.value, next, &mut list[4..]);
+    if due.role == NO_ROLE {
+        return on(4, next, due);
+    }
+    let done = role::apply(due.role, due.width, entry.value, next, &mut list[4..]);
     let went = done.went;
     match went {
         Went::On => {
             let state = done.state;
-            Leaf {
-                went: Went::On,
-                used: 4 + done.used,
-                state,
-                slot,
-                content,
-            }
+            on(4 + done.used, state, due)
         }
         Went::Stopped(stop) => stopped(stop, 4 + done.used, st),
-    }
-}
-
-// The same of a leaf that has no role, as most have none.
-pub fn finish_without_role(
-    entry: Entry,
-    order: LastOrder,
-    slot: u8,
-    content: Content,
-    st: State,
-    list: &mut [u64],
-) -> Leaf
-    requires { ⌜ 4 ≤ length (now list) ⌝ }
-    requires { ⌜ entry .place .0 + entry .bits < 2 ^ 64 ⌝ }
-    ensures { λ r. ⌜ LeafDid (withoutRole entry order slot content) st r (now (list .entry)) (now (list .exit)) ⌝ }
-{
-    entry::write(list, entry);
-    Leaf {
-        went: Went::On,
-        used: 4,
-        state: behind(entry, order, st),
-        slot,
-        content,
     }
 }
 
@@ -104,8 +89,22 @@ fn behind(entry: Entry, order: LastOrder, st: State) -> State
     }
 }
 
+// A leaf that went on sets its slot.
+fn on(used: usize, state: State, due: Due) -> Leaf
+    ensures { λ r. ⌜ r ≡ onLeaf used state due ⌝ }
+{
+    let content = due.content;
+    Leaf {
+        went: Went::On,
+        used,
+        state,
+        slot: due.slot,
+        content,
+    }
+}
+
 // A leaf that stopped sets no slot, and hands back the state as it came.
-pub fn stopped(stop: Stop, used: usize, st: State) -> Leaf
+fn stopped(stop: Stop, used: usize, st: State) -> Leaf
     ensures { λ r. ⌜ r ≡ stoppedLeaf stop used st ⌝ }
 {
     Leaf {

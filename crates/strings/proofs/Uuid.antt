@@ -1,41 +1,24 @@
--- A UUID's bytes, and what a BLOB that must have them does. In order: lists that are the same; the loop over them; the role.
+-- A UUID's bytes, and what is seen of a BLOB that must have them. In order: lists that are the same; the loop over them; what is seen.
 use mathlib.Core.Path.{_≡_, refl, sym, ap, _∙_}
-use mathlib.Core.List.{List, [], _∷_, _++_}
-use mathlib.Core.Logic.{⊎-elim}
+use mathlib.Core.List.{List, [], _∷_}
 use mathlib.Core.Bool.{Bool, true, false}
 use Prim.Native.Nat.{ℕ, _+_, _/_, _<_, _≤_}
 use native.Mathlib.Omega.{arith}
-use borrow.Author.Tests.{eqb-true, eq-eqb}
+use borrow.Author.Tests.{eqb-true, eq-eqb, ne-eqb}
 use lib.Dec.{eqb}
-use lib.ListN.{length, getD, take, drop, length-take, length-drop, List·getD-eq-default}
+use lib.ListN.{length, getD, take, drop, length-take, length-drop}
 use lib.Seq.{getD-take, getD-drop, ext-getD}
 use Rattle.rules.specs.declared.BitPlace.{BitPlace}
 use Rattle.rules.specs.declared.ByteLength.{ByteLength}
-use Rattle.rules.specs.declared.Content.the-variants.{Unset}
-use Rattle.rules.specs.declared.Refusal.the-variants.{WrongUuid}
-use Rattle.rules.specs.Limits.{noSlot}
-use Rattle.rules.specs.Place.{byteLength, further}
-use Rattle.rules.specs.Class.{noRole, uuid as uuidRole}
-use Rattle.rules.specs.Verdict.{stopAt}
-use Rattle.rules.specs.Faults.{roles, roleOf}
-use Rattle.rules.specs.Entry.{entry, words}
-use Rattle.rules.specs.Step.{State as Whole, go, onto, after, _⨾_, pass, refuse, listed}
-use Rattle.rules.specs.Field.{Env, bytesAt, sameBytes, blobRole}
+use Rattle.rules.specs.declared.LastOrder.{LastOrder}
+use Rattle.rules.specs.Place.{byteLength}
+use Rattle.rules.specs.Entry.{entry}
+use Rattle.rules.specs.Field.{sameBytes}
 use Rattle.facts.proofs.Truth.{and-left, and-right}
-use Rattle.facts.proofs.Numbers.{lt-or-ge}
-use Rattle.facts.proofs.Cases.{_▷_, below}
-use Rattle.finding.specs.declared.Frame.{Frame}
 use Rattle.finding.specs.declared.find.Found.{Found}
-use Rattle.finding.specs.declared.find.Found.the-variants.{At}
-use Rattle.finding.specs.Framed.{envOf}
-use Rattle.listing.specs.declared.State.{State}
-use Rattle.listing.specs.Did.{outOf}
-use Rattle.listing.proofs.Checks.{check-stops, check-goes}
-use Rattle.leaves.specs.declared.Leaf.{Leaf}
-use Rattle.leaves.specs.Settled.{settle, listing, thenBlob}
-use Rattle.leaves.specs.Done.{LeafDid, withoutRole, stoppedLeaf}
-use Rattle.leaves.proofs.Settled.{settle-same, listing-goes}
-use Rattle.leaves.proofs.Done.{same-did, plain-did}
+use Rattle.finding.specs.declared.find.Found.the-variants.{At, Refused}
+use Rattle.leaves.specs.declared.Seen.the-variants.{OtherUuid}
+use Rattle.leaves.specs.Seeing.{seen, plainSeen, uuidSeen, blobSeen}
 
 same-refl : (xs : List ℕ) → sameBytes xs xs ≡ true
 unfolding sameBytes
@@ -79,73 +62,30 @@ module _ (stream uuid : List ℕ) (at count : ℕ) (h : at + count ≤ length st
       let e : part ≡ uuid = ext-getD 0 part uuid (part-length ∙ sym l) (λ k i. part-at k (omega (arith, part-length)) ∙ alike k (omega (arith, part-length))) in
       rw (e) (sym (same-refl uuid))
 
--- Kind 25, by its role
+-- What is seen
 
-module _ (b uuid : List ℕ) (f : Frame) where
-  abbrev env : Env
-  env = envOf b uuid f
+module _ (b u : List ℕ) (o : LastOrder) where
+  -- t is what the code says of the bytes at q
+  module _ (p : BitPlace) (n v : ℕ) {q : ByteLength} (byte : q ≡ byteLength (p .0 / 8)) {t : Bool}
+      (told : t ≡ sameBytes (take v (drop (q .0) b)) u) where
+    is : (x : Bool) → t ≡ x → sameBytes (take v (drop (p .0 / 8) b)) u ≡ x
+    is x e = sym (rw (byte) at told) ∙ e
 
-  abbrev Passes : ℕ → Type 0
-  Passes r = (r ≡ 4 → ⊥) → (bs : List ℕ) (s : Whole) → blobRole env (roleOf r) bs s ≡ go [] s
+    pub uuid-seen : t ≡ true → plainSeen 25 o p n v ≡ uuidSeen b u o p n v
+    unfolding uuidSeen
+    uuid-seen e = rw (is true e, uuidSeen) refl
 
-  -- a role that is not the UUID's lets a BLOB be
-  passes-listed : (r : ℕ) → r < 12 → Passes r
-  unfolding blobRole roleOf roles pass
-  passes-listed = below Passes 12
-      ((λ h bs s. refl)
-      ▷ (λ h bs s. refl)
-      ▷ (λ h bs s. refl)
-      ▷ (λ h bs s. refl)
-      ▷ (λ h bs s. absurd (h refl))
-      ▷ (λ h bs s. refl)
-      ▷ (λ h bs s. refl)
-      ▷ (λ h bs s. refl)
-      ▷ (λ h bs s. refl)
-      ▷ (λ h bs s. refl)
-      ▷ (λ h bs s. refl)
-      ▷ (λ h bs s. refl)
-      ▷ tt)
+    pub other-seen : t ≡ false → OtherUuid (entry 25 p n v) ≡ uuidSeen b u o p n v
+    unfolding uuidSeen
+    other-seen e = rw (is false e, uuidSeen) refl
 
-  passes : (r : ℕ) → Passes r
-  unfolding blobRole roleOf roles pass
-  passes r h bs s = ⊎-elim
-      (λ (l : r < 12). passes-listed r l h bs s)
-      (λ (l : 12 ≤ r). rw (List·getD-eq-default roles noRole l) refl)
-      (lt-or-ge r 12)
+  -- by the role
+  pub role-seen : (r : ℕ) (x : Found) → r ≡ 4 → seen x (uuidSeen b u o) ≡ seen x (blobSeen b u r o)
+  unfolding seen blobSeen
+  role-seen r (At p n v) e = rw (eq-eqb r 4 e, blobSeen) refl
+  role-seen r (Refused w) e = refl
 
-  module _ {x y : Found} (is : x ≡ y) where
-    pub no-uuid-did : (r : ℕ) → (r ≡ 4 → ⊥) → {st : State} {d : Leaf} {ws ws′ : List ℕ} → LeafDid (settle x (listing 25)) st d ws ws′
-        → LeafDid (settle y (thenBlob env 25 (roleOf r))) st d ws ws′
-    unfolding thenBlob
-    no-uuid-did r h did = rw (← is)
-        (same-did (λ l i. settle-same x _ _ _ (λ p n v. sym (listing-goes 25 p n v _ _ (passes r h _ _)))) did)
-
-    -- t is what the code says of the bytes at q
-    module _ {p : BitPlace} {n v : ℕ} (at : x ≡ At p n v) {q : ByteLength} (byte : q ≡ byteLength (p .0 / 8)) {c : ℕ} (value : v ≡ c)
-        {t : Bool} (told : t ≡ sameBytes (take c (drop (q .0) b)) uuid) where
-      is-role : t ≡ sameBytes (bytesAt env p v) uuid
-      unfolding bytesAt
-      is-role = rw (value) (rw (byte) at told)
-
-      pub uuid-did : t ≡ true → {st : State} {d : Leaf} {ws ws′ : List ℕ}
-          → LeafDid (withoutRole (entry 25 p n v) (st .order) noSlot Unset) st d ws ws′
-          → LeafDid (settle y (thenBlob env 25 uuidRole)) st d ws ws′
-      unfolding settle thenBlob blobRole
-      uuid-did e did = rw (← is, at)
-          (same-did (λ l i. sym (listing-goes 25 p n v _ _ (check-goes _ WrongUuid _ (rw (← is-role, e) refl)))) (plain-did refl refl 25 did))
-
-      pub wrong-uuid-did : t ≡ false → (st : State) {ws ws′ : List ℕ} → 4 ≤ length ws → ws′ ≡ words (entry 25 p n v ∷ []) ++ drop 4 ws
-          → LeafDid (settle y (thenBlob env 25 uuidRole)) st (stoppedLeaf (stopAt WrongUuid (further p n)) 4 st) ws ws′
-      unfolding settle thenBlob blobRole listing listed _⨾_ after onto refuse outOf
-      wrong-uuid-did e st room list = rw (← is, at)
-          (record {
-            at = λ l i. record {
-              listed = entry 25 p n v ∷ [];
-              out = ap (onto (entry 25 p n v ∷ [])) (check-stops _ WrongUuid _ (rw (← is-role, e) refl));
-              counted = refl;
-              list = list;
-              room = room;
-              kept = λ z h. refl;
-            };
-            none = λ z h. (refl, refl);
-          })
+  pub no-role-seen : (r : ℕ) (x : Found) → (r ≡ 4 → ⊥) → seen x (plainSeen 25 o) ≡ seen x (blobSeen b u r o)
+  unfolding seen blobSeen
+  no-role-seen r (At p n v) h = rw (ne-eqb r 4 h, blobSeen) refl
+  no-role-seen r (Refused w) h = refl

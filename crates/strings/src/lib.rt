@@ -1,152 +1,74 @@
-// Kinds 23 to 27: bytes, as a text or as a BLOB.
-use finding::Frame;
+// What is seen of a leaf that is bytes, kinds 23 to 27, once it is found or refused: none sets a slot, and a static BLOB alone has a role.
 use finding::find::Found;
-use leaves::Leaf;
+use leaves::Due;
+use leaves::Seen;
+use leaves::after::NO_ROLE;
 use leaves::after::NO_SLOT;
-use leaves::after::finish_without_role;
-use leaves::after::refused;
-use leaves::after::stopped;
-use listing::State;
-use listing::entry;
-use rules::ByteLength;
 use rules::Content;
 use rules::Entry;
-use rules::Refusal;
-use rules::Stop;
-use slots::Length;
-use slots::length_of;
+use rules::LastOrder;
 ghost use mathlib.Core.Path.{_≡_};
 ghost use Prim.Native.Nat.{_+_, _≤_};
 ghost use lib.ListN.{length, take, drop};
-ghost use Rattle.rules.specs.Faults.{roleOf};
-ghost use Rattle.rules.specs.Class.{uuid as uuidRole};
 ghost use Rattle.rules.specs.Field.{sameBytes};
-ghost use Rattle.finding.specs.Framed.{Framed, envOf};
-ghost use Rattle.spans.specs.Found.{Ends, foundString, foundText, foundBlob};
-ghost use Rattle.slots.specs.Taken.{lengthOf};
-ghost use Rattle.leaves.specs.Settled.{settle, listing, thenBlob, forLength};
-ghost use Rattle.leaves.specs.Done.{LeafDid};
+ghost use Rattle.leaves.specs.Seeing.{seen, plainSeen, uuidSeen, blobSeen};
+ghost use Rattle.strings.specs.Within.{Within};
 
-const STRING: u64 = 23;
-
-const STATIC_STRING: u64 = 24;
-
-const STATIC_BLOB: u64 = 25;
-
-const DYNAMIC_STRING: u64 = 26;
-
-const DYNAMIC_BLOB: u64 = 27;
+const STATIC_BLOB: u8 = 25;
 
 const UUID: u8 = 4;
 
-// Kind 23.
-pub fn read_string(stream: &[u8], frame: Frame, st: State, list: &mut [u64]) -> Leaf
-    requires { ⌜ Framed (now stream) frame (st .place) ⌝ }
-    requires { ⌜ 4 ≤ length (now list) ⌝ }
-    ensures { λ r. ⌜
-        LeafDid (settle (foundString (now (stream .entry)) frame (st .place)) (listing 23)) st r (now (list .entry)) (now (list .exit))
-        ⌝ }
+// A leaf of any of these kinds, without a role.
+pub fn plain(kind: u8, found: Found, last: LastOrder) -> Seen
+    ensures { λ r. ⌜ r ≡ seen found (plainSeen kind last) ⌝ }
 {
-    let from = st.place;
-    list_found(STRING, spans::find_string(stream, frame, from), st, list)
-}
-
-// Kind 24.
-pub fn read_static_string(
-    bytes: ByteLength,
-    stream: &[u8],
-    frame: Frame,
-    st: State,
-    list: &mut [u64],
-) -> Leaf
-    requires { ⌜ Framed (now stream) frame (st .place) ⌝ }
-    requires { ⌜ bytes .0 ≤ 65535 ⌝ }
-    requires { ⌜ 4 ≤ length (now list) ⌝ }
-    ensures { λ r. ⌜
-        LeafDid (settle (foundText (now (stream .entry)) frame (st .place) (bytes .0)) (listing 24)) st r (now (list .entry)) (now (list .exit))
-        ⌝ }
-{
-    let from = st.place;
-    list_found(
-        STATIC_STRING,
-        spans::find_text(stream, frame, from, bytes),
-        st,
-        list,
-    )
-}
-
-// Kind 25, which may be the trace class's UUID.
-pub fn read_static_blob(
-    bytes: ByteLength,
-    role: u8,
-    uuid: &[u8],
-    stream: &[u8],
-    frame: Frame,
-    st: State,
-    list: &mut [u64],
-) -> Leaf
-    requires { ⌜ Framed (now stream) frame (st .place) ⌝ }
-    requires { ⌜ bytes .0 ≤ 65535 ⌝ }
-    requires { ⌜ 4 ≤ length (now list) ⌝ }
-    ensures { λ r. ⌜
-        LeafDid (settle (foundBlob frame (st .place) (bytes .0)) (thenBlob (envOf (now (stream .entry)) (now (uuid .entry)) frame) 25 (roleOf role)))
-        st r (now (list .entry)) (now (list .exit))
-        ⌝ }
-{
-    if role == UUID {
-        return read_uuid(bytes, uuid, stream, frame, st, list);
-    }
-    let from = st.place;
-    list_found(
-        STATIC_BLOB,
-        spans::find_blob(stream, frame, from, bytes),
-        st,
-        list,
-    )
-}
-
-// A BLOB whose bytes must be the UUID's. The entry stays where they are not; the place of 31 is behind it.
-fn read_uuid(
-    bytes: ByteLength,
-    uuid: &[u8],
-    stream: &[u8],
-    frame: Frame,
-    st: State,
-    list: &mut [u64],
-) -> Leaf
-    requires { ⌜ Framed (now stream) frame (st .place) ⌝ }
-    requires { ⌜ bytes .0 ≤ 65535 ⌝ }
-    requires { ⌜ 4 ≤ length (now list) ⌝ }
-    ensures { λ r. ⌜
-        LeafDid (settle (foundBlob frame (st .place) (bytes .0)) (thenBlob (envOf (now (stream .entry)) (now (uuid .entry)) frame) 25 uuidRole))
-        st r (now (list .entry)) (now (list .exit))
-        ⌝ }
-{
-    let from = st.place;
-    let last = st.order;
-    match spans::find_blob(stream, frame, from, bytes) {
-        Found::Refused(why) => refused(why, st),
-        Found::At { place, bits, value } => {
-            let entry = Entry {
-                kind: STATIC_BLOB,
+    match found {
+        Found::Refused(why) => Seen::Stops(why),
+        Found::At { place, bits, value } => Seen::Field(Due {
+            entry: Entry {
+                kind: kind as u64,
                 place,
                 bits,
                 value,
-            };
+            },
+            order: last,
+            slot: NO_SLOT,
+            content: Content::Unset,
+            role: NO_ROLE,
+            width: 0,
+        }),
+    }
+}
+
+// Kind 25, which may have to be the trace class's UUID.
+pub fn static_blob(found: Found, role: u8, last: LastOrder, uuid: &[u8], stream: &[u8]) -> Seen
+    requires { ⌜ Within (now stream) found ⌝ }
+    ensures { λ r. ⌜ r ≡ seen found (blobSeen (now (stream .entry)) (now (uuid .entry)) role last) ⌝ }
+{
+    if role == UUID {
+        return uuid_blob(found, last, uuid, stream);
+    }
+    plain(STATIC_BLOB, found, last)
+}
+
+// A BLOB whose bytes must be the UUID's.
+fn uuid_blob(found: Found, last: LastOrder, uuid: &[u8], stream: &[u8]) -> Seen
+    requires { ⌜ Within (now stream) found ⌝ }
+    ensures { λ r. ⌜ r ≡ seen found (uuidSeen (now (stream .entry)) (now (uuid .entry)) last) ⌝ }
+{
+    match found {
+        Found::Refused(why) => Seen::Stops(why),
+        Found::At { place, bits, value } => {
             let at = places::bytes_before(place);
-            if same(stream, at.0, bytes.0, uuid) {
-                return finish_without_role(entry, last, NO_SLOT, Content::Unset, st, list);
+            if same(stream, at.0, value as usize, uuid) {
+                return plain(STATIC_BLOB, found, last);
             }
-            entry::write(list, entry);
-            let behind = places::further(place, bits);
-            stopped(
-                Stop {
-                    why: Refusal::WrongUuid,
-                    place: behind,
-                },
-                4,
-                st,
-            )
+            Seen::OtherUuid(Entry {
+                kind: STATIC_BLOB as u64,
+                place,
+                bits,
+                value,
+            })
         }
     }
 }
@@ -167,83 +89,4 @@ fn same(stream: &[u8], at: usize, count: usize, uuid: &[u8]) -> bool
         passed += 1;
     }
     true
-}
-
-// Kind 26. `content` is what the slot holds that gives the length.
-pub fn read_dynamic_string(
-    content: Content,
-    stream: &[u8],
-    frame: Frame,
-    st: State,
-    list: &mut [u64],
-) -> Leaf
-    requires { ⌜ Framed (now stream) frame (st .place) ⌝ }
-    requires { ⌜ 4 ≤ length (now list) ⌝ }
-    ensures { λ r. ⌜
-        LeafDid (forLength (lengthOf content) (λ n. settle (foundText (now (stream .entry)) frame (st .place) n) (listing 26)))
-        st r (now (list .entry)) (now (list .exit))
-        ⌝ }
-{
-    let from = st.place;
-    match length_of(content) {
-        Length::NotOf(why) => refused(why, st),
-        Length::Of(bytes) => list_found(
-            DYNAMIC_STRING,
-            spans::find_text(stream, frame, from, bytes),
-            st,
-            list,
-        ),
-    }
-}
-
-// Kind 27, alike.
-pub fn read_dynamic_blob(
-    content: Content,
-    stream: &[u8],
-    frame: Frame,
-    st: State,
-    list: &mut [u64],
-) -> Leaf
-    requires { ⌜ Framed (now stream) frame (st .place) ⌝ }
-    requires { ⌜ 4 ≤ length (now list) ⌝ }
-    ensures { λ r. ⌜
-        LeafDid (forLength (lengthOf content) (λ n. settle (foundBlob frame (st .place) n) (listing 27)))
-        st r (now (list .entry)) (now (list .exit))
-        ⌝ }
-{
-    let from = st.place;
-    match length_of(content) {
-        Length::NotOf(why) => refused(why, st),
-        Length::Of(bytes) => list_found(
-            DYNAMIC_BLOB,
-            spans::find_blob(stream, frame, from, bytes),
-            st,
-            list,
-        ),
-    }
-}
-
-// A field with neither slot nor role.
-fn list_found(kind: u64, found: Found, st: State, list: &mut [u64]) -> Leaf
-    requires { ⌜ Ends found ⌝ }
-    requires { ⌜ 4 ≤ length (now list) ⌝ }
-    ensures { λ r. ⌜ LeafDid (settle found (listing kind)) st r (now (list .entry)) (now (list .exit)) ⌝ }
-{
-    let last = st.order;
-    match found {
-        Found::Refused(why) => refused(why, st),
-        Found::At { place, bits, value } => finish_without_role(
-            Entry {
-                kind,
-                place,
-                bits,
-                value,
-            },
-            last,
-            NO_SLOT,
-            Content::Unset,
-            st,
-            list,
-        ),
-    }
 }
