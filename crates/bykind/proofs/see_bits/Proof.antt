@@ -7,11 +7,11 @@ use Rattle.bykind.proofs.see_bits.Lts as lts
 use Rattle.bykind.proofs.order_of.Reads as order-of-reads
 use Rattle.bytes.proofs.wide64.Reads as wide64-reads
 use Rattle.finding.proofs.find.find_bits.Reads as find-bits-reads
-use Rattle.numbers.proofs.bit_array.Reads as bit-array-reads
-use Rattle.numbers.proofs.boolean.Reads as boolean-reads
-use Rattle.numbers.proofs.float.Reads as float-reads
-use Rattle.numbers.proofs.signed.Reads as signed-reads
-use Rattle.numbers.proofs.unsigned.Reads as unsigned-reads
+use Rattle.numbers.proofs.fixed.bit_array.Reads as bit-array-reads
+use Rattle.numbers.proofs.fixed.boolean.Reads as boolean-reads
+use Rattle.numbers.proofs.fixed.float.Reads as float-reads
+use Rattle.numbers.proofs.fixed.signed.Reads as signed-reads
+use Rattle.numbers.proofs.fixed.unsigned.Reads as unsigned-reads
 use Prim.Native.Nat.{_+_, _≤_}
 use lib.ListN.{length}
 use native.Mathlib.Omega.{arith}

@@ -9,8 +9,8 @@ use Rattle.bykind.proofs.see_dynamic.Reads as see-dynamic-reads
 use Rattle.bytes.proofs.u16_at.Reads as u16-at-reads
 use Rattle.finding.proofs.find.find_signed.Reads as find-signed-reads
 use Rattle.finding.proofs.find.find_unsigned.Reads as find-unsigned-reads
-use Rattle.numbers.proofs.signed_leb.Reads as signed-leb-reads
-use Rattle.numbers.proofs.unsigned_leb.Reads as unsigned-leb-reads
+use Rattle.numbers.proofs.leb.signed_leb.Reads as signed-leb-reads
+use Rattle.numbers.proofs.leb.unsigned_leb.Reads as unsigned-leb-reads
 use Rattle.spans.proofs.find_blob.Reads as find-blob-reads
 use Rattle.spans.proofs.find_string.Reads as find-string-reads
 use Rattle.spans.proofs.find_text.Reads as find-text-reads

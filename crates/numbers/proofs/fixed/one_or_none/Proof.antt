@@ -1,8 +1,8 @@
 -- By whether it is zero.
-use Rattle.numbers.proofs.one_or_none.Statement.{statement}
-use Rattle.numbers.proofs.one_or_none.Tie as tie
-use Rattle.numbers.proofs.one_or_none.Reads as reads
-use Rattle.numbers.proofs.one_or_none.Lts as lts
+use Rattle.numbers.proofs.fixed.one_or_none.Statement.{statement}
+use Rattle.numbers.proofs.fixed.one_or_none.Tie as tie
+use Rattle.numbers.proofs.fixed.one_or_none.Reads as reads
+use Rattle.numbers.proofs.fixed.one_or_none.Lts as lts
 use mathlib.Core.Path.{_≡_, refl}
 use Prim.Native.Nat.{ℕ, zero, suc}
 use Rattle.rules.specs.Field.{truth, oneOrNone}

@@ -1,10 +1,10 @@
 -- As kind 16 it has neither slot nor role.
 use borrow.Author.Needs.{needs}
-use Rattle.numbers.proofs.bit_array.Statement.{statement}
-use Rattle.numbers.proofs.bit_array.Tie as tie
-use Rattle.numbers.proofs.bit_array.Reads as reads
-use Rattle.numbers.proofs.bit_array.Lts as lts
-use Rattle.numbers.proofs.see_bits.Reads as see-bits-reads
+use Rattle.numbers.proofs.fixed.bit_array.Statement.{statement}
+use Rattle.numbers.proofs.fixed.bit_array.Tie as tie
+use Rattle.numbers.proofs.fixed.bit_array.Reads as reads
+use Rattle.numbers.proofs.fixed.bit_array.Lts as lts
+use Rattle.numbers.proofs.fixed.see_bits.Reads as see-bits-reads
 use Rattle.rules.specs.Class.{kindOf}
 use Rattle.rules.specs.Field.{valueOf, slotOf}
 use Rattle.leaves.specs.Seeing.{fixedSeen, bitsSeen}

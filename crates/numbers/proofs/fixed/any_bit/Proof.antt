@@ -1,8 +1,8 @@
 -- A number that is not zero has a bit.
-use Rattle.numbers.proofs.any_bit.Statement.{statement}
-use Rattle.numbers.proofs.any_bit.Tie as tie
-use Rattle.numbers.proofs.any_bit.Reads as reads
-use Rattle.numbers.proofs.any_bit.Lts as lts
+use Rattle.numbers.proofs.fixed.any_bit.Statement.{statement}
+use Rattle.numbers.proofs.fixed.any_bit.Tie as tie
+use Rattle.numbers.proofs.fixed.any_bit.Reads as reads
+use Rattle.numbers.proofs.fixed.any_bit.Lts as lts
 use mathlib.Core.Path.{_≡_, refl}
 use mathlib.Core.Bool.{not}
 use Prim.Native.Nat.{ℕ, zero, suc}

@@ -1,12 +1,11 @@
 -- What was found is a flag with its slot.
 use borrow.Author.Needs.{needs}
-use Rattle.numbers.proofs.boolean.Statement.{statement}
-use Rattle.numbers.proofs.boolean.Tie as tie
-use Rattle.numbers.proofs.boolean.Reads as reads
-use Rattle.numbers.proofs.boolean.Lts as lts
-use Rattle.numbers.proofs.any_bit.Reads as any-bit-reads
-use Rattle.numbers.proofs.field.Reads as field-reads
-use Rattle.numbers.proofs.one_or_none.Reads as one-or-none-reads
+use Rattle.numbers.proofs.fixed.boolean.Statement.{statement}
+use Rattle.numbers.proofs.fixed.boolean.Tie as tie
+use Rattle.numbers.proofs.fixed.boolean.Reads as reads
+use Rattle.numbers.proofs.fixed.boolean.Lts as lts
+use Rattle.numbers.proofs.fixed.any_bit.Reads as any-bit-reads
+use Rattle.numbers.proofs.fixed.one_or_none.Reads as one-or-none-reads
 use mathlib.Core.Path.{refl}
 use Rattle.rules.specs.Class.{kindOf}
 use Rattle.rules.specs.Field.{valueOf, slotOf}
@@ -24,16 +23,13 @@ one-or-none-requires c κs = search needs
 any-bit-requires : tie.Need-any-bit-requires
 any-bit-requires c κs = search needs
 
-field-requires : tie.Need-field-requires
-field-requires c κs = search needs
-
 returns : tie.Need-returns
 unfolding seen
 returns c = rw (c .before .found .given .1) refl
 
 returns-2 : tie.Need-returns-2
 unfolding seen fixedSeen kindOf valueOf slotOf
-returns-2 c = rw (c .field .ensures, c .before .before .one-or-none .ensures, c .before .any-bit .ensures, c .before .before .before .before .found2 .given .1) refl
+returns-2 c = rw (c .before .one-or-none .ensures, c .any-bit .ensures, c .before .before .before .found2 .given .1) refl
 
 pub boolean-spec : {M : Type 1} → statement M
 boolean-spec =
@@ -43,6 +39,5 @@ boolean-spec =
     enum-known-found-2
     one-or-none-requires
     any-bit-requires
-    field-requires
     returns
     returns-2)

@@ -1,10 +1,10 @@
 -- As kind 20 it has neither slot nor role.
 use borrow.Author.Needs.{needs}
-use Rattle.numbers.proofs.float.Statement.{statement}
-use Rattle.numbers.proofs.float.Tie as tie
-use Rattle.numbers.proofs.float.Reads as reads
-use Rattle.numbers.proofs.float.Lts as lts
-use Rattle.numbers.proofs.see_bits.Reads as see-bits-reads
+use Rattle.numbers.proofs.fixed.float.Statement.{statement}
+use Rattle.numbers.proofs.fixed.float.Tie as tie
+use Rattle.numbers.proofs.fixed.float.Reads as reads
+use Rattle.numbers.proofs.fixed.float.Lts as lts
+use Rattle.numbers.proofs.fixed.see_bits.Reads as see-bits-reads
 use Rattle.rules.specs.Class.{kindOf}
 use Rattle.rules.specs.Field.{valueOf, slotOf}
 use Rattle.leaves.specs.Seeing.{fixedSeen, bitsSeen}

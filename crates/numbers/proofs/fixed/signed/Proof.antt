@@ -1,11 +1,10 @@
 -- What was found is extended to 64 bits.
 use borrow.Author.Needs.{needs}
-use Rattle.numbers.proofs.signed.Statement.{statement}
-use Rattle.numbers.proofs.signed.Tie as tie
-use Rattle.numbers.proofs.signed.Reads as reads
-use Rattle.numbers.proofs.signed.Lts as lts
+use Rattle.numbers.proofs.fixed.signed.Statement.{statement}
+use Rattle.numbers.proofs.fixed.signed.Tie as tie
+use Rattle.numbers.proofs.fixed.signed.Reads as reads
+use Rattle.numbers.proofs.fixed.signed.Lts as lts
 use Rattle.bits.proofs.sign_extend.Reads as sign-extend-reads
-use Rattle.numbers.proofs.field.Reads as field-reads
 use mathlib.Core.Path.{refl}
 use Rattle.rules.specs.Class.{kindOf}
 use Rattle.rules.specs.Field.{valueOf, slotOf}
@@ -22,24 +21,14 @@ sign-extend-requires : tie.Need-sign-extend-requires
 unfolding Extends
 sign-extend-requires c κs = rw (c .before .found2 .given .1) at (c .before .before .before .pre)
 
-field-requires : tie.Need-field-requires
-field-requires c κs = search needs
-
 returns : tie.Need-returns
 unfolding seen
 returns c = rw (c .before .found .given .1) refl
 
 returns-2 : tie.Need-returns-2
 unfolding seen fixedSeen kindOf valueOf slotOf
-returns-2 c = rw (c .field .ensures, c .before .sign-extend .ensures, c .before .before .before .found2 .given .1) refl
+returns-2 c = rw (c .sign-extend .ensures, c .before .before .found2 .given .1) refl
 
 pub signed-spec : {M : Type 1} → statement M
 signed-spec =
-    tie.close
-    (tie.spec
-    enum-known-found
-    enum-known-found-2
-    sign-extend-requires
-    field-requires
-    returns
-    returns-2)
+    tie.close (tie.spec enum-known-found enum-known-found-2 sign-extend-requires returns returns-2)
