@@ -46,11 +46,11 @@ pub fn two(table: &[u8], at: usize) -> usize
 }
 
 // A byte that is there, as a count.
-pub fn count_at(table: &[u8], at: usize) -> usize
-    requires { ⌜ at < length (now table) ⌝ }
-    ensures { λ r. ⌜ (r ≡ u8 (now (table .entry)) at) × (r < 2 ^ 8) ⌝ }
+pub fn count_at(table: &[u8], i: usize) -> usize
+    requires { ⌜ i < length (now table) ⌝ }
+    ensures { λ r. ⌜ (r ≡ u8 (now (table .entry)) i) × (r < 2 ^ 8) ⌝ }
 {
-    wide(table[at])
+    wide(table[i])
 }
 
 // The number of two bytes that are there: one load.
@@ -116,10 +116,10 @@ fn wide16(size: u16) -> usize
 }
 
 // A place in a table, as the arrays of places hold it.
-pub fn wide32(x: u32) -> usize
-    ensures { λ r. ⌜ (r ≡ x) × (r < 2 ^ 32) ⌝ }
+pub fn wide32(place: u32) -> usize
+    ensures { λ r. ⌜ (r ≡ place) × (r < 2 ^ 32) ⌝ }
 {
-    x as usize
+    place as usize
 }
 
 pub fn wide64(x: u8) -> u64

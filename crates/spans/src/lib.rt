@@ -60,18 +60,15 @@ pub fn find_text(stream: &[u8], frame: Frame, from: BitPlace, bytes: ByteLength)
     requires { ⌜ bytes .0 ≤ 65535 ⌝ }
     ensures { λ r. ⌜ r ≡ foundText (now (stream .entry)) frame from (bytes .0) ⌝ }
 {
-    let place = places::align(from, frame.start, BYTE);
-    if frame.bound.0 < place.0 {
-        return Found::Refused(Refusal::PastBound);
-    }
-    let bits = places::bits_in(bytes);
-    if frame.bound.0 < place.0 + bits {
-        return Found::Refused(Refusal::PastBound);
-    }
-    let count = text::count(stream, places::bytes_before(place), bytes);
-    Found::At {
-        place,
-        bits,
-        value: count.0 as u64,
+    match find_blob(stream, frame, from, bytes) {
+        Found::Refused(why) => Found::Refused(why),
+        Found::At { place, bits, value } => {
+            let count = text::count(stream, places::bytes_before(place), bytes);
+            Found::At {
+                place,
+                bits,
+                value: count.0 as u64,
+            }
+        }
     }
 }
