@@ -1,5 +1,5 @@
 -- What the reading of a leaf did, as the code says it: by the content of the slot that it reads, whatever the others hold.
-use Prim.Native.Nat.{ℕ, _+_}
+use Prim.Native.Nat.{ℕ, _+_, _<_, _≤_}
 use mathlib.Core.Path.{_≡_}
 use mathlib.Core.List.{List}
 use mathlib.Core.Bool.{true, false}
@@ -21,8 +21,15 @@ use Rattle.listing.specs.Did.{Did, full}
 unfoldable pub leafSlot : List ℕ → ℕ → ℕ
 leafSlot t at = elim (ltb (u8 t at) 26) [ true ↦ noSlot | false ↦ u8 t (at + 1) ]
 
--- what a leaf did, whatever the slots hold but the one that it reads; a leaf that stopped sets none
+-- a content that a slot can hold: past the sixty-four there is none
+abbrev pub Held : ℕ → Content → Type 0
+Held i x = slotCount ≤ i → x ≡ Unset
+
+-- what a leaf did, whatever the slots hold but the one that it reads; one that stopped sets none, nor does one that reads a slot; and what sets
+-- none says so in one way
 pub record LeafReads (m : Step) (i : ℕ) (x : Content) (st : State) (r : Leaf) (ws ws′ : List ℕ) : Type 0 where
   pub at : (l : Slots) → length l ≡ slotCount → slotAt l i ≡ x
       → Did (m (full st l (length ws))) st (r .went) (r .used) (r .state) (setSlot l (r .slot) (r .content)) ws ws′
-  pub none : (v : Stop) → r .went ≡ Stopped v → (r .slot ≡ noSlot) × (r .content ≡ Unset)
+  pub none : (v : Stop) → r .went ≡ Stopped v → slotCount ≤ r .slot
+  pub apart : i < slotCount → slotCount ≤ r .slot
+  pub idle : slotCount ≤ r .slot → (r .slot ≡ noSlot) × (r .content ≡ Unset)

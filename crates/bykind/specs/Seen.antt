@@ -1,5 +1,5 @@
 -- What is seen of a leaf, as the code says it: by the content of the slot that it reads, from a place on, with the packet's last order.
-use Prim.Native.Nat.{ℕ, _≤_}
+use Prim.Native.Nat.{ℕ, _<_, _≤_}
 use mathlib.Core.Path.{_≡_}
 use mathlib.Core.List.{List}
 use mathlib.Core.Bool.{true, false}
@@ -15,15 +15,22 @@ use Rattle.rules.specs.Field.{read}
 use Rattle.finding.specs.declared.Frame.{Frame}
 use Rattle.finding.specs.Framed.{envOf}
 use Rattle.spans.specs.Found.{foundText, foundBlob}
+use Rattle.leaves.specs.declared.Due.{Due}
 use Rattle.leaves.specs.declared.Seen.{Seen}
+use Rattle.leaves.specs.declared.Seen.the-variants.{Field}
 use Rattle.leaves.specs.Seeing.{Fits, done, seen, plainSeen}
 use Rattle.classes.specs.Trees.{classAt}
 use Rattle.bykind.specs.Reads.{leafSlot}
+
+-- a leaf that reads a slot sets none
+abbrev pub Apart : ℕ → Seen → Type 0
+Apart i r = i < slotCount → (d : Due) → r ≡ Field d → slotCount ≤ d .slot
 
 -- to do what is seen is m, whatever the slots hold but the one that is read
 pub record LeafSeen (m : Step) (i : ℕ) (x : Content) (p : BitPlace) (o : LastOrder) (r : Seen) : Type 0 where
   pub same : (s : State) → 4 ≤ s .room → length (s .slots) ≡ slotCount → slotAt (s .slots) i ≡ x → s .place ≡ p → s .order ≡ o → m s ≡ done r s
   pub fits : Fits r
+  pub apart : Apart i r
 
 -- kinds 16 to 20 read no slot and ask for no UUID
 abbrev pub BitsSeen : List ℕ → Frame → List ℕ → ℕ → BitPlace → LastOrder → Seen → Type 0

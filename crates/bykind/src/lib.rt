@@ -40,7 +40,7 @@ ghost use Rattle.finding.specs.Framed.{Framed, envOf};
 ghost use Rattle.slots.specs.Taken.{lengthOf};
 ghost use Rattle.leaves.specs.Seeing.{Fits, forLength};
 ghost use Rattle.classes.specs.Trees.{whole, classAt};
-ghost use Rattle.bykind.specs.Reads.{LeafReads, leafSlot};
+ghost use Rattle.bykind.specs.Reads.{Held, LeafReads, leafSlot};
 ghost use Rattle.bykind.specs.Seen.{LeafSeen, BitsSeen, dynamicSeen};
 
 const BIT_ARRAY: u8 = 16;
@@ -95,6 +95,7 @@ pub fn read_leaf(
     requires { ⌜ u8 (now table) at < 28 ⌝ }
     requires { ⌜ Framed (now stream) frame (st .place) ⌝ }
     requires { ⌜ 4 ≤ length (now list) ⌝ }
+    requires { ⌜ Held (leafSlot (now table) at) content ⌝ }
     ensures { λ r. ⌜
         LeafReads (read (envOf (now (stream .entry)) (now (uuid .entry)) frame) (classAt 1 (now (table .entry)) at))
         (leafSlot (now (table .entry)) at) content st r (now (list .entry)) (now (list .exit))

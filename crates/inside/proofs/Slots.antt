@@ -23,3 +23,6 @@ no-content l i n h = ap (λ x. x .content) (get-past l i _ (omega arith))
 pub content-met : (l : Slots) {i j : ℕ} {x : Content} {A B : Type 0} → length l ≡ slotCount → i ≡ j → (A → x ≡ slotAt l i)
     → (B → (slotCount ≤ i) × (x ≡ Unset)) → A ⊎ B → slotAt l j ≡ x
 content-met l {i} n e a b h = ap (slotAt l) (sym e) ∙ ⊎-elim (λ y. sym (a y)) (λ y. no-content l i n (b y .0) ∙ sym (b y .1)) h
+
+pub past-unset : (l : Slots) (i : ℕ) {x : Content} → length l ≡ slotCount → slotAt l i ≡ x → slotCount ≤ i → x ≡ Unset
+past-unset l i n e h = sym e ∙ no-content l i n h

@@ -1,3 +1,3 @@
 pub mod Seeing
 pub mod Fits
-mod Done
+pub mod Done

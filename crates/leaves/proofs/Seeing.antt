@@ -52,7 +52,7 @@ check-seen t r m s true x f h e = ap (λ o. after o m) (check-stops t r s h)
 check-seen t r m s false x f h e = ap (λ o. after o m) (check-goes t r s h) ∙ onto-nil (m s) ∙ e
 
 -- nothing is set past the end
-set-past : (l : Slots) (i : ℕ) (x : Slot) → length l ≤ i → set l i x ≡ l
+pub set-past : (l : Slots) (i : ℕ) (x : Slot) → length l ≤ i → set l i x ≡ l
 set-past [] i x h = refl
 set-past (y ∷ l) zero x h = absurd (omega arith)
 set-past (y ∷ l) (suc i) x h = ap (λ k. y ∷ k) (set-past l i x (omega arith))

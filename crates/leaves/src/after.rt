@@ -14,8 +14,11 @@ use rules::Stop;
 ghost use mathlib.Core.Path.{_≡_};
 ghost use Prim.Native.Nat.{_+_, _<_, _≤_, _^_};
 ghost use lib.ListN.{length};
-ghost use Rattle.leaves.specs.Seeing.{DueFits, Fits, done, doneDue};
+ghost use Rattle.leaves.specs.declared.Seen.the-variants.{Field};
+ghost use Rattle.leaves.specs.Seeing.{DueFits, Fits};
 ghost use Rattle.leaves.specs.Done.{LeafDid, behindState, onLeaf, stoppedLeaf};
+
+const SLOTS: u8 = 64;
 
 pub const NO_SLOT: u8 = 255;
 
@@ -25,7 +28,7 @@ pub const NO_ROLE: u8 = 0;
 pub fn finish(seen: Seen, st: State, list: &mut [u64]) -> Leaf
     requires { ⌜ 4 ≤ length (now list) ⌝ }
     requires { ⌜ Fits seen ⌝ }
-    ensures { λ r. ⌜ LeafDid (done seen) st r (now (list .entry)) (now (list .exit)) ⌝ }
+    ensures { λ r. ⌜ LeafDid seen st r (now (list .entry)) (now (list .exit)) ⌝ }
 {
     match seen {
         Seen::Field(due) => finish_due(due, st, list),
@@ -52,7 +55,7 @@ pub fn finish(seen: Seen, st: State, list: &mut [u64]) -> Leaf
 fn finish_due(due: Due, st: State, list: &mut [u64]) -> Leaf
     requires { ⌜ 4 ≤ length (now list) ⌝ }
     requires { ⌜ DueFits due ⌝ }
-    ensures { λ r. ⌜ LeafDid (doneDue due) st r (now (list .entry)) (now (list .exit)) ⌝ }
+    ensures { λ r. ⌜ LeafDid (Field due) st r (now (list .entry)) (now (list .exit)) ⌝ }
 {
     let entry = due.entry;
     entry::write(list, entry);
@@ -89,17 +92,26 @@ fn behind(entry: Entry, order: LastOrder, st: State) -> State
     }
 }
 
-// A leaf that went on sets its slot.
+// A leaf that went on sets its slot, if it names one.
 fn on(used: usize, state: State, due: Due) -> Leaf
     ensures { λ r. ⌜ r ≡ onLeaf used state due ⌝ }
 {
-    let content = due.content;
+    if due.slot < SLOTS {
+        let content = due.content;
+        return Leaf {
+            went: Went::On,
+            used,
+            state,
+            slot: due.slot,
+            content,
+        };
+    }
     Leaf {
         went: Went::On,
         used,
         state,
-        slot: due.slot,
-        content,
+        slot: NO_SLOT,
+        content: Content::Unset,
     }
 }
 

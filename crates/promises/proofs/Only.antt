@@ -1,11 +1,12 @@
 -- No slack, proved. What a step did is fixed by the rules' outcome: its entries, and so its words and the list; why it stopped, or the
 -- state behind it.
 use mathlib.Core.Path.{_≡_, refl, sym, ap, _∙_}
-use Prim.Native.Nat.{ℕ, zero, suc, _+_, _-_, _*_, _<_}
+use Prim.Native.Nat.{ℕ, zero, suc, _+_, _-_, _*_, _<_, _≤_}
 use native.Mathlib.Omega.{arith}
 use mathlib.Core.List.{List, _∷_, _++_}
 use mathlib.Core.Bool.{Bool, true, false}
-use lib.ListN.{length, drop, getD, set, replicate, length-replicate, getD-replicate}
+use mathlib.Core.Logic.{⊎-elim}
+use lib.ListN.{length, drop, getD, set, replicate, length-replicate, getD-replicate, List·getD-eq-default}
 use lib.Seq.{getD-set-same, getD-set-other}
 use lib.Dec.{eqb}
 use borrow.Author.Tests.{eqb-true, eqb-false}
@@ -13,8 +14,9 @@ use Rattle.rules.specs.declared.Entry.{Entry}
 use Rattle.rules.specs.declared.Stop.{Stop}
 use Rattle.rules.specs.Entry.{words}
 use Rattle.rules.specs.declared.Content.{Content}
+use Rattle.rules.specs.declared.Slot.{Slot}
 use Rattle.rules.specs.declared.Content.the-variants.{Unset, Flag}
-use Rattle.rules.specs.Limits.{noSlot, slotCount}
+use Rattle.rules.specs.Limits.{slotCount}
 use Rattle.rules.specs.Slots.{Slots, slot, noSlots, slotAt, setSlot}
 use Rattle.rules.specs.Step.{State as Whole, Out, stop, go, Step}
 use Rattle.listing.specs.declared.State.{State}
@@ -23,12 +25,16 @@ use Rattle.listing.specs.declared.Went.the-variants.{On, Stopped}
 use Rattle.listing.specs.Did.{Did, RoleDid, full, outOf}
 use Rattle.listing.specs.declared.role.Roled.{Roled}
 use Rattle.leaves.specs.declared.Leaf.{Leaf}
-use Rattle.leaves.specs.Done.{LeafDid}
+use Rattle.leaves.specs.declared.Seen.{Seen}
+use Rattle.leaves.specs.Seeing.{done}
+use Rattle.leaves.specs.Done.{slotSet, contentSet, LeafDid}
+use Rattle.bykind.specs.Reads.{Held, LeafReads}
 use Rattle.fields.specs.declared.Field.{Field}
 use Rattle.fields.specs.Reads.{FieldReads}
 use Rattle.classes.specs.declared.openings.Opening.{Opening}
 use Rattle.classes.specs.Sizes.{numbered, Opens}
-use Rattle.promises.specs.Only.{SameLeaf, NoSlack}
+use Rattle.facts.proofs.Numbers.{lt-or-ge}
+use Rattle.promises.specs.Only.{NoSlack}
 
 -- What a step did
 
@@ -88,29 +94,6 @@ went-by (Stopped v) f g = g v refl
 
 -- Leaves and fields
 
-module _ (P : Slots → Type 0) (m : Step) (st : State) (ws : List ℕ) where
-  -- what a leaf did, of all slots that it may be given
-  record Of (r : Leaf) (vs : List ℕ) : Type 0 where
-    at : (l : Slots) → length l ≡ slotCount → P l → Did (m (full st l (length ws))) st (r .went) (r .used) (r .state) (setSlot l (r .slot) (r .content)) ws vs
-    none : (v : Stop) → r .went ≡ Stopped v → (r .slot ≡ noSlot) × (r .content ≡ Unset)
-
-  same-at : (r r′ : Leaf) (vs vs′ : List ℕ) → Of r vs → Of r′ vs′ → (l : Slots) → length l ≡ slotCount → P l
-      → SameDid (r .went) (r′ .went) (r .used) (r′ .used) (r .state) (r′ .state) (setSlot l (r .slot) (r .content)) (setSlot l (r′ .slot) (r′ .content)) vs vs′
-  same-at r r′ vs vs′ d d′ l n p = did-same (m (full st l (length ws))) st ws _ _ _ _ _ _ _ _ vs vs′ (d .at l n p) (d′ .at l n p)
-
-  slots-same : (r r′ : Leaf) (vs vs′ : List ℕ) → Of r vs → Of r′ vs′ → (l : Slots) → length l ≡ slotCount → P l → setSlot l (r .slot) (r .content) ≡ setSlot l (r′ .slot) (r′ .content)
-  slots-same r r′ vs vs′ d d′ l n p =
-      let x = same-at r r′ vs vs′ d d′ l n p in
-      went-by (r .went) (λ q. x .slots q) (λ v q.
-      let a = d .none v q in
-      let b = d′ .none v (sym (x .went) ∙ q) in
-      λ i. setSlot l ((a .0 ∙ sym (b .0)) i) ((a .1 ∙ sym (b .1)) i))
-
-  leaf-same : (l : Slots) → length l ≡ slotCount → P l → (r r′ : Leaf) (vs vs′ : List ℕ) → Of r vs → Of r′ vs′ → SameLeaf P r r′ vs vs′
-  leaf-same l n p r r′ vs vs′ d d′ =
-      let x = same-at r r′ vs vs′ d d′ l n p in
-      record { went = x .went; used = x .used; state = x .state; slots = slots-same r r′ vs vs′ d d′; list = x .list }
-
 -- what becomes of any slots says which slot is set, and to what
 all-of : Content → Slots
 all-of x = replicate slotCount (slot x)
@@ -149,14 +132,63 @@ module _ (i j : ℕ) (x y : Content) (small : i < slotCount) (h : (l : Slots) �
           let u : Unset ≡ Flag true = sym (other-slot Unset n) ∙ other-slot (Flag true) n in
           let z : _≡_ {A = ℕ} 0 1 = cc in absurd (omega arith)
 
-leaf-one : (r r′ : Leaf) (vs vs′ : List ℕ) → SameLeaf (λ l. Unit {0}) r r′ vs vs′ → r .slot < slotCount → r ≡ r′
-leaf-one r r′ vs vs′ s h =
-    let x = slot-fixed (r .slot) (r′ .slot) (r .content) (r′ .content) h (λ l n. s .slots l n tt) in
-    λ i. record { went = s .went i; used = s .used i; state = s .state i; slot = x .0 i; content = x .1 i }
+leaf-same : (x : Seen) (st : State) (ws : List ℕ) (r r′ : Leaf) (vs vs′ : List ℕ) → LeafDid x st r ws vs → LeafDid x st r′ ws vs′ → (r ≡ r′) × (vs ≡ vs′)
+leaf-same x st ws r r′ vs vs′ d d′ =
+    let l = all-of Unset in
+    let y = did-same (done x (full st l (length ws))) st ws _ _ _ _ _ _ _ _ vs vs′ (d .at l (all-length Unset)) (d′ .at l (all-length Unset)) in
+    let s : r .slot ≡ r′ .slot = d .slot ∙ ap (slotSet x) (y .went) ∙ sym (d′ .slot) in
+    let c : r .content ≡ r′ .content = d .content ∙ ap (contentSet x) (y .went) ∙ sym (d′ .content) in
+    ((λ i. record { went = y .went i; used = y .used i; state = y .state i; slot = s i; content = c i }), y .list)
 
-free-leaf : (m : Step) (st : State) (ws : List ℕ) (r r′ : Leaf) (vs vs′ : List ℕ) → LeafDid m st r ws vs → LeafDid m st r′ ws vs′ → SameLeaf (λ l. Unit {0}) r r′ vs vs′
-free-leaf m st ws r r′ vs vs′ d d′ =
-    leaf-same (λ l. Unit {0}) m st ws (all-of Unset) (all-length Unset) tt r r′ vs vs′ (record { at = λ l n p. d .at l n; none = d .none }) (record { at = λ l n p. d′ .at l n; none = d′ .none })
+-- a leaf that reads slot i, which holds x
+module _ (m : Step) (i : ℕ) (x : Content) (held : Held i x) (st : State) (ws : List ℕ) where
+  -- where i is no slot, all slots will do
+  any : slotCount ≤ i → (l : Slots) → length l ≡ slotCount → slotAt l i ≡ x
+  unfolding slotAt
+  any h l n = ap (λ (s : Slot). s .content) (List·getD-eq-default l (slot Unset) (omega arith)) ∙ sym (held h)
+
+  holds : slotAt (all-of x) i ≡ x
+  unfolding slotAt all-of
+  holds = ⊎-elim
+      (λ (h : i < slotCount). ap (λ (s : Slot). s .content) (getD-replicate slotCount i (slot x) (slot Unset) h))
+      (λ (h : slotCount ≤ i). any h (all-of x) (all-length x))
+      (lt-or-ge i slotCount)
+
+  module _ (r r′ : Leaf) (vs vs′ : List ℕ) (d : LeafReads m i x st r ws vs) (d′ : LeafReads m i x st r′ ws vs′) where
+    same-at : (l : Slots) → length l ≡ slotCount → slotAt l i ≡ x
+        → SameDid (r .went) (r′ .went) (r .used) (r′ .used) (r .state) (r′ .state) (setSlot l (r .slot) (r .content)) (setSlot l (r′ .slot) (r′ .content)) vs vs′
+    same-at l n p = did-same (m (full st l (length ws))) st ws _ _ _ _ _ _ _ _ vs vs′ (d .at l n p) (d′ .at l n p)
+
+    same : SameDid (r .went) (r′ .went) (r .used) (r′ .used) (r .state) (r′ .state) (setSlot (all-of x) (r .slot) (r .content)) (setSlot (all-of x) (r′ .slot) (r′ .content)) vs vs′
+    same = same-at (all-of x) (all-length x) holds
+
+    abbrev Sets : Type 0
+    Sets = (r .slot ≡ r′ .slot) × (r .content ≡ r′ .content)
+
+    -- neither sets a slot
+    both-idle : slotCount ≤ r .slot → slotCount ≤ r′ .slot → Sets
+    both-idle h k = (d .idle h .0 ∙ sym (d′ .idle k .0), d .idle h .1 ∙ sym (d′ .idle k .1))
+
+    sets-on : ((l : Slots) → length l ≡ slotCount → setSlot l (r .slot) (r .content) ≡ setSlot l (r′ .slot) (r′ .content)) → Sets
+    sets-on h = ⊎-elim
+        (λ (a : r .slot < slotCount). slot-fixed (r .slot) (r′ .slot) (r .content) (r′ .content) a h)
+        (λ (a : slotCount ≤ r .slot). ⊎-elim
+        (λ (b : r′ .slot < slotCount). absurd (omega (arith, slot-fixed (r′ .slot) (r .slot) (r′ .content) (r .content) b (λ l n. sym (h l n)) .0)))
+        (λ (b : slotCount ≤ r′ .slot). both-idle a b)
+        (lt-or-ge (r′ .slot) slotCount))
+        (lt-or-ge (r .slot) slotCount)
+
+    sets : Sets
+    sets = ⊎-elim
+        (λ (h : i < slotCount). both-idle (d .apart h) (d′ .apart h))
+        (λ (h : slotCount ≤ i). went-by (r .went)
+        (λ on. sets-on (λ l n. same-at l n (any h l n) .slots on))
+        (λ v off. both-idle (d .none v off) (d′ .none v (sym (same .went) ∙ off))))
+        (lt-or-ge i slotCount)
+
+    reads-same : (r ≡ r′) × (vs ≡ vs′)
+    reads-same =
+        ((λ i. record { went = same .went i; used = same .used i; state = same .state i; slot = sets .0 i; content = sets .1 i }), same .list)
 
 field-same : (m : Step) (st : State) (l : Slots) (ws : List ℕ) (r r′ : Field) (vs vs′ : List ℕ) → FieldReads m st l r ws vs → FieldReads m st l r′ ws vs′ → (r ≡ r′) × (vs ≡ vs′)
 field-same m st l ws r r′ vs vs′ d d′ =
@@ -215,10 +247,8 @@ no-slack = record {
     p .second .list ∙ sym (q .second .list),
   );
   role = λ m st ws. record { same = role-same m st ws };
-  leaf = free-leaf;
-  leaf-slot = λ m st ws r r′ vs vs′ d d′ h. leaf-one r r′ vs vs′ (free-leaf m st ws r r′ vs vs′ d d′) h;
-  leaf-at = λ m i x st ws l n p r r′ vs vs′ d d′.
-      leaf-same (λ l. slotAt l i ≡ x) m st ws l n p r r′ vs vs′ (record { at = d .at; none = d .none }) (record { at = d′ .at; none = d′ .none });
+  leaf = λ x st ws. record { same = leaf-same x st ws };
+  leaf-at = λ m i x held st ws. record { same = reads-same m i x held st ws };
   field = λ m st l ws. record { same = field-same m st l ws };
   notes = λ t x. record { same = λ r r′ p q. p .notes ∙ sym (q .notes) };
   reach = λ t x p. record { same = λ r r′ h k. λ i. record { next = (h .end ∙ sym (k .end)) i; align = (h .align ∙ sym (k .align)) i } };

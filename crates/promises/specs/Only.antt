@@ -1,19 +1,17 @@
 -- No slack: any two outcomes that a function's statement allows are the same. In order: what that means of a statement; the statements of
 -- the public functions, shape by shape. docs/NO-SLACK.md says which function has which shape.
 use mathlib.Core.Path.{_≡_}
-use Prim.Native.Nat.{ℕ, _<_}
+use Prim.Native.Nat.{ℕ}
 use mathlib.Core.List.{List}
-use lib.ListN.{length}
 use Rattle.rules.specs.declared.Content.{Content}
-use Rattle.rules.specs.Limits.{slotCount}
-use Rattle.rules.specs.Slots.{Slots, slotAt, setSlot}
+use Rattle.rules.specs.Slots.{Slots}
 use Rattle.rules.specs.Step.{Step}
 use Rattle.clock.specs.declared.Clock.{Clock}
 use Rattle.listing.specs.declared.State.{State}
 use Rattle.listing.specs.Did.{RoleDid}
-use Rattle.leaves.specs.declared.Leaf.{Leaf}
+use Rattle.leaves.specs.declared.Seen.{Seen}
 use Rattle.leaves.specs.Done.{LeafDid}
-use Rattle.bykind.specs.Reads.{LeafReads}
+use Rattle.bykind.specs.Reads.{Held, LeafReads}
 use Rattle.fields.specs.Reads.{FieldReads}
 use Rattle.classes.specs.Sizes.{Opens}
 use Rattle.classes.specs.Notes.{Notes, Made, Reaches}
@@ -27,15 +25,6 @@ pub record Only {A : Type 0} (S : A → Type 0) : Type 0 where
 -- a statement of a result and of a lent list afterwards that allows one of each
 pub record OnlyBoth {A : Type 0} (S : A → List ℕ → Type 0) : Type 0 where
   pub same : (r r′ : A) (ws ws′ : List ℕ) → S r ws → S r′ ws′ → (r ≡ r′) × (ws ≡ ws′)
-
--- two answers of a leaf, where P says which sixty-four slots it may be given. What becomes of the slots is the same. A leaf that sets a
--- slot has one answer (`leaf-slot`); of one that sets none the slot's number may be any from 64 up, which is no slot
-pub record SameLeaf (P : Slots → Type 0) (r r′ : Leaf) (vs vs′ : List ℕ) : Type 0 where
-  pub went : r .went ≡ r′ .went
-  pub used : r .used ≡ r′ .used
-  pub state : r .state ≡ r′ .state
-  pub slots : (l : Slots) → length l ≡ slotCount → P l → setSlot l (r .slot) (r .content) ≡ setSlot l (r′ .slot) (r′ .content)
-  pub list : vs ≡ vs′
 
 pub record NoSlack : Type 1 where
   -- `r ≡ …`, and the same beside a bound
@@ -51,14 +40,9 @@ pub record NoSlack : Type 1 where
       → TwoCalls x x′ b (call (r′ .first) ws wr′) (call (r′ .second) vs vr′) → (r ≡ r′) × (wr ≡ wr′) × (vr ≡ vr′)
   -- a role, a leaf, a field
   pub role : (m : Step) (st : State) (ws : List ℕ) → OnlyBoth (λ r ws′. RoleDid m st r ws ws′)
-  pub leaf : (m : Step) (st : State) (ws : List ℕ) (r r′ : Leaf) (vs vs′ : List ℕ)
-      → LeafDid m st r ws vs → LeafDid m st r′ ws vs′ → SameLeaf (λ l. Unit {0}) r r′ vs vs′
-  pub leaf-slot : (m : Step) (st : State) (ws : List ℕ) (r r′ : Leaf) (vs vs′ : List ℕ)
-      → LeafDid m st r ws vs → LeafDid m st r′ ws vs′ → r .slot < slotCount → r ≡ r′
-  -- a leaf by the content x of the slot i that it reads, where some slots have it there
-  pub leaf-at : (m : Step) (i : ℕ) (x : Content) (st : State) (ws : List ℕ) (l : Slots) → length l ≡ slotCount → slotAt l i ≡ x
-      → (r r′ : Leaf) (vs vs′ : List ℕ)
-      → LeafReads m i x st r ws vs → LeafReads m i x st r′ ws vs′ → SameLeaf (λ l. slotAt l i ≡ x) r r′ vs vs′
+  pub leaf : (x : Seen) (st : State) (ws : List ℕ) → OnlyBoth (λ r ws′. LeafDid x st r ws ws′)
+  -- a leaf by what the slot i holds that it reads
+  pub leaf-at : (m : Step) (i : ℕ) (x : Content) → Held i x → (st : State) (ws : List ℕ) → OnlyBoth (λ r ws′. LeafReads m i x st r ws ws′)
   pub field : (m : Step) (st : State) (l : Slots) (ws : List ℕ) → OnlyBoth (λ r ws′. FieldReads m st l r ws ws′)
   -- how far a class reaches
   pub reach : (t : List ℕ) (x : Notes) (p : ℕ) → Only (λ r. Reaches t x p r)

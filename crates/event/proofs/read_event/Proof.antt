@@ -34,7 +34,7 @@ use Rattle.classes.specs.Fragments.{askedAt, streamClassAt}
 use Rattle.classes.proofs.Standing.{leaf-whole, leaf-class, First, first}
 use Rattle.classes.proofs.Turns.{whole-inside}
 use Rattle.fields.proofs.Turns.{Call, call, Walked, Turn, Turned, turn-full, leaf-turned, field-turned, no-slot}
-use Rattle.inside.proofs.Slots.{content-met}
+use Rattle.inside.proofs.Slots.{content-met, past-unset}
 use Rattle.turns.specs.Turns.{membersRead, turnsAt, Known, TurnAt}
 use Rattle.event.proofs.Evented.{nothing-did, moved, event-full, started}
 use Rattle.event.proofs.Turning.{event-begun, member-then, members-done, event-stopped, turn-room, turn-same}
@@ -418,13 +418,14 @@ part-read-leaf-end : tie.Need-part-read-leaf-end Inv-loop2 μ-loop2 Inv-loop μ-
 part-read-leaf-end c = omega arith
 
 read-leaf-requires : tie.Need-read-leaf-requires Inv-loop2 μ-loop2 Inv-loop μ-loop
-unfolding u8
+unfolding u8 slotAt
 read-leaf-requires c κs =
     let m = c .before .before .before .before .before .before in
     let l = m .before .loop2 in
     let kind = c .before .before .before .if3 .taken in
     let room = c .before .before .before .before .before .if2 .left in
-    (leaf-whole _ _ _ (m-first m .whole) kind, (kind, (inner m .framed, omega (arith, lent-room (l .used) (l .list), room))))
+    let held = content-met (l .slots) (inner m .many) (c .before .before .leaf-slot .ensures) (λ y. y .2) (λ y. (y .0 .left, y .1)) (c .before .if4 .came) in
+    (leaf-whole _ _ _ (m-first m .whole) kind, (kind, (inner m .framed, (omega (arith, lent-room (l .used) (l .list), room), past-unset (l .slots) _ (inner m .many) held))))
 
 add-used-2 : tie.Need-add-used-2 Inv-loop2 μ-loop2 Inv-loop μ-loop
 add-used-2 c = let r = c .before .before .before in omega (arith, leaf-here r .room, m-within (of-leaf r))

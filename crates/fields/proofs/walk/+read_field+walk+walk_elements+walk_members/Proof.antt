@@ -50,7 +50,7 @@ use Rattle.classes.proofs.Standing.{depth-some, kind-high, leaf-whole, leaf-cla
 use Rattle.classes.proofs.Turns.{whole-inside}
 use Rattle.fields.proofs.Turns.{Call, call, env, classRead, Walked, walk-start, walk-end, Foremost, foremost}
 use Rattle.fields.proofs.Turns.{Turn, Turned, fields-turn, turn-full, leaf-turned, field-turned}
-use Rattle.inside.proofs.Slots.{content-met}
+use Rattle.inside.proofs.Slots.{content-met, past-unset}
 use Rattle.fields.proofs.Turns.{no-slot, fields-end}
 use Rattle.fields.proofs.Holds.{Holder, Closed, slot-within, can-look, members-held, elements-held}
 use Rattle.fields.proofs.Holds.{refusal-reads, members-closed, elements-closed, closed-reads}
@@ -356,13 +356,14 @@ walk-part-read-leaf-start : (t : ℕ) → In-walk t walk-lts.Need-part-read-leaf
 walk-part-read-leaf-start t c = omega (arith, walk-within t (c .before .before .before .before .before))
 
 walk-read-leaf-requires : (t : ℕ) → In-walk t walk-lts.Need-read-leaf-requires
-unfolding u8
+unfolding u8 slotAt
 walk-read-leaf-requires t c κs =
     let turn = c .before .before .before .before .before .before in
     let l = turn .before .loop in
     let kind = c .before .before .before .if2 .taken in
     let room = c .before .before .before .before .before .if1 .left in
-    (leaf-whole _ _ _ (walk-first t turn .stands) kind, (kind, (l .inv .1 .framed, omega (arith, lent-room (l .used) (l .list), room))))
+    let held = content-met (l .slots) (l .inv .1 .many) (c .before .before .leaf-slot .ensures) (λ y. y .2) (λ y. (y .0 .left, y .1)) (c .before .if3 .came) in
+    (leaf-whole _ _ _ (walk-first t turn .stands) kind, (kind, (l .inv .1 .framed, (omega (arith, lent-room (l .used) (l .list), room), past-unset (l .slots) _ (l .inv .1 .many) held))))
 
 walk-add-used : (t : ℕ) → In-walk t walk-lts.Need-add-used
 walk-add-used t c = omega (arith, walk-leaf t (c .before .before .before) .room, walk-within t (c .before .before .before .before .before .before .before .before .before .before))

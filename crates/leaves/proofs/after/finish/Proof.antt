@@ -8,7 +8,7 @@ use Rattle.leaves.proofs.after.finish_due.Reads as finish-due-reads
 use Rattle.leaves.proofs.after.stopped.Reads as stopped-reads
 use Rattle.listing.proofs.entry.write.Reads as write-reads
 use Rattle.places.proofs.further.Reads as further-reads
-use Rattle.leaves.specs.Seeing.{Fits, done}
+use Rattle.leaves.specs.Seeing.{Fits}
 use Rattle.leaves.proofs.Done.{other-uuid-did, stops-did}
 
 enum-known-seen : tie.Need-enum-known-seen
@@ -41,18 +41,15 @@ same-length : tie.Need-same-length
 same-length c = search needs
 
 returns : tie.Need-returns
-unfolding done
 returns c = rw (c .before .before .before .before .before .seen .given .1) (c .before .before .finish-due .ensures)
 
 same-length-2 : tie.Need-same-length-2
 same-length-2 c = search needs
 
 returns-2 : tie.Need-returns-2
-unfolding done
 returns-2 c = rw (c .stopped .ensures, c .before .further .ensures, c .before .before .before .before .before .before .before .seen2 .given .1) (other-uuid-did _ _ (c .before .before .before .before .before .before .before .before .before .before .pre .0) (c .before .before .before .before .write .ensures))
 
 returns-3 : tie.Need-returns-3
-unfolding done
 returns-3 c = rw (c .stopped2 .ensures, c .before .before .before .seen3 .given .1) (stops-did _ _ _)
 
 pub finish-spec : {M : Type 1} → statement M
