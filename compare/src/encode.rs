@@ -90,12 +90,16 @@ struct Patch {
 const PATCHED_LEB_BYTES: usize = 5;
 const FULL: u64 = 8 * 3000;
 
+/// Arrays of what takes no bits, one in another, would have fields without end.
+const MOST_FIELDS: u64 = 1 << 20;
+
 struct Encoder<'a> {
     table: &'a Table,
     random: &'a mut Random,
     /// The number the case should come to, or 0.
     wish: u64,
     bits: BitWriter,
+    fields: u64,
     packet: u64,
     slots: [Slot; 64],
     clock: u64,
@@ -119,6 +123,7 @@ pub fn encode(table: &Table, random: &mut Random, wish: u64) -> Vec<u8> {
         random,
         wish,
         bits: BitWriter::default(),
+        fields: 0,
         packet: 0,
         slots: [Slot::Unset; 64],
         clock: 0,
@@ -252,10 +257,24 @@ impl Encoder<'_> {
         }
     }
 
+    fn full(&self) -> bool {
+        self.bits.place > 2 * FULL || self.fields > MOST_FIELDS
+    }
+
+    fn elements(&mut self, count: u64, element: &Class) {
+        for _ in 0..count {
+            if self.full() {
+                break;
+            }
+            self.field(element);
+        }
+    }
+
     fn field(&mut self, class: &Class) {
-        if self.bits.place > 2 * FULL {
+        if self.full() {
             return;
         }
+        self.fields += 1;
         self.align(class.requirement());
         match class {
             Class::BitArray(fixed) | Class::Float(fixed) => {
@@ -307,11 +326,9 @@ impl Encoder<'_> {
             }
             Class::Structure(structure) => structure.members.iter().for_each(|m| self.field(m)),
             Class::StaticArray { elements, element, .. } => {
-                (0..*elements).for_each(|_| self.field(element));
+                self.elements((*elements).into(), element)
             }
-            Class::DynamicArray { slot, element, .. } => {
-                (0..self.count(*slot)).for_each(|_| self.field(element));
-            }
+            Class::DynamicArray { slot, element, .. } => self.elements(self.count(*slot), element),
             Class::Optional { slot, when, class } => {
                 if self.is_there(*slot, when) {
                     self.field(class);
