@@ -304,7 +304,7 @@ pub seen-did : {m : Step} {i : ℕ} {x : Content} {st : State} {y : Seen} {r : L
     → LeafSeen m i x (st .place) (st .order) y → 4 ≤ length ws → LeafDid y st r ws ws′ → LeafReads m i x st r ws ws′
 seen-did {st = st} {y} {r} {ws} sees room did = record {
   at = λ l long slot. rw (sees .same (full st l (length ws)) room long slot refl refl) (did .at l long);
-  none = λ v off. rw (did .slot, off, set-none y v .0) (omega arith);
+  none = λ v off. rw (did .slot, off, set-none y v) (omega arith);
   apart = λ h. rw (did .slot) (set-apart y (r .went) (sees .apart h));
   idle = λ h. rw (did .slot, did .content) (set-idle y (r .went) (rw (did .slot) at h));
 }

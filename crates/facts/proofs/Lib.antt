@@ -7,3 +7,4 @@ pub mod Refusals
 pub mod Steps
 pub mod Lists
 pub mod Cases
+pub mod Slots

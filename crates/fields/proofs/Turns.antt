@@ -1,15 +1,14 @@
 -- A walk, turn by turn: no room, or a leaf or a field that holds others, which stops the walk or goes on.
 -- In order: calls of the cycle; what a walk keeps; its fields from the front; one turn; the walk's end; slots past the sixty-four.
 use mathlib.Core.Path.{_≡_, refl, ap, _∙_}
-use mathlib.Core.List.{List, [], _∷_, append-nil}
+use mathlib.Core.List.{List, [], append-nil}
 use mathlib.Core.Bool.{Bool, true, false}
 use Prim.Native.Nat.{ℕ, zero, suc, _+_, _-_, _≤_, _<_}
 use native.Mathlib.Omega.{arith}
 use borrow.Rule.Slice.PartMut.{same-len-mid}
-use lib.ListN.{length, set, length-set}
+use lib.ListN.{length, length-set}
 use Rattle.rules.specs.declared.Stop.{Stop}
 use Rattle.rules.specs.declared.Content.{Content}
-use Rattle.rules.specs.declared.Slot.{Slot}
 use Rattle.rules.specs.declared.Refusal.the-variants.{ListFull}
 use Rattle.rules.specs.Limits.{slotCount}
 use Rattle.rules.specs.Verdict.{stopAt}
@@ -226,13 +225,3 @@ pub fields-end : (again : Bool) (d : ℕ) (t : List ℕ) (at n : ℕ) (e : Env) 
 unfolding readFields
 fields-end false d t at n e h s = members-end e (stoodAt d t) at n h s
 fields-end true d t at n e h s = no-times n (read e (classAt d t at)) h s
-
--- slots past the sixty-four are none
-set-past : (l : Slots) (i : ℕ) (x : Slot) → length l ≤ i → set l i x ≡ l
-set-past [] i x h = refl
-set-past (y ∷ l) zero x h = absurd (omega arith)
-set-past (y ∷ l) (suc i) x h = ap (λ t. y ∷ t) (set-past l i x (omega arith))
-
-pub no-slot : (l : Slots) (i : ℕ) (x : Content) → length l ≡ slotCount → slotCount ≤ i → setSlot l i x ≡ l
-unfolding setSlot
-no-slot l i x n h = set-past l i _ (omega arith)

@@ -1,24 +1,13 @@
 -- The content of the slot that a field reads: past the sixty-four there is none.
-use mathlib.Core.Path.{_≡_, refl, ap, sym, _∙_}
+use mathlib.Core.Path.{_≡_, ap, sym, _∙_}
 use mathlib.Core.Logic.{⊎-elim, _⊎_}
-use mathlib.Core.List.{[], _∷_}
-use Prim.Native.Nat.{ℕ, zero, suc, _≤_}
-use native.Mathlib.Omega.{arith}
-use lib.ListN.{length, getD}
+use Prim.Native.Nat.{ℕ, _≤_}
+use lib.ListN.{length}
 use Rattle.rules.specs.declared.Content.{Content}
 use Rattle.rules.specs.declared.Content.the-variants.{Unset}
-use Rattle.rules.specs.declared.Slot.{Slot}
 use Rattle.rules.specs.Limits.{slotCount}
 use Rattle.rules.specs.Slots.{Slots, slotAt}
-
-get-past : (l : Slots) (i : ℕ) (x : Slot) → length l ≤ i → getD l i x ≡ x
-get-past [] i x h = refl
-get-past (y ∷ l) zero x h = absurd (omega arith)
-get-past (y ∷ l) (suc i) x h = get-past l i x (omega arith)
-
-no-content : (l : Slots) (i : ℕ) → length l ≡ slotCount → slotCount ≤ i → slotAt l i ≡ Unset
-unfolding slotAt
-no-content l i n h = ap (λ x. x .content) (get-past l i _ (omega arith))
+use Rattle.facts.proofs.Slots.{no-content}
 
 pub content-met : (l : Slots) {i j : ℕ} {x : Content} {A B : Type 0} → length l ≡ slotCount → i ≡ j → (A → x ≡ slotAt l i)
     → (B → (slotCount ≤ i) × (x ≡ Unset)) → A ⊎ B → slotAt l j ≡ x

@@ -21,6 +21,7 @@ use Rattle.rules.specs.Entry.{words}
 use Rattle.rules.specs.Step.{Step, onto, after, _⨾_, pass, refuse, listed, change, withOrder, withSlots}
 use Rattle.rules.specs.Field.{store, role}
 use Rattle.facts.proofs.Steps.{onto-nil}
+use Rattle.facts.proofs.Slots.{no-slot}
 use Rattle.listing.specs.declared.State.{State}
 use Rattle.listing.specs.declared.Went.{Went}
 use Rattle.listing.specs.declared.Went.the-variants.{On, Stopped}
@@ -33,19 +34,18 @@ use Rattle.leaves.specs.declared.Seen.{Seen}
 use Rattle.leaves.specs.declared.Seen.the-variants.{Field, OtherUuid, Stops}
 use Rattle.leaves.specs.Seeing.{done, doneDue}
 use Rattle.leaves.specs.Done.{slotDue, contentDue, slotSet, contentSet, LeafDid, behindState, onLeaf, stoppedLeaf}
-use Rattle.leaves.proofs.Seeing.{set-past}
 
 -- Which slot becomes what
 
 -- where a slot is named, it is set; where none is, nothing changes
 due-sets : (d : Due) (l : Slots) → length l ≡ slotCount → setSlot l (slotDue d) (contentDue d) ≡ setSlot l (d .slot) (d .content)
-unfolding slotDue contentDue setSlot
+unfolding slotDue contentDue
 due-sets d l n = by (ltb (d .slot) slotCount) refl
   where
     by : (t : Bool) → ltb (d .slot) slotCount ≡ t → setSlot l (slotDue d) (contentDue d) ≡ setSlot l (d .slot) (d .content)
     by true e = rw (e, slotDue, contentDue) refl
     by false e = rw (e, slotDue, contentDue)
-        (set-past l noSlot _ (omega arith) ∙ sym (set-past l (d .slot) _ (omega (arith, ltb-false (d .slot) slotCount e))))
+        (no-slot l noSlot Unset n (omega arith) ∙ sym (no-slot l (d .slot) (d .content) n (ltb-false (d .slot) slotCount e)))
 
 -- what sets no slot says so in one way
 due-idle : (d : Due) → slotCount ≤ slotDue d → (slotDue d ≡ noSlot) × (contentDue d ≡ Unset)
@@ -63,11 +63,11 @@ set-idle (Field d) (Stopped v) h = (refl, refl)
 set-idle (OtherUuid x) w h = (refl, refl)
 set-idle (Stops r) w h = (refl, refl)
 
-pub set-none : (y : Seen) (v : Stop) → (slotSet y (Stopped v) ≡ noSlot) × (contentSet y (Stopped v) ≡ Unset)
-unfolding slotSet contentSet
-set-none (Field d) v = (refl, refl)
-set-none (OtherUuid x) v = (refl, refl)
-set-none (Stops r) v = (refl, refl)
+pub set-none : (y : Seen) (v : Stop) → slotSet y (Stopped v) ≡ noSlot
+unfolding slotSet
+set-none (Field d) v = refl
+set-none (OtherUuid x) v = refl
+set-none (Stops r) v = refl
 
 -- a leaf that names no slot sets none
 pub set-apart : (y : Seen) (w : Went) → ((d : Due) → y ≡ Field d → slotCount ≤ d .slot) → slotCount ≤ slotSet y w

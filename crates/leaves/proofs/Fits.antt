@@ -24,13 +24,12 @@ use Rattle.finding.specs.declared.find.Found.the-variants.{At, Refused}
 use Rattle.finding.specs.Framed.{Framed}
 use Rattle.finding.specs.Found.{foundBits, foundUnsigned, foundSigned}
 use Rattle.finding.proofs.Lies.{bits-lie, unsigned-lies, signed-lies}
-use Rattle.spans.specs.Found.{Ends, foundBlob}
+use Rattle.spans.specs.Found.{Ends}
 use Rattle.spans.proofs.Lies.{ends-at}
 use Rattle.slots.specs.Taken.{lengthOf}
 use Rattle.slots.specs.declared.Length.{Length}
-use Rattle.slots.specs.declared.Length.the-variants.{Of, NotOf}
-use Rattle.leaves.specs.declared.Seen.{Seen}
-use Rattle.leaves.specs.Seeing.{Told, Fits, seen, fixedSeen, lebSeen, plainSeen, uuidSeen, blobSeen, forLength}
+use Rattle.slots.specs.declared.Length.the-variants.{Of}
+use Rattle.leaves.specs.Seeing.{Told, Fits, seen, fixedSeen, lebSeen, plainSeen, uuidSeen, blobSeen}
 
 seen-fits : (x : Found) (m : Told) → ((p : BitPlace) (n v : ℕ) → x ≡ At p n v → Fits (m p n v)) → Fits (seen x m)
 unfolding seen Fits

@@ -1,18 +1,17 @@
--- The rules' reading of a leaf is what is seen of it, and then what is done with that. In order: tests; a BLOB's roles; numbers; what has neither slot nor
--- role; static BLOBs; lengths that a slot gives.
-use Prim.Native.Nat.{ℕ, zero, suc, _-_, _*_, _/_, _<_, _≤_}
+-- The rules' reading of a leaf is what is seen of it, and then what is done with that. In order: tests; a BLOB's roles; numbers; what has
+-- neither slot nor role; static BLOBs; lengths that a slot gives.
+use Prim.Native.Nat.{ℕ, _-_, _*_, _/_, _<_, _≤_}
 use native.Mathlib.Omega.{arith}
 use lib.Dec.{ltb, eqb}
-use lib.ListN.{length, set, List·getD-eq-default}
+use lib.ListN.{length, List·getD-eq-default}
 use mathlib.Core.Path.{_≡_, refl, sym, ap, _∙_}
 use mathlib.Core.List.{List, [], _∷_}
 use mathlib.Core.Logic.{⊎-elim}
-use mathlib.Core.Bool.{Bool, true, false, not}
+use mathlib.Core.Bool.{Bool, true, false}
 use borrow.Author.Tests.{eqb-true, eqb-false}
 use Rattle.rules.specs.declared.BitPlace.{BitPlace}
 use Rattle.rules.specs.declared.Content.{Content}
 use Rattle.rules.specs.declared.Content.the-variants.{Unset, Flag, Unsigned, Signed}
-use Rattle.rules.specs.declared.Slot.{Slot}
 use Rattle.rules.specs.declared.Leb.{Leb}
 use Rattle.rules.specs.declared.Leb.the-variants.{Value, Past, Large}
 use Rattle.rules.specs.declared.Ended.{Ended}
@@ -23,7 +22,7 @@ use Rattle.rules.specs.declared.Refusal.the-variants.{LengthTooLarge, WrongUuid
 use Rattle.rules.specs.Limits.{lengthLimit, wordsPerEntry, noSlot, slotCount}
 use Rattle.rules.specs.Class.{noRole, Sort, leb128, signedLeb128, string, staticString, staticBlob, dynamicString, dynamicBlob}
 use Rattle.rules.specs.Faults.{roles, roleOf}
-use Rattle.rules.specs.Slots.{Slots, slotAt, setSlot}
+use Rattle.rules.specs.Slots.{slotAt}
 use Rattle.rules.specs.Place.{further}
 use Rattle.rules.specs.Entry.{entry}
 use Rattle.rules.specs.Step.{State, Step, go, _⨾_, onto, after, pass, refuse, check, listed, change, withOrder, withSlots}
@@ -31,11 +30,9 @@ use Rattle.rules.specs.Field.{Env, aligned, fit, ahead, bytesAt, sameBytes, fie
 use Rattle.facts.proofs.Steps.{onto-nil}
 use Rattle.facts.proofs.Numbers.{lt-or-ge}
 use Rattle.facts.proofs.Cases.{_▷_, below}
+use Rattle.facts.proofs.Slots.{no-slot}
 use Rattle.finding.specs.declared.Frame.{Frame}
-use Rattle.slots.specs.declared.Length.{Length}
-use Rattle.slots.specs.declared.Length.the-variants.{Of, NotOf}
 use Rattle.finding.specs.declared.find.Found.{Found}
-use Rattle.finding.specs.declared.find.Found.the-variants.{At, Refused}
 use Rattle.finding.specs.Framed.{envOf}
 use Rattle.finding.specs.Found.{alignedAt, unless, within, bytesAhead, foundBits, foundLeb, foundUnsigned, foundSigned}
 use Rattle.spans.specs.Found.{foundZero, foundString, foundText, foundBlob}
@@ -50,12 +47,6 @@ check-seen : (t : State → Bool) (r : Refusal) (m : Step) (s : State) (b : Bool
 unfolding _⨾_ after unless seen done refuse
 check-seen t r m s true x f h e = ap (λ o. after o m) (check-stops t r s h)
 check-seen t r m s false x f h e = ap (λ o. after o m) (check-goes t r s h) ∙ onto-nil (m s) ∙ e
-
--- nothing is set past the end
-pub set-past : (l : Slots) (i : ℕ) (x : Slot) → length l ≤ i → set l i x ≡ l
-set-past [] i x h = refl
-set-past (y ∷ l) zero x h = absurd (omega arith)
-set-past (y ∷ l) (suc i) x h = ap (λ k. y ∷ k) (set-past l i x (omega arith))
 
 -- the state behind an entry
 abbrev behindEntry : BitPlace → ℕ → State → State
@@ -134,8 +125,8 @@ module _ (b uuid : List ℕ) (f : Frame) (s : State) (h : 4 ≤ s .room) where
     -- What has neither slot nor role
 
     plain-listed : (k : ℕ) (p : BitPlace) (n v : ℕ) → listed (entry k p n v) (further p n) s ≡ done (plainSeen k (s .order) p n v) s
-    unfolding done doneDue plainSeen _⨾_ after onto listed change withOrder store withSlots setSlot role roleOf roles pass
-    plain-listed k p n v = rw (set-past (s .slots) noSlot (record { content = Unset }) (omega arith)) refl
+    unfolding done doneDue plainSeen _⨾_ after onto listed change withOrder store withSlots role roleOf roles pass
+    plain-listed k p n v = rw (no-slot (s .slots) noSlot Unset long (omega arith)) refl
 
     zero-read : (x : Ended) → readZero env x s ≡ done (seen (foundZero (alignedAt f 8 (s .place)) x) (plainSeen 23 (s .order))) s
     unfolding readZero field aligned foundZero alignedAt seen done

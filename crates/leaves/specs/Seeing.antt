@@ -31,7 +31,7 @@ use Rattle.leaves.specs.declared.Seen.the-variants.{Field, OtherUuid, St
 -- What is done
 
 -- an entry, and the place goes behind the field
-abbrev pub listing : Entry → Step
+abbrev listing : Entry → Step
 listing x = listed x (further (x .place) (x .bits))
 
 -- "Afterwards, in order: entry, slot, role" (Reading), with the order as the packet's last
@@ -66,7 +66,7 @@ unfoldable pub seen : Found → Told → Seen
 seen (At p n v) m = m p n v
 seen (Refused r) m = Stops r
 
-abbrev pub fieldSeen : Entry → LastOrder → ℕ → Content → ℕ → ℕ → Seen
+abbrev fieldSeen : Entry → LastOrder → ℕ → Content → ℕ → ℕ → Seen
 fieldSeen x o i c r w = Field (record { entry = x; order = o; slot = i; content = c; role = r; width = w })
 
 -- kinds 16 to 20, which leave their order as the packet's last

@@ -6,7 +6,7 @@ use native.Mathlib.Omega.{arith}
 use mathlib.Core.List.{List, _∷_, _++_}
 use mathlib.Core.Bool.{Bool, true, false}
 use mathlib.Core.Logic.{⊎-elim}
-use lib.ListN.{length, drop, getD, set, replicate, length-replicate, getD-replicate, List·getD-eq-default}
+use lib.ListN.{length, drop, getD, set, replicate, length-replicate, getD-replicate}
 use lib.Seq.{getD-set-same, getD-set-other}
 use lib.Dec.{eqb}
 use borrow.Author.Tests.{eqb-true, eqb-false}
@@ -34,6 +34,7 @@ use Rattle.fields.specs.Reads.{FieldReads}
 use Rattle.classes.specs.declared.openings.Opening.{Opening}
 use Rattle.classes.specs.Sizes.{numbered, Opens}
 use Rattle.facts.proofs.Numbers.{lt-or-ge}
+use Rattle.facts.proofs.Slots.{no-content}
 use Rattle.promises.specs.Only.{NoSlack}
 
 -- What a step did
@@ -144,8 +145,7 @@ leaf-same x st ws r r′ vs vs′ d d′ =
 module _ (m : Step) (i : ℕ) (x : Content) (held : Held i x) (st : State) (ws : List ℕ) where
   -- where i is no slot, all slots will do
   any : slotCount ≤ i → (l : Slots) → length l ≡ slotCount → slotAt l i ≡ x
-  unfolding slotAt
-  any h l n = ap (λ (s : Slot). s .content) (List·getD-eq-default l (slot Unset) (omega arith)) ∙ sym (held h)
+  any h l n = no-content l i n h ∙ sym (held h)
 
   holds : slotAt (all-of x) i ≡ x
   unfolding slotAt all-of

@@ -33,7 +33,8 @@ use Rattle.classes.specs.Notes.{notes, Prepared}
 use Rattle.classes.specs.Fragments.{askedAt, streamClassAt}
 use Rattle.classes.proofs.Standing.{leaf-whole, leaf-class, First, first}
 use Rattle.classes.proofs.Turns.{whole-inside}
-use Rattle.fields.proofs.Turns.{Call, call, Walked, Turn, Turned, turn-full, leaf-turned, field-turned, no-slot}
+use Rattle.fields.proofs.Turns.{Call, call, Walked, Turn, Turned, turn-full, leaf-turned, field-turned}
+use Rattle.facts.proofs.Slots.{no-slot}
 use Rattle.inside.proofs.Slots.{content-met, past-unset}
 use Rattle.turns.specs.Turns.{membersRead, turnsAt, Known, TurnAt}
 use Rattle.event.proofs.Evented.{nothing-did, moved, event-full, started}

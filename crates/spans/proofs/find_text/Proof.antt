@@ -7,7 +7,6 @@ use Rattle.spans.proofs.find_text.Lts as lts
 use Rattle.places.proofs.bytes_before.Reads as bytes-before-reads
 use Rattle.spans.proofs.find_blob.Reads as find-blob-reads
 use Rattle.text.proofs.count.Reads as count-reads
-use native.Mathlib.Omega.{arith}
 use Rattle.spans.proofs.Found.{text-refused, text-at}
 use Rattle.spans.proofs.Lies.{blob-lies}
 

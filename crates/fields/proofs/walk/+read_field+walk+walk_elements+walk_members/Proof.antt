@@ -51,7 +51,8 @@ use Rattle.classes.proofs.Turns.{whole-inside}
 use Rattle.fields.proofs.Turns.{Call, call, env, classRead, Walked, walk-start, walk-end, Foremost, foremost}
 use Rattle.fields.proofs.Turns.{Turn, Turned, fields-turn, turn-full, leaf-turned, field-turned}
 use Rattle.inside.proofs.Slots.{content-met, past-unset}
-use Rattle.fields.proofs.Turns.{no-slot, fields-end}
+use Rattle.facts.proofs.Slots.{no-slot}
+use Rattle.fields.proofs.Turns.{fields-end}
 use Rattle.fields.proofs.Holds.{Holder, Closed, slot-within, can-look, members-held, elements-held}
 use Rattle.fields.proofs.Holds.{refusal-reads, members-closed, elements-closed, closed-reads}
 
