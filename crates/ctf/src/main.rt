@@ -44,7 +44,7 @@ fn check_named() {
     if filled.failed {
         return;
     }
-    say_checked(table::check(&table[..filled.bytes]));
+    say_checked(check_table::check(&table[..filled.bytes]));
 }
 
 fn read_named() {

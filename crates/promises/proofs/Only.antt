@@ -24,15 +24,15 @@ use Rattle.listing.specs.declared.Went.{Went}
 use Rattle.listing.specs.declared.Went.the-variants.{On, Stopped}
 use Rattle.listing.specs.Did.{Did, RoleDid, full, outOf}
 use Rattle.listing.specs.declared.role.Roled.{Roled}
-use Rattle.leaves.specs.declared.Leaf.{Leaf}
-use Rattle.leaves.specs.declared.Seen.{Seen}
-use Rattle.leaves.specs.Seeing.{done}
-use Rattle.leaves.specs.Done.{slotSet, contentSet, LeafDid}
-use Rattle.bykind.specs.Reads.{Held, LeafReads}
-use Rattle.fields.specs.declared.Field.{Field}
-use Rattle.fields.specs.Reads.{FieldReads}
-use Rattle.classes.specs.declared.openings.Opening.{Opening}
-use Rattle.classes.specs.Sizes.{numbered, Opens}
+use Rattle.leaf_after.specs.declared.Leaf.{Leaf}
+use Rattle.leaf_after.specs.declared.Seen.{Seen}
+use Rattle.leaf_after.specs.Seeing.{done}
+use Rattle.leaf_after.specs.Done.{slotSet, contentSet, LeafDid}
+use Rattle.leaf_read.specs.Reads.{Held, LeafReads}
+use Rattle.field_read.specs.declared.Field.{Field}
+use Rattle.field_read.specs.Reads.{FieldReads}
+use Rattle.class_layout.specs.declared.openings.Opening.{Opening}
+use Rattle.class_layout.specs.Sizes.{numbered, Opens}
 use Rattle.facts.proofs.Numbers.{lt-or-ge}
 use Rattle.facts.proofs.Slots.{no-content}
 use Rattle.promises.specs.Only.{NoSlack}

@@ -7,7 +7,7 @@ use Rattle.rules.specs.Slots.{Slots, noSlots}
 use Rattle.rules.specs.Step.{Out}
 use Rattle.listing.specs.declared.State.{State}
 use Rattle.listing.specs.Did.{Did, full}
-use Rattle.parts.specs.declared.Ran.{Ran}
+use Rattle.outcome.specs.declared.Ran.{Ran}
 use Rattle.promises.specs.OnlyRan.{NoSlackRan}
 use Rattle.promises.proofs.Only.{did-same}
 

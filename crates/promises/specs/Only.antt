@@ -9,12 +9,12 @@ use Rattle.rules.specs.Step.{Step}
 use Rattle.clock.specs.declared.Clock.{Clock}
 use Rattle.listing.specs.declared.State.{State}
 use Rattle.listing.specs.Did.{RoleDid}
-use Rattle.leaves.specs.declared.Seen.{Seen}
-use Rattle.leaves.specs.Done.{LeafDid}
-use Rattle.bykind.specs.Reads.{Held, LeafReads}
-use Rattle.fields.specs.Reads.{FieldReads}
-use Rattle.classes.specs.Sizes.{Opens}
-use Rattle.classes.specs.Notes.{Notes, Made, Reaches}
+use Rattle.leaf_after.specs.declared.Seen.{Seen}
+use Rattle.leaf_after.specs.Done.{LeafDid}
+use Rattle.leaf_read.specs.Reads.{Held, LeafReads}
+use Rattle.field_read.specs.Reads.{FieldReads}
+use Rattle.class_layout.specs.Sizes.{Opens}
+use Rattle.class_layout.specs.Notes.{Notes, Made, Reaches}
 use Rattle.promises.specs.declared.Both.{Both}
 use Rattle.promises.specs.Demands.{call, Contract, OneCall, TwoCalls}
 

@@ -4,12 +4,12 @@ use mathlib.Core.List.{List}
 use Rattle.rules.specs.Slots.{Slots}
 use Rattle.rules.specs.Step.{Out, Step}
 use Rattle.listing.specs.declared.State.{State}
-use Rattle.finding.specs.declared.Frame.{Frame}
-use Rattle.classes.specs.Notes.{Notes}
-use Rattle.turns.specs.declared.Asking.{Asking}
-use Rattle.turns.specs.Turns.{TurnOpened}
-use Rattle.parts.specs.Ran.{RanDid, EventDid}
-use Rattle.packets.specs.Pieces.{PacketDid}
+use Rattle.leaf_find_number.specs.declared.Frame.{Frame}
+use Rattle.class_layout.specs.Notes.{Notes}
+use Rattle.event_turns.specs.declared.Asking.{Asking}
+use Rattle.event_turns.specs.Turns.{TurnOpened}
+use Rattle.outcome.specs.Ran.{RanDid, EventDid}
+use Rattle.packet_read.specs.Pieces.{PacketDid}
 use Rattle.promises.specs.Only.{OnlyBoth}
 
 pub record NoSlackRan : Type 0 where

@@ -30,23 +30,23 @@ use Rattle.listing.specs.declared.State.{State}
 use Rattle.listing.specs.declared.Went.{Went}
 use Rattle.listing.specs.declared.Went.the-variants.{On, Stopped}
 use Rattle.listing.specs.Did.{full, outOf}
-use Rattle.classes.specs.declared.Found.{Found}
-use Rattle.classes.specs.declared.Found.the-variants.{At, Nothing}
-use Rattle.classes.specs.Fragments.{askedAt, findTraceAt, fragmentsOf, headerAt, uuidAt, rootPlace, openingSize, isTrace}
-use Rattle.classes.specs.Sizes.{foundOf, SizedFragment, uuidPlace}
-use Rattle.classes.specs.Notes.{Notes}
-use Rattle.classes.proofs.Lookups.{found-some, found-none, first-holds, sixteen, uuid-bytes}
-use Rattle.classes.proofs.Asked.{asked-at}
+use Rattle.class_layout.specs.declared.Found.{Found}
+use Rattle.class_layout.specs.declared.Found.the-variants.{At, Nothing}
+use Rattle.class_layout.specs.Fragments.{askedAt, findTraceAt, fragmentsOf, headerAt, uuidAt, rootPlace, openingSize, isTrace}
+use Rattle.class_layout.specs.Sizes.{foundOf, SizedFragment, uuidPlace}
+use Rattle.class_layout.specs.Notes.{Notes}
+use Rattle.class_layout.proofs.Lookups.{found-some, found-none, first-holds, sixteen, uuid-bytes}
+use Rattle.class_layout.proofs.Asked.{asked-at}
 use Rattle.laws.specs.Kept.{KeepsEvents}
 use Rattle.laws.proofs.Kept.{accepted-keeps}
-use Rattle.parts.specs.declared.Ran.{Ran}
-use Rattle.turns.specs.Roots.{classOf, RootStands}
-use Rattle.turns.specs.Ready.{Ready}
-use Rattle.parts.specs.Ran.{RanDid}
-use Rattle.packets.specs.Pieces.{firstState, Lent}
-use Rattle.answers.specs.Answer.{refusedWith, answerOf}
+use Rattle.outcome.specs.declared.Ran.{Ran}
+use Rattle.event_turns.specs.Roots.{classOf, RootStands}
+use Rattle.event_turns.specs.Ready.{Ready}
+use Rattle.outcome.specs.Ran.{RanDid}
+use Rattle.packet_read.specs.Pieces.{firstState, Lent}
+use Rattle.reader_result.specs.Answer.{refusedWith, answerOf}
 use Rattle.reader.specs.Answers.{Answers}
-use Rattle.turns.proofs.Looked.{root-class, root-stands}
+use Rattle.event_turns.proofs.Looked.{root-class, root-stands}
 
 -- What the trace class lends
 

@@ -1,18 +1,18 @@
 // Reading a stream by a table: the table's check (20), the stream's size (21), the table's notes, and the packets.
-use answers::answer;
-use answers::refused;
-use classes::Found;
-use lookups::find_trace_class;
-use notes::prepare;
-use packets::read_packets;
+use check_table::check;
+use class_layout::Found;
+use class_lookup::find_trace_class;
+use class_notes::prepare;
+use class_roots::root_place;
+use class_roots::uuid_place;
+use packet_read::read_packets;
+use reader_result::answer;
+use reader_result::refused;
 use rules::BitPlace;
 use rules::Checked;
 use rules::Refusal;
 use rules::Result;
 use rules::Stop;
-use sites::root_place;
-use sites::uuid_place;
-use table::check;
 ghost use mathlib.Core.Path.{_≡_};
 ghost use Prim.Native.Nat.{_≤_};
 ghost use lib.ListN.{length};
@@ -23,11 +23,11 @@ ghost use Rattle.rules.specs.Place.{byteLength, bitPlace};
 ghost use Rattle.rules.specs.Verdict.{stopAt};
 ghost use Rattle.rules.specs.Parse.{checked};
 ghost use Rattle.rules.specs.Read.{readAll, readStream, resultOf, listAfter};
-ghost use Rattle.classes.specs.Notes.{notes};
-ghost use Rattle.classes.specs.Fragments.{askedAt};
-ghost use Rattle.turns.specs.Ready.{Ready};
-ghost use Rattle.packets.specs.Pieces.{Lent};
-ghost use Rattle.answers.specs.Answer.{refusedWith};
+ghost use Rattle.class_layout.specs.Notes.{notes};
+ghost use Rattle.class_layout.specs.Fragments.{askedAt};
+ghost use Rattle.event_turns.specs.Ready.{Ready};
+ghost use Rattle.packet_read.specs.Pieces.{Lent};
+ghost use Rattle.reader_result.specs.Answer.{refusedWith};
 ghost use Rattle.reader.specs.Answers.{Answers};
 
 // "stream empty or over 16,777,216 bytes" (21)

@@ -5,7 +5,7 @@ use mathlib.Core.List.{List}
 use Rattle.rules.specs.declared.Checked.{Checked}
 use Rattle.rules.specs.declared.Result.{Result}
 use Rattle.rules.specs.Parse.{checkedNumber}
-use Rattle.results.specs.Written.{written}
+use Rattle.trevoskel_words.specs.Written.{written}
 use Rattle.trevoskel.specs.Words.{checkedWords, resultWords}
 
 -- what is said of the case that a check gave is said of the check

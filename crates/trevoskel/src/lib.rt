@@ -1,16 +1,16 @@
 // The static library for hosts in C: a table's check and a stream's reading, each for every input the rules' own answer. Nothing is kept
 // between calls. What a caller lends, and what it must see to, is in include/trevoskel.h.
+use check_table::check;
 use reader::read;
-use results::write;
 use rules::ByteLength;
 use rules::Checked;
-use table::check;
+use trevoskel_words::write;
 ghost use mathlib.Core.Path.{_≡_};
 ghost use mathlib.Core.List.{[], _∷_};
 ghost use lib.ListN.{length};
 ghost use Rattle.rules.specs.Parse.{checked, checkedNumber};
 ghost use Rattle.rules.specs.Read.{readAll, resultOf, listAfter};
-ghost use Rattle.results.specs.Written.{written};
+ghost use Rattle.trevoskel_words.specs.Written.{written};
 ghost use Rattle.trevoskel.specs.Words.{checkedWords, resultWords};
 
 // Whether a class table is sound: 0 accepted, or the number that refuses it. The result gets the number and a byte: the table's length, or

@@ -61,7 +61,7 @@ fn answer(
     if table.len() < table_length || stream.len() < stream_length || list.len() < words {
         return too_long();
     }
-    say_checked(table::check(&table[..table_length]));
+    say_checked(check_table::check(&table[..table_length]));
     let r = reader::read(
         &table[..table_length],
         &stream[..stream_length],

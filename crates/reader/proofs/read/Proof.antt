@@ -5,7 +5,7 @@ use Rattle.reader.proofs.read.Tie as tie
 use Rattle.reader.proofs.read.Reads as reads
 use Rattle.reader.proofs.read.Lts as lts
 use Rattle.reader.proofs.read_stream.Reads as read-stream-reads
-use Rattle.table.proofs.check.Reads as check-reads
+use Rattle.check_table.proofs.check.Reads as check-reads
 use mathlib.Core.Path.{sym, _∙_}
 use Rattle.reader.proofs.Answered.{table-answers, accepted-whole, accepted-reads}
 

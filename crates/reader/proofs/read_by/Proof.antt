@@ -4,9 +4,9 @@ use Rattle.reader.proofs.read_by.Statement.{statement}
 use Rattle.reader.proofs.read_by.Tie as tie
 use Rattle.reader.proofs.read_by.Reads as reads
 use Rattle.reader.proofs.read_by.Lts as lts
-use Rattle.answers.proofs.answer.Reads as answer-reads
-use Rattle.packets.proofs.read_packets.Reads as read-packets-reads
-use Rattle.classes.specs.Fragments.{askedAt}
+use Rattle.reader_result.proofs.answer.Reads as answer-reads
+use Rattle.packet_read.proofs.read_packets.Reads as read-packets-reads
+use Rattle.class_layout.specs.Fragments.{askedAt}
 use Rattle.reader.proofs.Answered.{stream-answers}
 
 slice-aggregate-read-packets : tie.Need-slice-aggregate-read-packets

@@ -4,12 +4,12 @@ use Rattle.reader.proofs.read_prepared.Statement.{statement}
 use Rattle.reader.proofs.read_prepared.Tie as tie
 use Rattle.reader.proofs.read_prepared.Reads as reads
 use Rattle.reader.proofs.read_prepared.Lts as lts
-use Rattle.lookups.proofs.find_trace_class.Reads as find-trace-class-reads
+use Rattle.class_lookup.proofs.find_trace_class.Reads as find-trace-class-reads
 use Rattle.reader.proofs.read_by.Reads as read-by-reads
-use Rattle.sites.proofs.root_place.Reads as root-place-reads
-use Rattle.sites.proofs.uuid_place.Reads as uuid-place-reads
+use Rattle.class_roots.proofs.root_place.Reads as root-place-reads
+use Rattle.class_roots.proofs.uuid_place.Reads as uuid-place-reads
 use native.Mathlib.Omega.{arith}
-use Rattle.classes.specs.Notes.{notes}
+use Rattle.class_layout.specs.Notes.{notes}
 use Rattle.reader.proofs.Answered.{lent-none, trace-sized, trace-there, lent-bare, uuid-there, lent-uuid}
 
 find-trace-class-requires : tie.Need-find-trace-class-requires

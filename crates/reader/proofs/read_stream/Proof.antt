@@ -4,14 +4,14 @@ use Rattle.reader.proofs.read_stream.Statement.{statement}
 use Rattle.reader.proofs.read_stream.Tie as tie
 use Rattle.reader.proofs.read_stream.Reads as reads
 use Rattle.reader.proofs.read_stream.Lts as lts
-use Rattle.notes.proofs.prepare.Reads as prepare-reads
+use Rattle.class_notes.proofs.prepare.Reads as prepare-reads
 use Rattle.reader.proofs.bad_size.Reads as bad-size-reads
 use Rattle.reader.proofs.no_aligns.Reads as no-aligns-reads
 use Rattle.reader.proofs.no_sizes.Reads as no-sizes-reads
 use Rattle.reader.proofs.read_prepared.Reads as read-prepared-reads
 use native.Mathlib.Omega.{arith}
-use Rattle.classes.specs.Fragments.{askedAt}
-use Rattle.classes.proofs.Asked.{checked-accepts}
+use Rattle.class_layout.specs.Fragments.{askedAt}
+use Rattle.class_layout.proofs.Asked.{checked-accepts}
 use Rattle.reader.proofs.Answered.{empty-answers, large-answers, checked-keeps}
 
 bad-size-requires : tie.Need-bad-size-requires

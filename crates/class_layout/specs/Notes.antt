@@ -1,0 +1,93 @@
+-- What `prepare` notes of a table in two lists: for each class its size with all that it holds and its alignment's exponent, for each
+-- fragment its size. Byte by byte from the back: what a class holds stands behind its record, and is noted before it.
+use mathlib.Core.Path.{_≡_}
+use Prim.Native.Nat.{ℕ, zero, suc, _+_, _-_, _≤_}
+use mathlib.Core.List.{List, [], _∷_}
+use mathlib.Core.Bool.{Bool, true, false, _&&_}
+use lib.ListN.{length, getD, set}
+use lib.Dec.{leb}
+use Rattle.rules.specs.Class.{string}
+use Rattle.rules.specs.Record.{u8}
+use Rattle.class_layout.specs.declared.Reach.{Reach}
+use Rattle.class_layout.specs.Trees.{shapeOf, Stood, behindMembers, nextIn, nextAt, alignMembers, alignIn, alignAt, whole}
+use Rattle.class_layout.specs.Fragments.{behindFragment, fragmentsOf}
+use Rattle.class_layout.specs.Sizes.{Sized}
+
+pub record Notes : Type 0 where
+  pub sizes : List ℕ
+  pub aligns : List ℕ
+
+abbrev pub notes : List ℕ → List ℕ → Notes
+notes s a = record { sizes = s; aligns = a }
+
+-- what the notes say of the class at a byte: where it ends, of which alone the definitions of Trees ask here, and its exponent
+unfoldable pub endNoted : List ℕ → ℕ → Stood
+endNoted s p = record { class = string; next = p + getD s p 0 }
+
+unfoldable pub alignNoted : List ℕ → ℕ → ℕ
+alignNoted a p = getD a p 0
+
+-- where the class that a record announces ends, and its exponent, by the notes of what is behind the record
+abbrev pub endBy : List ℕ → Notes → ℕ → ℕ
+endBy t x p = nextIn (endNoted (x .sizes)) t p (shapeOf (u8 t p))
+
+abbrev pub alignBy : List ℕ → Notes → ℕ → ℕ
+alignBy t x p = alignIn (alignNoted (x .aligns)) (endNoted (x .sizes)) t p (shapeOf (u8 t p))
+
+-- 0 where that lies past the table, as no class does
+unfoldable pub sizeTo : List ℕ → ℕ → ℕ → ℕ
+sizeTo t p next = elim (leb next (length t)) [ true ↦ next - p | false ↦ 0 ]
+
+-- a byte that is no kind of a class is passed over
+unfoldable pub isClass : ℕ → Bool
+isClass k = leb 16 k && leb k 32
+
+unfoldable pub noteAt : List ℕ → ℕ → Notes → Notes
+noteAt t p x =
+    elim (isClass (u8 t p)) [ true ↦ notes (set (x .sizes) p (sizeTo t p (endBy t x p))) (set (x .aligns) p (alignBy t x p)) | false ↦ x ]
+
+-- the bytes below p, from the back
+unfoldable pub noteBelow : List ℕ → ℕ → Notes → Notes
+noteBelow t zero x = x
+noteBelow t (suc p) x = noteBelow t p (noteAt t p x)
+
+-- and then the fragments
+unfoldable pub noteFragments : List ℕ → List ℕ → List ℕ → List ℕ
+noteFragments t [] s = s
+noteFragments t (o ∷ os) s = noteFragments t os (set s o (behindFragment t o - o))
+
+unfoldable pub notesOf : List ℕ → Notes → Notes
+notesOf t x = notes (noteFragments t (fragmentsOf t) ((noteBelow t (length t) x) .sizes)) ((noteBelow t (length t) x) .aligns)
+
+-- the sizes of all classes that stand whole are right
+abbrev pub SizedClasses : List ℕ → List ℕ → Type 0
+SizedClasses t s = (d p : ℕ) → whole d t p → p + getD s p 0 ≡ nextAt d t p
+
+-- the notes of the class at a byte are right
+pub record NotedClass (t : List ℕ) (x : Notes) (d p : ℕ) : Type 0 where
+  pub size : p + getD (x .sizes) p 0 ≡ nextAt d t p
+  pub align : getD (x .aligns) p 0 ≡ alignAt d t p
+
+-- what a reading goes by: of every fragment, and of every byte at which a class stands whole
+pub record Prepared (t : List ℕ) (x : Notes) : Type 0 where
+  pub sized : Sized t (x .sizes)
+  pub room : length t ≤ length (x .aligns)
+  pub classes : (d p : ℕ) → whole d t p → NotedClass t x d p
+
+-- What the code finds of a class, and of members
+
+pub record Reaches (t : List ℕ) (x : Notes) (p : ℕ) (r : Reach) : Type 0 where
+  pub end : r .next ≡ endBy t x p
+  pub align : r .align ≡ alignBy t x p
+  pub onward : p ≤ r .next
+
+pub record ReachesMembers (s a : List ℕ) (p n : ℕ) (r : Reach) : Type 0 where
+  pub end : r .next ≡ behindMembers (endNoted s) p n
+  pub align : r .align ≡ alignMembers (alignNoted a) (endNoted s) p n
+  pub onward : p ≤ r .next
+
+-- What `prepare` does: every word of both lists, and what they are good for
+
+pub record Made (t : List ℕ) (x y : Notes) : Type 0 where
+  pub notes : y ≡ notesOf t x
+  pub ready : Prepared t y

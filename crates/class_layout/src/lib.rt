@@ -1,0 +1,33 @@
+// What an accepted class table gives a reading: where each class stands whole (specs/Trees), where the fragments and their roots do
+// (specs/Fragments), what is noted of them once (specs/Notes), and that these are the rules' own (proofs). Here are the types that code
+// shares with these definitions, and the bytes of a class record. In openings: where a fragment's roots stand.
+use table_offsets::Body;
+use table_records::bodies::body_of;
+ghost use mathlib.Core.Path.{_≡_};
+ghost use Prim.Native.Nat.{_≤_};
+ghost use Rattle.class_layout.specs.Trees.{shapeOf, recordSize};
+
+pub mod openings;
+
+// Where something stands in the table; or there is none.
+pub enum Found {
+    At(usize),
+    Nothing,
+}
+
+// Where a class ends, and its alignment's exponent.
+pub struct Reach {
+    pub next: usize,
+    pub align: u8,
+}
+
+// The bytes of a class record, its kind among them.
+pub fn record_size(kind: u8) -> usize
+    requires { ⌜ (16 ≤ kind) × (kind ≤ 32) ⌝ }
+    ensures { λ r. ⌜ (r ≡ recordSize (shapeOf kind)) × (r ≤ 256) ⌝ }
+{
+    match body_of(kind) {
+        Body::Bytes(n) => n + 1,
+        Body::Unknown => 0,
+    }
+}

@@ -1,0 +1,166 @@
+-- One event: its entry, what is left behind it, and 38.
+use mathlib.Core.Path.{_≡_, refl, ap, sym, _∙_}
+use Prim.Native.Nat.{ℕ, _-_, _≤_, _<_}
+use native.Mathlib.Omega.{arith}
+use mathlib.Core.List.{List, [], _∷_, _++_, append-nil}
+use mathlib.Core.Bool.{_&&_}
+use lib.ListN.{length, drop, take, replicate, length-take}
+use lib.Seq.{take-at}
+use Rattle.rules.specs.declared.Content.the-variants.{Unset}
+use Rattle.rules.specs.Slots.{slot}
+use Rattle.rules.specs.Limits.{slotCount, packetSlotCount}
+use lib.Dec.{ltb, eqb}
+use borrow.Author.Tests.{eq-eqb, ne-eqb}
+use Rattle.rules.specs.declared.Stop.{Stop}
+use Rattle.rules.specs.declared.Refusal.the-variants.{ClockWentBack, EventTookNoBits, ListFull}
+use Rattle.rules.specs.Verdict.{stopAt}
+use Rattle.rules.specs.Slots.{Slots, packetSlots}
+use Rattle.rules.specs.Entry.{entry, words, eventStarts, eventClassFound}
+use Rattle.rules.specs.Step.{State as Full, Out, stop, go, Step, onto, after, _⨾_, refuse, check, due, listed, change, withLast}
+use Rattle.rules.specs.Field.{Env}
+use Rattle.rules.specs.Table.{StreamClass, Asked}
+use Rattle.rules.specs.Packet.{mark, readRoot, withEvent, startEvent, readEvent}
+use Rattle.facts.proofs.Steps.{after-onto}
+use Rattle.leaf_find_number.specs.declared.Frame.{Frame}
+use Rattle.listing.specs.declared.State.{State}
+use Rattle.listing.specs.declared.Went.the-variants.{On}
+use Rattle.leaf_find_number.specs.Framed.{Framed, envOf}
+use Rattle.listing.specs.Did.{full, outOf}
+use Rattle.listing.proofs.Checks.{check-stops, check-goes, room-first, no-room-first}
+use Rattle.listing.proofs.Roles.{went-no-further}
+use Rattle.listing.proofs.Parts.{Part}
+use Rattle.outcome.specs.Ran.{EventDid, stoppedRan}
+use Rattle.event_read.specs.Start.{startState}
+use Rattle.event_turns.specs.Event.{bodyOf}
+use Rattle.event_turns.specs.Roots.{partsOf}
+use Rattle.outcome.proofs.Lists.{part-same}
+use Rattle.listing.proofs.Marks.{change-on}
+use Rattle.outcome.proofs.Parted.{Parted}
+
+-- a step that stopped with nothing listed
+pub nothing-did : (M : Step) (st : State) (l : Slots) (ws : List ℕ) (v : Stop) → M (full st l (length ws)) ≡ stop [] v
+    → EventDid M st l (stoppedRan v 0 st) ws ws
+nothing-did M st l ws v e = record { slots = l; kept = refl; did = went-no-further _ st l v ws e }
+
+-- steps in a row, however they are bracketed
+seq-same : (m g g′ : Step) (s : Full) → ((s : Full) → g s ≡ g′ s) → (m ⨾ g) s ≡ (m ⨾ g′) s
+unfolding _⨾_ after
+seq-same m g g′ s h = by (m s)
+  where
+    by : (o : Out) → after o g ≡ after o g′
+    by (stop es v) = refl
+    by (go es s) = ap (onto es) (h s)
+
+pub seq-assoc : (a b c : Step) (s : Full) → ((a ⨾ b) ⨾ c) s ≡ (a ⨾ (b ⨾ c)) s
+unfolding _⨾_ after
+seq-assoc a b c s = by (a s)
+  where
+    by : (o : Out) → after (after o b) c ≡ after o (λ s. after (b s) c)
+    by (stop es v) = refl
+    by (go es s) = after-onto es (b s) c
+
+-- "38 if the place did not move"
+unfoldable pub moved : State → Step
+moved st = check (λ s. eqb (s .place .0) (st .place .0)) EventTookNoBits
+
+-- an event behind entry 4: its header, its body, and 38
+unfoldable pub behindStart : Asked → StreamClass → Env → State → Step
+behindStart a c e st = readRoot e (c .header) ⨾ (bodyOf a c e ⨾ moved st)
+
+module _ (a : Asked) (c : StreamClass) (e : Env) (n : ℕ) (st : State) (l : Slots) (room : ℕ) where
+  abbrev Look : Step
+  Look s = withEvent (c .id) (s .said .event) (a .event (c .id) (s .said .event))
+      (λ d. mark eventClassFound 0 (s .said .event) ⨾ readRoot e (c .common) ⨾ readRoot e (d .specific) ⨾ readRoot e (d .payload)) s
+
+  tail : (s : Full)
+      → (check (λ s. c .timed && ltb (s .clock) (s .last)) ClockWentBack ⨾ (change (λ s. withLast (s .clock) s) ⨾ (due ⨾ (Look ⨾ moved st)))) s
+      ≡ (bodyOf a c e ⨾ moved st) s
+  unfolding bodyOf partsOf
+  tail s =
+      seq-same _ _ _ s (λ s. seq-same _ _ _ s (λ s. sym (seq-assoc due Look (moved st) s)) ∙ sym (seq-assoc _ (due ⨾ Look) (moved st) s))
+      ∙ sym (seq-assoc _ (change (λ s. withLast (s .clock) s) ⨾ (due ⨾ Look)) (moved st) s)
+
+  pub event-full : room < 4 → readEvent a c e n (full st l room) ≡ stop [] (stopAt ListFull (st .place))
+  unfolding readEvent refuse
+  event-full h = no-room-first _ (full st l room) h
+
+  pub event-starts : 4 ≤ room
+      → readEvent a c e n (full st l room) ≡ (mark eventStarts 0 n ⨾ (change startEvent ⨾ behindStart a c e st)) (full st l room)
+  unfolding readEvent behindStart moved
+  event-starts h =
+      room-first _ (full st l room) h
+      ∙ seq-same (mark eventStarts 0 n) _ _ (full st l room) (λ s. seq-same (change startEvent) _ _ s (λ s. seq-same (readRoot e (c .header)) _ _ s tail))
+
+-- slots 16 to 63 are unset once
+pub unset-again : (l : Slots) → length l ≡ slotCount → packetSlots (packetSlots l) ≡ packetSlots l
+unfolding packetSlots
+unset-again l h =
+    ap (λ r. r ++ replicate (slotCount - packetSlotCount) (slot Unset))
+    (take-at (take packetSlotCount l) (replicate (slotCount - packetSlotCount) (slot Unset)) packetSlotCount (omega (arith, length-take packetSlotCount l)))
+
+-- entry 4 stands in front
+module _ (a : Asked) (c : StreamClass) (b u : List ℕ) (f : Frame) (n : ℕ) (st : State) (l : Slots) (ws ws₁ : List ℕ) (h : 4 ≤ length ws)
+    (many : length l ≡ slotCount) (framed : Framed b f (st .place)) (e : ws₁ ≡ words (entry eventStarts (st .place) 0 n ∷ []) ++ drop 4 ws) where
+  abbrev Event : Step
+  Event = readEvent a c (envOf b u f) n
+
+  listed-part : Part (Event (full st l (length ws))) (change startEvent ⨾ behindStart a c (envOf b u f) st) ws ws₁ 4 st l
+  unfolding _⨾_ after mark listed
+  listed-part = record {
+    listed = entry eventStarts (st .place) 0 n ∷ [];
+    list = e;
+    counted = refl;
+    room = h;
+    rest = event-starts a c (envOf b u f) n st l (length ws) h;
+  }
+
+  pub started : Parted b f Event (behindStart a c (envOf b u f) st) st l ws ws₁ 4 (startState st) (packetSlots l)
+  unfolding startEvent
+  started = record {
+    framed = framed;
+    kept = unset-again l many;
+    part = part-same _ (behindStart a c (envOf b u f) st) (change-on startEvent _ (full st l (length ws - 4))) listed-part;
+  }
+
+-- what is left lists nothing: it stops, or the event is done
+module _ (m M : Step) (came : State) (l₀ : Slots) {ws₀ ws : List ℕ} {used : ℕ} {st : State} {l : Slots}
+    (p : Part (M (full came l₀ (length ws₀))) m ws₀ ws used st l) where
+  pub left-stops : (v : Stop) → m (full st l (length ws₀ - used)) ≡ stop [] v → EventDid M came l₀ (stoppedRan v used came) ws₀ ws
+  unfolding onto outOf
+  left-stops v e = record {
+    slots = l₀;
+    kept = refl;
+    did = record {
+      listed = p .listed;
+      out = p .rest ∙ ap (onto (p .listed)) e ∙ ap (λ x. stop x v) (append-nil (p .listed));
+      counted = p .counted;
+      list = p .list;
+      room = p .room;
+      kept = λ w h. refl;
+    };
+  }
+
+  pub left-goes : packetSlots l ≡ packetSlots l₀ → m (full st l (length ws₀ - used)) ≡ go [] (full st l (length ws₀ - used))
+      → EventDid M came l₀ (record { went = On; used = used; state = st }) ws₀ ws
+  unfolding onto outOf
+  left-goes k e = record {
+    slots = l;
+    kept = k;
+    did = record {
+      listed = p .listed;
+      out = p .rest ∙ ap (onto (p .listed)) e ∙ ap (λ x. go x _) (append-nil (p .listed));
+      counted = p .counted;
+      list = p .list;
+      room = p .room;
+      kept = λ w h. let z : _≡_ {A = ℕ} 0 1 = cc in absurd (omega arith);
+    };
+  }
+
+module _ (st₀ st : State) (l : Slots) (room : ℕ) where
+  pub not-moved : st .place .0 ≡ st₀ .place .0 → moved st₀ (full st l room) ≡ stop [] (stopAt EventTookNoBits (st .place))
+  unfolding moved refuse
+  not-moved h = check-stops _ EventTookNoBits (full st l room) (eq-eqb _ _ h)
+
+  pub has-moved : (st .place .0 ≡ st₀ .place .0 → ⊥) → moved st₀ (full st l room) ≡ go [] (full st l room)
+  unfolding moved
+  has-moved h = check-goes _ EventTookNoBits (full st l room) (ne-eqb _ _ h)

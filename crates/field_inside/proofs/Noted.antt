@@ -1,0 +1,80 @@
+-- What stands whole at some depth can be looked into by the notes, with no depth: each class that it holds begins in the table and ends
+-- where the notes say.
+use mathlib.Core.Path.{_≡_, refl, sym, ap}
+use Prim.Native.Nat.{ℕ, zero, suc, _+_, _*_, _≤_}
+use mathlib.Core.List.{List}
+use mathlib.Core.Bool.{true, false}
+use Rattle.rules.specs.Record.{Shape, bitField, lebField, signedLebField, zeroString, text, blob, textOf, blobOf, members, elements, elementsOf, option?, options, u8}
+use Rattle.rules.specs.Class.{Sign, anyHolds}
+use Rattle.class_layout.specs.Trees.{shapeOf, rangesAt, optionClass, Stood, stoodAt, nextAt, wholeMembers, wholeOptions, wholeIn, whole}
+use Rattle.class_layout.specs.Notes.{Notes, endNoted, Prepared}
+use Rattle.class_layout.proofs.Turns.{whole-inside}
+use Rattle.class_layout.proofs.Aligned.{aligned}
+use Rattle.field_choice.specs.declared.Choice.the-variants.{Class}
+use Rattle.field_choice.specs.Choice.{InTable, optionFrom}
+use Rattle.field_inside.specs.Inside.{Opens}
+
+-- f and f′ agree on where the classes end that stand whole by g, and these do by g′ too
+module _ (t : List ℕ) (g g′ : ℕ → Type 0) (f f′ : ℕ → Stood) (each : (p : ℕ) → g p → g′ p)
+    (same : (p : ℕ) → g p → (f p) .next ≡ (f′ p) .next) where
+  members-too : (at n : ℕ) → wholeMembers g f at n → wholeMembers g′ f′ at n
+  unfolding wholeMembers
+  members-too at zero w = tt
+  members-too at (suc n) w = (each at (w .0), rw (← same at (w .0)) (members-too ((f at) .next) n (w .1)))
+
+  options-too : (at n : ℕ) → wholeOptions g f t at n → wholeOptions g′ f′ t at n
+  unfolding wholeOptions
+  options-too at zero w = tt
+  options-too at (suc n) w =
+      let e = same (optionClass t at) (w .2) in
+      (w .0, w .1, each (optionClass t at) (w .2), rw (← e) (options-too ((f (optionClass t at)) .next) n (w .3)))
+
+  shape-too : (at : ℕ) (h : Shape) → wholeIn g f t at h → wholeIn g′ f′ t at h
+  unfolding wholeIn
+  shape-too at (bitField k) w = w
+  shape-too at lebField w = w
+  shape-too at signedLebField w = w
+  shape-too at zeroString w = w
+  shape-too at text w = w
+  shape-too at blob w = w
+  shape-too at textOf w = w
+  shape-too at blobOf w = w
+  shape-too at members w = (w .0, members-too (at + 3) (u8 t (at + 1)) (w .1))
+  shape-too at elements w = (w .0, each (at + 4) (w .1))
+  shape-too at elementsOf w = (w .0, each (at + 3) (w .1))
+  shape-too at option? w = (w .0, each (at + 3 + 18 * u8 t (at + 2)) (w .1))
+  shape-too at options w = (w .0, options-too (at + 3) (u8 t (at + 2)) (w .1))
+
+  -- the same option is found
+  pub option-same : (s : Sign) (v k at n : ℕ) → wholeOptions g f t at n → optionFrom f′ t s v k at n ≡ optionFrom f t s v k at n
+  unfolding wholeOptions optionFrom
+  option-same s v k at zero w = refl
+  option-same s v k at (suc n) w =
+      let e = same (optionClass t at) (w .2) in
+      let rest : optionFrom f′ t s v (k + 1) ((f′ (optionClass t at)) .next) n ≡ optionFrom f t s v (k + 1) ((f (optionClass t at)) .next) n =
+      rw (← e) (option-same s v (k + 1) ((f (optionClass t at)) .next) n (w .3)) in
+      ap (λ o. elim (anyHolds s v (rangesAt t (at + 2) (u8 t (at + 1)))) [ true ↦ Class (optionClass t at) k | false ↦ o ]) rest
+
+module _ (t : List ℕ) (x : Notes) (r : Prepared t x) where
+  -- the notes say where a class ends
+  pub end-same : (d p : ℕ) → whole d t p → nextAt d t p ≡ (endNoted (x .sizes) p) .next
+  unfolding endNoted
+  end-same d p w = sym (r .classes d p w .size)
+
+  parts-too : (d at : ℕ) → whole (suc d) t at → wholeIn (InTable t) (endNoted (x .sizes)) t at (shapeOf (u8 t at))
+  unfolding whole
+  parts-too d at w =
+      shape-too t (whole d t) (InTable t) (stoodAt d t) (endNoted (x .sizes)) (λ p v. whole-inside d t p v) (end-same d) at (shapeOf (u8 t at))
+      (w .parts)
+
+  pub opens : (d at : ℕ) → whole d t at → 28 ≤ u8 t at → Opens t x at
+  unfolding whole
+  opens zero at w k = absurd w
+  opens (suc d) at w k = record {
+    limit = r .sized .limit;
+    sizes = r .sized .room;
+    aligns = r .room;
+    kind = k;
+    stands = record { low = w .low; high = w .high; there = w .there; parts = parts-too d at w };
+    align = rw (r .classes (suc d) at w .align) (aligned (suc d) t at w .1);
+  }

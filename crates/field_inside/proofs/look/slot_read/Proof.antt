@@ -1,0 +1,34 @@
+-- By the kind: two of them read none.
+use borrow.Author.Needs.{needs}
+use Rattle.field_inside.proofs.look.slot_read.Statement.{statement}
+use Rattle.field_inside.proofs.look.slot_read.Tie as tie
+use native.Mathlib.Omega.{arith}
+use Rattle.rules.specs.Record.{u8}
+use mathlib.Core.Path.{_∙_}
+use Rattle.field_inside.proofs.Holders.{no-slot-28, no-slot-29, slot-read}
+
+shared-slice-read-match : tie.Need-shared-slice-read-match
+shared-slice-read-match c = search needs
+
+add-count-at : tie.Need-add-count-at
+add-count-at c = search needs
+
+count-at-requires : tie.Need-count-at-requires
+count-at-requires c κs = search needs
+
+returns : tie.Need-returns
+unfolding u8
+returns c = (no-slot-28 _ _ (c .match .keys1), omega arith)
+
+returns-2 : tie.Need-returns-2
+unfolding u8
+returns-2 c = (no-slot-29 _ _ (c .match .keys2), omega arith)
+
+returns-3 : tie.Need-returns-3
+unfolding u8
+returns-3 c = (c .count-at .ensures .0 ∙ slot-read _ _ (c .before .before .before .before .pre .0) (c .before .before .before .before .pre .1) (c .before .match .rest .0 .1) (c .before .match .rest .1), c .count-at .ensures .1)
+
+pub slot-read-spec : {M : Type 1} → statement M
+slot-read-spec =
+    tie.close
+    (tie.spec shared-slice-read-match add-count-at count-at-requires returns returns-2 returns-3)

@@ -1,0 +1,160 @@
+-- A field that holds others: its own entry stands in front, and what is inside is lent the rest of the list.
+use mathlib.Core.Path.{_≡_, refl, ap, sym, subst, _∙_}
+use mathlib.Core.List.{List, [], _∷_, _++_}
+use Prim.Native.Nat.{ℕ, zero, suc, _+_, _-_, _*_, _^_, _≤_, _<_}
+use native.Mathlib.Omega.{arith}
+use lib.ListN.{length, drop}
+use borrow.Rule.Slice.PartMut.{same-len-mid}
+use Rattle.rules.specs.declared.BitPlace.{BitPlace}
+use Rattle.rules.specs.declared.Stop.{Stop}
+use Rattle.rules.specs.declared.Refusal.{Refusal}
+use Rattle.rules.specs.Limits.{slotCount}
+use Rattle.rules.specs.Verdict.{stopAt}
+use Rattle.rules.specs.Slots.{Slots, slotAt}
+use Rattle.rules.specs.Entry.{entry, words}
+use Rattle.rules.specs.declared.Content.{Content}
+use Rattle.rules.specs.Record.{u8}
+use Rattle.rules.specs.Step.{State as Full, Step, after, _⨾_, refuse, listed}
+use Rattle.facts.proofs.Cases.{_▷_, below}
+use Rattle.class_layout.specs.Trees.{shapeOf, shapes, recordSize, whole, wholeMembers, stoodAt}
+use Rattle.class_layout.specs.Notes.{Notes, Prepared}
+use Rattle.field_inside.specs.declared.look.Inside.{Inside}
+use Rattle.field_inside.specs.declared.look.Inside.the-variants.{Members, Elements, Refused}
+use Rattle.field_inside.specs.Inside.{insideOf, slotReadAt, opened, Opens}
+use Rattle.field_inside.specs.Held.{Held, Placed, HeldMembers, HeldElements}
+use Rattle.field_inside.proofs.Noted.{opens}
+use Rattle.field_inside.proofs.Opened.{inside-read}
+use Rattle.field_inside.proofs.Held.{inside-whole}
+use Rattle.leaf_find_number.specs.declared.Frame.{Frame}
+use Rattle.leaf_find_number.specs.Framed.{Framed, envOf}
+use Rattle.listing.specs.declared.State.{State}
+use Rattle.listing.specs.declared.Went.{Went}
+use Rattle.listing.specs.declared.Went.the-variants.{On, Stopped}
+use Rattle.listing.specs.Did.{full, atPlace}
+use Rattle.listing.proofs.Roles.{went-no-further}
+use Rattle.listing.proofs.Parts.{Part, part-last-on, part-last-stopped, part-length, back-room, lent, merged}
+use Rattle.field_read.specs.declared.Field.{Field}
+use Rattle.field_read.specs.Reads.{FieldReads, gone, entered}
+use Rattle.class_layout.proofs.Standing.{depth-some}
+use Rattle.field_read.proofs.Turns.{Call, call, outcome, CallReads, stoppedCall, classRead, membersRead, elementsRead, did-length}
+
+-- kinds 28 to 32 have a byte or more behind their kind
+held-size : (k : ℕ) → 28 ≤ k → k ≤ 32 → 2 ≤ recordSize (shapeOf k)
+unfolding shapeOf shapes recordSize
+held-size k l h = at-28 (k - 28) (omega arith) k (omega arith)
+  where
+    at-28 : (i : ℕ) → i < 5 → (k : ℕ) → k ≡ 28 + i → 2 ≤ recordSize (shapeOf k)
+    at-28 i h k e = rw e
+        (below (λ i. 2 ≤ recordSize (shapeOf (28 + i))) 5 (omega arith ▷ omega arith ▷ omega arith ▷ omega arith ▷ omega arith ▷ tt) i h)
+
+pub slot-within : (t : List ℕ) (at d : ℕ) → whole d t at → 28 ≤ u8 t at → at + 2 ≤ length t
+unfolding whole
+slot-within t at zero w k = absurd w
+slot-within t at (suc d) w k = omega (arith, w .there, held-size (u8 t at) k (w .high))
+
+-- the class at a byte holds fields, and c is the content of the slot that it reads
+pub record Holder (b u : List ℕ) (f : Frame) (t : List ℕ) (x : Notes) (d at : ℕ) (c : Content) (st : State) (l : Slots)
+    (ws : List ℕ) : Type 0 where
+  pub stands : whole d t at
+  pub holds : 28 ≤ u8 t at
+  pub room : 4 ≤ length ws
+  pub small : 8 * length ws < 2 ^ 63
+  pub noted : Prepared t x
+  pub framed : Framed b f (st .place)
+  pub many : length l ≡ slotCount
+  pub told : slotAt l (slotReadAt t at) ≡ c
+
+-- what the fields inside did to the field that holds them, whose entry stands in front: ws is the list behind them
+pub record Closed (w : Call) (ws : List ℕ) (r : Field) : Type 0 where
+  pub fits : 4 + r .used < 2 ^ 60
+  pub same : length ws ≡ length (w .list)
+  pub stops : (v : Stop) → r .went ≡ Stopped v → CallReads w (stoppedCall w v (4 + r .used)) ws
+  pub goes : r .went ≡ On → CallReads w (record { went = On; used = 4 + r .used; state = r .state; slots = r .slots }) ws
+
+-- as it went
+pub closed-reads : {w : Call} {ws : List ℕ} {r : Field} → Closed w ws r → CallReads w (entered r (w .came) (w .given)) ws
+unfolding gone
+closed-reads {w} {ws} {r} k = by (r .went) refl
+  where
+    by : (g : Went) → r .went ≡ g → CallReads w (gone g (4 + r .used) (r .state) (r .slots) (w .came) (w .given)) ws
+    by On on = k .goes on
+    by (Stopped v) off = k .stops v off
+
+module _ {b u : List ℕ} {f : Frame} {t : List ℕ} {x : Notes} {d at : ℕ} {c : Content} {st : State} {l : Slots} {ws : List ℕ}
+    (h : Holder b u f t x d at c st l ws) where
+  pub can-look : Opens t x at
+  can-look = opens t x (h .noted) d at (h .stands) (h .holds)
+
+  -- its own depth is one of those left
+  deep : whole (suc (d - 1)) t at
+  deep = subst (λ (e : ℕ). whole e t at) (depth-some t at d (h .stands)) (h .stands)
+
+  held : Held (d - 1) t f (st .place) (insideOf t x at f (st .place) c)
+  held = inside-whole b f (d - 1) t x at c (st .place) deep (h .holds) (h .framed) (h .noted)
+
+  placed : (p : BitPlace) → Placed f (st .place) p → Framed b f p
+  placed p q = record { whole = h .framed .whole; begun = q .begun; within = q .within; ends = h .framed .ends; small = h .framed .small }
+
+  pub members-held : {o : Inside} {p : BitPlace} {v at′ n : ℕ} → o ≡ insideOf t x at f (st .place) c → o ≡ Members p v at′ n
+      → wholeMembers (whole (d - 1) t) (stoodAt (d - 1) t) at′ n × Framed b f p
+  unfolding Held
+  members-held {p = p} {at′ = at′} {n = n} look e =
+      let q : HeldMembers (d - 1) t f (st .place) p at′ n = rw (sym look ∙ e) at held in
+      (q .classes, placed p (q .place))
+
+  pub elements-held : {o : Inside} {p : BitPlace} {v at′ n : ℕ} → o ≡ insideOf t x at f (st .place) c → o ≡ Elements p v at′ n
+      → whole (d - 1) t at′ × Framed b f p
+  unfolding Held
+  elements-held {p = p} {at′ = at′} look e =
+      let q : HeldElements (d - 1) t f (st .place) p at′ = rw (sym look ∙ e) at held in
+      (q .class, placed p (q .place))
+
+  abbrev this : Call
+  this = call b u f (classRead d t at) st l ws
+
+  abbrev s : Full
+  s = full st l (length ws)
+
+  opened-read : outcome this ≡ opened (envOf b u f) (u8 t at) (d - 1) t (insideOf t x at f (st .place) c) s
+  opened-read = ap (λ (e : ℕ). classRead e t at (envOf b u f) s) (depth-some t at d (h .stands))
+      ∙ inside-read b u f (d - 1) t x at c s deep (h .holds) (h .room) (sym (h .told)) (h .framed) (h .noted)
+
+  pub refusal-reads : {o : Inside} {why : Refusal} → o ≡ insideOf t x at f (st .place) c → o ≡ Refused why
+      → CallReads this (stoppedCall this (stopAt why (st .place)) 0) ws
+  unfolding refuse opened
+  refusal-reads look e = record {
+    did = went-no-further _ st _ _ ws (opened-read ∙ rw (sym look ∙ e) refl);
+    kept = λ v off. refl;
+    many = h .many;
+  }
+
+  -- the field is its entry, and then m
+  module _ {p : BitPlace} (v : ℕ) {m : Step} {ws₁ ys : List ℕ} {r : Field} (o : outcome this ≡ (listed (entry (u8 t at) p 0 v) p ⨾ m) s)
+      (e : ws₁ ≡ words (entry (u8 t at) p 0 v ∷ []) ++ drop 4 ws) (did : FieldReads m (atPlace p st) l r (lent 4 ws₁) ys) where
+    entry-part : Part (outcome this) m ws ws₁ 4 (atPlace p st) l
+    unfolding _⨾_ after listed
+    entry-part = record { listed = entry (u8 t at) p 0 v ∷ []; list = e; counted = refl; room = h .room; rest = o }
+
+    closed : Closed this (merged 4 ws₁ ys) r
+    closed = record {
+      fits = omega (arith, back-room m entry-part (did .did), h .small);
+      same = same-len-mid 4 (length ws₁ - 4) ws₁ ys (did-length (did .did)) ∙ part-length entry-part;
+      stops = λ v off. record { did = part-last-stopped m entry-part (did .did) v st _ off; kept = λ v h. refl; many = h .many };
+      goes = λ on. record {
+        did = part-last-on m entry-part (did .did) st on;
+        kept = λ v h. let z : _≡_ {A = ℕ} 0 1 = cc in absurd (omega arith);
+        many = did .many;
+      };
+    }
+
+  pub members-closed : {o : Inside} {p : BitPlace} {v at′ n : ℕ} {ws₁ ys : List ℕ} {r : Field}
+      → o ≡ insideOf t x at f (st .place) c → o ≡ Members p v at′ n → ws₁ ≡ words (entry (u8 t at) p 0 v ∷ []) ++ drop 4 ws
+      → FieldReads (membersRead (d - 1) t at′ n (envOf b u f)) (atPlace p st) l r (lent 4 ws₁) ys → Closed this (merged 4 ws₁ ys) r
+  unfolding opened
+  members-closed look e = closed _ (opened-read ∙ rw (sym look ∙ e) refl)
+
+  pub elements-closed : {o : Inside} {p : BitPlace} {v at′ n : ℕ} {ws₁ ys : List ℕ} {r : Field}
+      → o ≡ insideOf t x at f (st .place) c → o ≡ Elements p v at′ n → ws₁ ≡ words (entry (u8 t at) p 0 v ∷ []) ++ drop 4 ws
+      → FieldReads (elementsRead (d - 1) t at′ n (envOf b u f)) (atPlace p st) l r (lent 4 ws₁) ys → Closed this (merged 4 ws₁ ys) r
+  unfolding opened
+  elements-closed look e = closed _ (opened-read ∙ rw (sym look ∙ e) refl)

@@ -1,0 +1,23 @@
+-- The same class again, or the one behind it.
+use borrow.Author.Needs.{needs}
+use Rattle.field_read.proofs.walk.onward.Statement.{statement}
+use Rattle.field_read.proofs.walk.onward.Tie as tie
+use mathlib.Core.Path.{refl}
+use Rattle.field_read.specs.Both.{onward}
+
+returns : tie.Need-returns
+unfolding onward
+returns c = rw (c .if1 .taken) refl
+
+size-at-requires : tie.Need-size-at-requires
+size-at-requires c κs = search needs
+
+add-result : tie.Need-add-result
+add-result c = search needs
+
+returns-2 : tie.Need-returns-2
+unfolding onward
+returns-2 c = rw (c .before .if1 .left, c .size-at .ensures .0) refl
+
+pub onward-spec : {M : Type 1} → statement M
+onward-spec = tie.close (tie.spec returns size-at-requires add-result returns-2)

@@ -1,0 +1,213 @@
+-- The rules' reading of a leaf is what is seen of it, and then what is done with that. In order: tests; a BLOB's roles; numbers; what has
+-- neither slot nor role; static BLOBs; lengths that a slot gives.
+use Prim.Native.Nat.{ℕ, _-_, _*_, _/_, _<_, _≤_}
+use native.Mathlib.Omega.{arith}
+use lib.Dec.{ltb, eqb}
+use lib.ListN.{length, List·getD-eq-default}
+use mathlib.Core.Path.{_≡_, refl, sym, ap, _∙_}
+use mathlib.Core.List.{List, [], _∷_}
+use mathlib.Core.Logic.{⊎-elim}
+use mathlib.Core.Bool.{Bool, true, false}
+use borrow.Author.Tests.{eqb-true, eqb-false}
+use Rattle.rules.specs.declared.BitPlace.{BitPlace}
+use Rattle.rules.specs.declared.Content.{Content}
+use Rattle.rules.specs.declared.Content.the-variants.{Unset, Flag, Unsigned, Signed}
+use Rattle.rules.specs.declared.Leb.{Leb}
+use Rattle.rules.specs.declared.Leb.the-variants.{Value, Past, Large}
+use Rattle.rules.specs.declared.Ended.{Ended}
+use Rattle.rules.specs.declared.Ended.the-variants.{After, Never}
+use Rattle.rules.specs.declared.Order.{Order}
+use Rattle.rules.specs.declared.Refusal.{Refusal}
+use Rattle.rules.specs.declared.Refusal.the-variants.{LengthTooLarge, WrongUuid}
+use Rattle.rules.specs.Limits.{lengthLimit, wordsPerEntry, noSlot, slotCount}
+use Rattle.rules.specs.Class.{noRole, Sort, leb128, signedLeb128, string, staticString, staticBlob, dynamicString, dynamicBlob}
+use Rattle.rules.specs.Faults.{roles, roleOf}
+use Rattle.rules.specs.Slots.{slotAt}
+use Rattle.rules.specs.Place.{further}
+use Rattle.rules.specs.Entry.{entry}
+use Rattle.rules.specs.Step.{State, Step, go, _⨾_, onto, after, pass, refuse, check, listed, change, withOrder, withSlots}
+use Rattle.rules.specs.Field.{Env, aligned, fit, ahead, bytesAt, sameBytes, field, store, role, turned, fromSlot, asNumber, asLength, readFixed, readLeb, readZero, readText, blobRole, readBlob, read}
+use Rattle.facts.proofs.Steps.{onto-nil}
+use Rattle.facts.proofs.Numbers.{lt-or-ge}
+use Rattle.facts.proofs.Cases.{_▷_, below}
+use Rattle.facts.proofs.Slots.{no-slot}
+use Rattle.leaf_find_number.specs.declared.Frame.{Frame}
+use Rattle.leaf_find_number.specs.declared.find.Found.{Found}
+use Rattle.leaf_find_number.specs.Framed.{envOf}
+use Rattle.leaf_find_number.specs.Found.{alignedAt, unless, within, bytesAhead, foundBits, foundLeb, foundUnsigned, foundSigned}
+use Rattle.leaf_find_bytes.specs.Found.{foundZero, foundString, foundText, foundBlob}
+use Rattle.slots.specs.Taken.{lengthOf}
+use Rattle.listing.proofs.Checks.{check-stops, check-goes, room-first}
+use Rattle.leaf_after.specs.declared.Seen.{Seen}
+use Rattle.leaf_after.specs.Seeing.{Told, done, doneDue, seen, fixedSeen, lebSeen, plainSeen, uuidSeen, blobSeen, forLength}
+
+-- a test in front of what is found
+check-seen : (t : State → Bool) (r : Refusal) (m : Step) (s : State) (b : Bool) (x : Found) (f : Told) →
+    t s ≡ b → m s ≡ done (seen x f) s → (check t r ⨾ m) s ≡ done (seen (unless b r x) f) s
+unfolding _⨾_ after unless seen done refuse
+check-seen t r m s true x f h e = ap (λ o. after o m) (check-stops t r s h)
+check-seen t r m s false x f h e = ap (λ o. after o m) (check-goes t r s h) ∙ onto-nil (m s) ∙ e
+
+-- the state behind an entry
+abbrev behindEntry : BitPlace → ℕ → State → State
+behindEntry p n s = record {
+  place = further p n;
+  room = s .room - wordsPerEntry;
+  slots = s .slots;
+  order = s .order;
+  clock = s .clock;
+  last = s .last;
+  said = s .said;
+}
+
+-- Roles of a BLOB
+
+module _ (e : Env) where
+  abbrev Passes : ℕ → Type 0
+  Passes r = (r ≡ 4 → ⊥) → (bs : List ℕ) (s : State) → blobRole e (roleOf r) bs s ≡ go [] s
+
+  -- a role that is not the UUID's lets a BLOB be
+  passes-listed : (r : ℕ) → r < 12 → Passes r
+  unfolding blobRole roleOf roles pass
+  passes-listed = below Passes 12
+      ((λ h bs s. refl)
+      ▷ (λ h bs s. refl)
+      ▷ (λ h bs s. refl)
+      ▷ (λ h bs s. refl)
+      ▷ (λ h bs s. absurd (h refl))
+      ▷ (λ h bs s. refl)
+      ▷ (λ h bs s. refl)
+      ▷ (λ h bs s. refl)
+      ▷ (λ h bs s. refl)
+      ▷ (λ h bs s. refl)
+      ▷ (λ h bs s. refl)
+      ▷ (λ h bs s. refl)
+      ▷ tt)
+
+  passes : (r : ℕ) → Passes r
+  unfolding blobRole roleOf roles pass
+  passes r h bs s = ⊎-elim
+      (λ (l : r < 12). passes-listed r l h bs s)
+      (λ (l : 12 ≤ r). rw (List·getD-eq-default roles noRole l) refl)
+      (lt-or-ge r 12)
+
+module _ (b uuid : List ℕ) (f : Frame) (s : State) (h : 4 ≤ s .room) where
+  abbrev env : Env
+  env = envOf b uuid f
+
+  -- Numbers
+
+  pub fixed-read : (k : Sort) (n : ℕ) (o : Order) (a i r : ℕ) →
+      readFixed env k n o a i (roleOf r) s ≡ done (seen (foundBits b f (s .place) (s .order) n o a) (fixedSeen k o i r)) s
+  unfolding readFixed _⨾_ fit turned aligned field foundBits within alignedAt seen done doneDue fixedSeen
+  fixed-read k n o a i r = room-first _ s h
+      ∙ check-seen _ _ _ s _ _ (fixedSeen k o i r) refl
+      (check-seen _ _ _ s _ _ (fixedSeen k o i r) refl (check-seen _ _ _ s _ _ (fixedSeen k o i r) refl refl))
+
+  leb-read : (k i r : ℕ) (c : ℕ → Content) (x : Leb) →
+      readLeb env k c i (roleOf r) x s ≡ done (seen (foundLeb (alignedAt f 8 (s .place)) x) (lebSeen k c (s .order) i r)) s
+  unfolding readLeb _⨾_ after listed change withOrder field aligned foundLeb alignedAt seen done doneDue lebSeen
+  leb-read k i r c (Value v n) =
+      let bytes : 8 * n .0 / 8 ≡ n .0 = omega arith in
+      rw (bytes) (ap (onto (entry k (alignedAt f 8 (s .place)) (8 * n .0) v ∷ [])) (sym (onto-nil _)))
+  leb-read k i r c Past = refl
+  leb-read k i r c Large = refl
+
+  pub unsigned-read : (i r : ℕ) → read env (leb128 i (roleOf r)) s ≡ done (seen (foundUnsigned b f (s .place)) (lebSeen 21 Unsigned (s .order) i r)) s
+  unfolding read fit aligned ahead foundUnsigned bytesAhead within alignedAt
+  unsigned-read i r = room-first _ s h ∙ check-seen _ _ _ s _ _ (lebSeen 21 Unsigned (s .order) i r) refl (leb-read 21 i r Unsigned _)
+
+  pub signed-read : (i : ℕ) → read env (signedLeb128 i) s ≡ done (seen (foundSigned b f (s .place)) (lebSeen 22 Signed (s .order) i 0)) s
+  unfolding read fit aligned ahead foundSigned bytesAhead within alignedAt roleOf roles
+  signed-read i = room-first _ s h ∙ check-seen _ _ _ s _ _ (lebSeen 22 Signed (s .order) i 0) refl (leb-read 22 i 0 Signed _)
+
+  module _ (long : length (s .slots) ≡ slotCount) where
+    -- What has neither slot nor role
+
+    plain-listed : (k : ℕ) (p : BitPlace) (n v : ℕ) → listed (entry k p n v) (further p n) s ≡ done (plainSeen k (s .order) p n v) s
+    unfolding done doneDue plainSeen _⨾_ after onto listed change withOrder store withSlots role roleOf roles pass
+    plain-listed k p n v = rw (no-slot (s .slots) noSlot Unset long (omega arith)) refl
+
+    zero-read : (x : Ended) → readZero env x s ≡ done (seen (foundZero (alignedAt f 8 (s .place)) x) (plainSeen 23 (s .order))) s
+    unfolding readZero field aligned foundZero alignedAt seen done
+    zero-read (After n) = plain-listed 23 _ _ _
+    zero-read Never = refl
+
+    pub string-read : read env string s ≡ done (seen (foundString b f (s .place)) (plainSeen 23 (s .order))) s
+    unfolding read fit aligned ahead foundString bytesAhead within alignedAt
+    string-read = room-first _ s h ∙ check-seen _ _ _ s _ _ (plainSeen 23 (s .order)) refl (zero-read _)
+
+    text-read : (k n : ℕ) → readText env k n s ≡ done (seen (foundText b f (s .place) n) (plainSeen k (s .order))) s
+    unfolding readText fit aligned bytesAt field foundText within alignedAt seen
+    text-read k n =
+        let plain = plainSeen k (s .order) in
+        check-seen _ _ _ s _ _ plain refl (check-seen _ _ _ s _ _ plain refl (plain-listed k _ _ _))
+
+    pub static-string-read : (n : ℕ) → read env (staticString n) s ≡ done (seen (foundText b f (s .place) n) (plainSeen 24 (s .order))) s
+    unfolding read
+    static-string-read n = room-first _ s h ∙ text-read 24 n
+
+    -- a step that goes on and lists nothing changes nothing behind an entry
+    listing-goes : (k : ℕ) (p : BitPlace) (n v : ℕ) (m : Step) → m (behindEntry p n s) ≡ go [] (behindEntry p n s)
+        → (listed (entry k p n v) (further p n) ⨾ m) s ≡ done (plainSeen k (s .order) p n v) s
+    unfolding listed _⨾_ after onto
+    listing-goes k p n v m e = ap (onto (entry k p n v ∷ [])) e ∙ plain-listed k p n v
+
+    blob-read : (k n : ℕ) → readBlob env k n noRole s ≡ done (seen (foundBlob f (s .place) n) (plainSeen k (s .order))) s
+    unfolding readBlob _⨾_ fit aligned bytesAt field foundBlob within alignedAt seen blobRole pass
+    blob-read k n =
+        let plain = plainSeen k (s .order) in
+        check-seen _ _ _ s _ _ plain refl (check-seen _ _ _ s _ _ plain refl (listing-goes k _ _ _ pass refl))
+
+    -- Static BLOBs
+
+    module _ (p : BitPlace) (n v : ℕ) where
+      -- what a BLOB with a role does behind its tests
+      abbrev Roled : ℕ → Step
+      Roled r = listed (entry 25 p n v) (further p n) ⨾ blobRole env (roleOf r) (bytesAt env p v)
+
+      uuid-listed : Roled 4 s ≡ done (uuidSeen b uuid (s .order) p n v) s
+      unfolding uuidSeen bytesAt done roleOf roles blobRole listed _⨾_ after
+      uuid-listed = by (sameBytes (bytesAt env p v) uuid) refl
+        where
+          by : (t : Bool) → sameBytes (bytesAt env p v) uuid ≡ t → Roled 4 s ≡ done (uuidSeen b uuid (s .order) p n v) s
+          by true e = rw (e, uuidSeen) (listing-goes 25 p n v (check (λ s. false) WrongUuid) (check-goes _ WrongUuid _ refl))
+          by false e = rw (e, uuidSeen) (ap (onto (entry 25 p n v ∷ [])) (check-stops _ WrongUuid _ refl))
+
+      blob-listed : (r : ℕ) → Roled r s ≡ done (blobSeen b uuid r (s .order) p n v) s
+      unfolding blobSeen
+      blob-listed r = by (eqb r 4) refl
+        where
+          by : (t : Bool) → eqb r 4 ≡ t → Roled r s ≡ done (blobSeen b uuid r (s .order) p n v) s
+          by true e = rw (e, blobSeen) (rw (eqb-true r 4 e) uuid-listed)
+          by false e = rw (e, blobSeen) (listing-goes 25 p n v _ (passes env r (eqb-false r 4 e) _ _))
+
+    pub static-blob-read : (n r : ℕ) → read env (staticBlob n (roleOf r)) s ≡ done (seen (foundBlob f (s .place) n) (blobSeen b uuid r (s .order))) s
+    unfolding read readBlob _⨾_ fit aligned field foundBlob within alignedAt seen
+    static-blob-read n r =
+        let blob = blobSeen b uuid r (s .order) in
+        room-first _ s h ∙ check-seen _ _ _ s _ _ blob refl (check-seen _ _ _ s _ _ blob refl (blob-listed _ _ _ r))
+
+    -- Lengths that a slot gives
+
+    length-read : (x : Content) (m : ℕ → Step) (g : ℕ → Seen) → ((n : ℕ) → m n s ≡ done (g n) s)
+        → asLength x m s ≡ done (forLength (lengthOf x) g) s
+    unfolding asLength asNumber lengthOf forLength done _⨾_ after refuse
+    length-read Unset m g e = refl
+    length-read (Flag t) m g e = refl
+    length-read (Unsigned n) m g e = by (ltb lengthLimit n) refl
+      where
+        by : (t : Bool) → ltb lengthLimit n ≡ t → asLength (Unsigned n) m s ≡ done (forLength (lengthOf (Unsigned n)) g) s
+        by true i = ap (λ o. after o (m n)) (check-stops _ LengthTooLarge s i) ∙ rw (i, lengthOf) refl
+        by false i = ap (λ o. after o (m n)) (check-goes _ LengthTooLarge s i) ∙ onto-nil (m n s) ∙ rw (i, lengthOf) (e n)
+    length-read (Signed n) m g e = refl
+
+    pub dynamic-string-read : (i : ℕ) → read env (dynamicString i) s
+        ≡ done (forLength (lengthOf (slotAt (s .slots) i)) (λ n. seen (foundText b f (s .place) n) (plainSeen 26 (s .order)))) s
+    unfolding read fromSlot
+    dynamic-string-read i = room-first _ s h ∙ length-read _ _ _ (text-read 26)
+
+    pub dynamic-blob-read : (i : ℕ) → read env (dynamicBlob i) s
+        ≡ done (forLength (lengthOf (slotAt (s .slots) i)) (λ n. seen (foundBlob f (s .place) n) (plainSeen 27 (s .order)))) s
+    unfolding read fromSlot
+    dynamic-blob-read i = room-first _ s h ∙ length-read _ _ _ (blob-read 27)

@@ -1,0 +1,39 @@
+// Leaves, fields that hold no other: kinds 16 to 27. Here: what is done with what is seen of a leaf, entry, slot and role, and the law that
+// seeing it and doing that is the rules' reading. What is seen of each kind is in the crates above: leaf_see_number, kinds 16 to 22;
+// leaf_see_bytes, 23 to 27.
+use listing::State;
+use listing::Went;
+use rules::Content;
+use rules::Entry;
+use rules::LastOrder;
+use rules::Refusal;
+
+pub mod after;
+
+// What is due of a leaf: its entry; the order that is the packet's last behind it; which slot becomes what, 255 is none; and the role of its
+// value, which has `width` bits as a timestamp.
+pub struct Due {
+    pub entry: Entry,
+    pub order: LastOrder,
+    pub slot: u8,
+    pub content: Content,
+    pub role: u8,
+    pub width: u64,
+}
+
+// What is seen of a leaf before anything of it is listed: what is due; a BLOB with other bytes than the UUID that it must be; or why it is
+// refused.
+pub enum Seen {
+    Field(Due),
+    OtherUuid(Entry),
+    Stops(Refusal),
+}
+
+// What a leaf did: how it went, the words that it listed, the state behind it, and which slot becomes what; 255 is none.
+pub struct Leaf {
+    pub went: Went,
+    pub used: usize,
+    pub state: State,
+    pub slot: u8,
+    pub content: Content,
+}

@@ -1,0 +1,36 @@
+-- Each return is the law of the test that leads to it.
+use borrow.Author.Needs.{needs}
+use Rattle.leaf_find_bytes.proofs.find_blob.Statement.{statement}
+use Rattle.leaf_find_bytes.proofs.find_blob.Tie as tie
+use Rattle.leaf_find_bytes.proofs.find_blob.Reads as reads
+use Rattle.leaf_find_bytes.proofs.find_blob.Lts as lts
+use Rattle.places.proofs.align.Reads as align-reads
+use Rattle.places.proofs.bits_in.Reads as bits-in-reads
+use native.Mathlib.Omega.{arith}
+use Rattle.leaf_find_bytes.proofs.Found.{blob-past, blob-short, blob-at}
+use Rattle.leaf_find_number.specs.Found.{alignedAt}
+
+align-requires : tie.Need-align-requires
+align-requires c κs = search needs
+
+returns : tie.Need-returns
+unfolding alignedAt
+returns c = blob-past _ _ _ (c .before .before .before .align .ensures) _ (c .if1 .taken)
+
+bits-in-requires : tie.Need-bits-in-requires
+bits-in-requires c κs = search needs
+
+add-if2 : tie.Need-add-if2
+add-if2 c = search needs
+
+returns-2 : tie.Need-returns-2
+unfolding alignedAt
+returns-2 c = blob-short _ _ _ (c .before .before .before .before .before .before .before .align .ensures) _ (omega (arith, c .before .before .before .before .if1 .left)) (omega (arith, c .if2 .taken, c .before .before .before .bits-in .ensures))
+
+returns-3 : tie.Need-returns-3
+unfolding alignedAt
+returns-3 c = rw (c .before .before .before .bits-in .ensures) (blob-at _ _ _ (c .before .before .before .before .before .before .before .align .ensures) _ (omega (arith, c .if2 .left, c .before .before .before .bits-in .ensures)))
+
+pub find-blob-spec : {M : Type 1} → statement M
+find-blob-spec =
+    tie.close (tie.spec align-requires returns bits-in-requires add-if2 returns-2 returns-3)

@@ -1,0 +1,36 @@
+-- Where a leaf counted in whole bytes stands and what it says, or why it is refused, as numbers.
+use Prim.Native.Nat.{ℕ, _+_, _*_, _/_, _^_, _<_}
+use mathlib.Core.List.{List}
+use lib.ListN.{take, drop}
+use Rattle.rules.specs.declared.BitPlace.{BitPlace}
+use Rattle.rules.specs.declared.Refusal.the-variants.{NoZeroByte}
+use Rattle.rules.specs.declared.Ended.{Ended}
+use Rattle.rules.specs.declared.Ended.the-variants.{After, Never}
+use Rattle.rules.specs.Text.{textLength, zeroAt}
+use Rattle.leaf_find_number.specs.declared.Frame.{Frame}
+use Rattle.leaf_find_number.specs.declared.find.Found.{Found}
+use Rattle.leaf_find_number.specs.declared.find.Found.the-variants.{At, Refused}
+use Rattle.leaf_find_number.specs.Found.{alignedAt, within, bytesAhead}
+
+-- a leaf that ends below what a place can be
+unfoldable pub Ends : Found → Type 0
+Ends (At p n v) = p .0 + n < 2 ^ 64
+Ends (Refused r) = Unit {0}
+
+-- "string 23 counts without its zero (bits include it)"
+unfoldable pub foundZero : BitPlace → Ended → Found
+foundZero p (After n) = At p (8 * (n .0 + 1)) (n .0)
+foundZero p Never = Refused NoZeroByte
+
+unfoldable pub foundString : List ℕ → Frame → BitPlace → Found
+foundString b f from = let p = alignedAt f 8 from in within f p 0 (foundZero p (zeroAt (bytesAhead b f p)))
+
+-- "BLOBs their byte count"
+unfoldable pub foundBlob : Frame → BitPlace → ℕ → Found
+foundBlob f from n = let p = alignedAt f 8 from in within f p 0 (within f p (8 * n) (At p (8 * n) n))
+
+-- "Strings 24 and 26 have bits for all their bytes"
+unfoldable pub foundText : List ℕ → Frame → BitPlace → ℕ → Found
+foundText b f from n =
+    let p = alignedAt f 8 from in
+    within f p 0 (within f p (8 * n) (At p (8 * n) (textLength (take n (drop (p .0 / 8) b)))))

@@ -1,0 +1,74 @@
+// Where a leaf counted in whole bytes, kinds 23 to 27, stands and what it says, or why it is refused: alignment, then its bytes. Nothing is
+// listed here.
+use leaf_find_number::Frame;
+use leaf_find_number::find::BYTE;
+use leaf_find_number::find::Found;
+use rules::BitPlace;
+use rules::ByteLength;
+use rules::Ended;
+use rules::Refusal;
+ghost use mathlib.Core.Path.{_≡_};
+ghost use Prim.Native.Nat.{_≤_};
+ghost use Rattle.leaf_find_number.specs.Framed.{Framed};
+ghost use Rattle.leaf_find_bytes.specs.Found.{foundString, foundBlob, foundText};
+
+// Kind 23: a string up to its zero byte.
+pub fn find_string(stream: &[u8], frame: Frame, from: BitPlace) -> Found
+    requires { ⌜ Framed (now stream) frame from ⌝ }
+    ensures { λ r. ⌜ r ≡ foundString (now (stream .entry)) frame from ⌝ }
+{
+    let place = places::align(from, frame.start, BYTE);
+    if frame.bound.0 < place.0 {
+        return Found::Refused(Refusal::PastBound);
+    }
+    let at = places::bytes_before(place);
+    let end = places::bytes_before(frame.bound);
+    match text::find_zero(stream, at, end) {
+        Ended::After(n) => Found::At {
+            place,
+            bits: places::bits_in(ByteLength(n.0 + 1)),
+            value: n.0 as u64,
+        },
+        Ended::Never => Found::Refused(Refusal::NoZeroByte),
+    }
+}
+
+// Kinds 25 and 27: so many bytes, of which nothing is said but where they stand.
+pub fn find_blob(stream: &[u8], frame: Frame, from: BitPlace, bytes: ByteLength) -> Found
+    requires { ⌜ Framed (now stream) frame from ⌝ }
+    requires { ⌜ bytes .0 ≤ 65535 ⌝ }
+    ensures { λ r. ⌜ r ≡ foundBlob frame from (bytes .0) ⌝ }
+{
+    let place = places::align(from, frame.start, BYTE);
+    if frame.bound.0 < place.0 {
+        return Found::Refused(Refusal::PastBound);
+    }
+    let bits = places::bits_in(bytes);
+    if frame.bound.0 < place.0 + bits {
+        return Found::Refused(Refusal::PastBound);
+    }
+    Found::At {
+        place,
+        bits,
+        value: bytes.0 as u64,
+    }
+}
+
+// Kinds 24 and 26: so many bytes of text, "the count before the first zero byte, or of all".
+pub fn find_text(stream: &[u8], frame: Frame, from: BitPlace, bytes: ByteLength) -> Found
+    requires { ⌜ Framed (now stream) frame from ⌝ }
+    requires { ⌜ bytes .0 ≤ 65535 ⌝ }
+    ensures { λ r. ⌜ r ≡ foundText (now (stream .entry)) frame from (bytes .0) ⌝ }
+{
+    match find_blob(stream, frame, from, bytes) {
+        Found::Refused(why) => Found::Refused(why),
+        Found::At { place, bits, value } => {
+            let count = text::count(stream, places::bytes_before(place), bytes);
+            Found::At {
+                place,
+                bits,
+                value: count.0 as u64,
+            }
+        }
+    }
+}

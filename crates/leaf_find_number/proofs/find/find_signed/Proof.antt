@@ -1,0 +1,49 @@
+-- The bytes from the aligned place to the bound are those that the rules read.
+use borrow.Author.Needs.{needs}
+use Rattle.leaf_find_number.proofs.find.find_signed.Statement.{statement}
+use Rattle.leaf_find_number.proofs.find.find_signed.Tie as tie
+use Rattle.leaf_find_number.proofs.find.find_signed.Reads as reads
+use Rattle.leaf_find_number.proofs.find.find_signed.Lts as lts
+use Rattle.leaf_find_number.proofs.find.leb_at.Reads as leb-at-reads
+use Rattle.leb128.proofs.signed.Reads as signed-reads
+use Rattle.places.proofs.align.Reads as align-reads
+use Rattle.places.proofs.bytes_before.Reads as bytes-before-reads
+use native.Mathlib.Omega.{arith}
+use Rattle.leaf_find_number.proofs.Found.{signed-past, signed-at, short-signed}
+use Rattle.leaf_find_number.specs.Found.{alignedAt}
+
+align-requires : tie.Need-align-requires
+align-requires c κs = search needs
+
+returns : tie.Need-returns
+unfolding alignedAt
+returns c = signed-past _ _ _ _ (c .before .before .before .align .ensures) (c .if1 .taken)
+
+bytes-before-requires : tie.Need-bytes-before-requires
+bytes-before-requires c κs = search needs
+
+bytes-before-requires-2 : tie.Need-bytes-before-requires-2
+bytes-before-requires-2 c κs = search needs
+
+signed-requires : tie.Need-signed-requires
+signed-requires c κs = rw (c .bytes-before2 .ensures) (omega (arith, c .before .before .before .before .before .before .before .pre .ends))
+
+leb-at-requires : tie.Need-leb-at-requires
+leb-at-requires c κs = short-signed _ _ (c .signed .ensures)
+
+returns-2 : tie.Need-returns-2
+unfolding alignedAt
+returns-2 c = rw (c .leb-at .ensures, c .before .signed .ensures, c .before .before .before .bytes-before .ensures, c .before .before .bytes-before2 .ensures)
+    (signed-at _ _ _ _ (c .before .before .before .before .before .before .before .align .ensures) (c .before .before .before .before .before .before .before .before .before .pre .whole) (omega (arith, c .before .before .before .before .if1 .left)))
+
+pub find-signed-spec : {M : Type 1} → statement M
+find-signed-spec =
+    tie.close
+    (tie.spec
+    align-requires
+    returns
+    bytes-before-requires
+    bytes-before-requires-2
+    signed-requires
+    leb-at-requires
+    returns-2)

@@ -1,0 +1,49 @@
+-- The bytes from the aligned place to the bound are those that the rules read.
+use borrow.Author.Needs.{needs}
+use Rattle.leaf_find_number.proofs.find.find_unsigned.Statement.{statement}
+use Rattle.leaf_find_number.proofs.find.find_unsigned.Tie as tie
+use Rattle.leaf_find_number.proofs.find.find_unsigned.Reads as reads
+use Rattle.leaf_find_number.proofs.find.find_unsigned.Lts as lts
+use Rattle.leaf_find_number.proofs.find.leb_at.Reads as leb-at-reads
+use Rattle.leb128.proofs.unsigned.Reads as unsigned-reads
+use Rattle.places.proofs.align.Reads as align-reads
+use Rattle.places.proofs.bytes_before.Reads as bytes-before-reads
+use native.Mathlib.Omega.{arith}
+use Rattle.leaf_find_number.proofs.Found.{unsigned-past, unsigned-at, short-unsigned}
+use Rattle.leaf_find_number.specs.Found.{alignedAt}
+
+align-requires : tie.Need-align-requires
+align-requires c κs = search needs
+
+returns : tie.Need-returns
+unfolding alignedAt
+returns c = unsigned-past _ _ _ _ (c .before .before .before .align .ensures) (c .if1 .taken)
+
+bytes-before-requires : tie.Need-bytes-before-requires
+bytes-before-requires c κs = search needs
+
+bytes-before-requires-2 : tie.Need-bytes-before-requires-2
+bytes-before-requires-2 c κs = search needs
+
+unsigned-requires : tie.Need-unsigned-requires
+unsigned-requires c κs = rw (c .bytes-before2 .ensures) (omega (arith, c .before .before .before .before .before .before .before .pre .ends))
+
+leb-at-requires : tie.Need-leb-at-requires
+leb-at-requires c κs = short-unsigned _ _ (c .unsigned .ensures)
+
+returns-2 : tie.Need-returns-2
+unfolding alignedAt
+returns-2 c = rw (c .leb-at .ensures, c .before .unsigned .ensures, c .before .before .before .bytes-before .ensures, c .before .before .bytes-before2 .ensures)
+    (unsigned-at _ _ _ _ (c .before .before .before .before .before .before .before .align .ensures) (c .before .before .before .before .before .before .before .before .before .pre .whole) (omega (arith, c .before .before .before .before .if1 .left)))
+
+pub find-unsigned-spec : {M : Type 1} → statement M
+find-unsigned-spec =
+    tie.close
+    (tie.spec
+    align-requires
+    returns
+    bytes-before-requires
+    bytes-before-requires-2
+    unsigned-requires
+    leb-at-requires
+    returns-2)

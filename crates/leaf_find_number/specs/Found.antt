@@ -1,0 +1,57 @@
+-- Where a leaf stands and what it says, or why it is refused: "alignment, 23, then its bits or bytes" (Reading). The steps of `read` in
+-- which nothing is listed yet, as numbers. Kinds 23 to 27 are in the crate leaf_find_bytes.
+use Prim.Native.Nat.{ℕ, _+_, _-_, _*_, _/_, _%_}
+use mathlib.Core.List.{List}
+use mathlib.Core.Bool.{Bool, true, false, not, _&&_}
+use lib.Dec.{ltb, eqb}
+use lib.ListN.{take, drop}
+use Rattle.rules.specs.declared.BitPlace.{BitPlace}
+use Rattle.rules.specs.declared.Order.{Order}
+use Rattle.rules.specs.declared.LastOrder.{LastOrder}
+use Rattle.rules.specs.declared.Refusal.{Refusal}
+use Rattle.rules.specs.declared.Refusal.the-variants.{PastBound, OrderChanged, LebTooLarge}
+use Rattle.rules.specs.declared.Leb.{Leb}
+use Rattle.rules.specs.declared.Leb.the-variants.{Value, Past, Large}
+use Rattle.rules.specs.Bits.{bits}
+use Rattle.rules.specs.Leb128.{lebUnsigned, lebSigned}
+use Rattle.rules.specs.Place.{bitPlace, alignFrom}
+use Rattle.rules.specs.Field.{otherOrder}
+use Rattle.leaf_find_number.specs.declared.Frame.{Frame}
+use Rattle.leaf_find_number.specs.declared.find.Found.{Found}
+use Rattle.leaf_find_number.specs.declared.find.Found.the-variants.{At, Refused}
+
+-- "A field aligns (place - P) up to its requirement"
+unfoldable pub alignedAt : Frame → ℕ → BitPlace → BitPlace
+alignedAt f a p = bitPlace (alignFrom (f .start .0) a (p .0))
+
+-- refused where a test holds
+unfoldable pub unless : Bool → Refusal → Found → Found
+unless true r x = Refused r
+unless false r x = x
+
+-- "alignment, bits or bytes past the bound" (22): n bits from a place on
+unfoldable pub within : Frame → BitPlace → ℕ → Found → Found
+within f p n x = unless (ltb (f .bound .0) (p .0 + n)) PastBound x
+
+unfoldable pub foundBits : List ℕ → Frame → BitPlace → LastOrder → ℕ → Order → ℕ → Found
+foundBits b f from last n o a =
+    let p = alignedAt f a from in
+    within f p 0
+    (unless (not (eqb ((p .0 - f .start .0) % 8) 0) && otherOrder o last) OrderChanged
+    (within f p n (At p n (bits o b (p .0) n))))
+
+-- the whole bytes from a place to the bound
+unfoldable pub bytesAhead : List ℕ → Frame → BitPlace → List ℕ
+bytesAhead b f p = take ((f .bound .0 - p .0) / 8) (drop (p .0 / 8) b)
+
+-- "LEB128 bits count 8 a byte"
+unfoldable pub foundLeb : BitPlace → Leb → Found
+foundLeb p (Value v n) = At p (8 * n .0) v
+foundLeb p Past = Refused PastBound
+foundLeb p Large = Refused LebTooLarge
+
+unfoldable pub foundUnsigned : List ℕ → Frame → BitPlace → Found
+foundUnsigned b f from = let p = alignedAt f 8 from in within f p 0 (foundLeb p (lebUnsigned (bytesAhead b f p)))
+
+unfoldable pub foundSigned : List ℕ → Frame → BitPlace → Found
+foundSigned b f from = let p = alignedAt f 8 from in within f p 0 (foundLeb p (lebSigned (bytesAhead b f p)))

@@ -1,0 +1,28 @@
+-- What every step of a reading of fields rests on.
+use Prim.Native.Nat.{ℕ, _*_, _%_, _^_, _<_, _≤_}
+use mathlib.Core.Path.{_≡_}
+use mathlib.Core.List.{List}
+use lib.ListN.{length}
+use Rattle.rules.specs.declared.BitPlace.{BitPlace}
+use Rattle.rules.specs.declared.Leb.{Leb}
+use Rattle.rules.specs.declared.Leb.the-variants.{Value, Past, Large}
+use Rattle.rules.specs.Field.{Env}
+use Rattle.leaf_find_number.specs.declared.Frame.{Frame}
+
+-- what the rules' reading of fields rests on, of a stream, a UUID and a frame
+abbrev pub envOf : List ℕ → List ℕ → Frame → Env
+envOf bytes uuid f = record { bytes = bytes; start = f .start; bound = f .bound; uuid = uuid }
+
+-- a packet starts at a whole byte, the place is not before it nor behind the bound, and the bound lies in the stream
+pub record Framed (bytes : List ℕ) (f : Frame) (p : BitPlace) : Type 0 where
+  pub whole : f .start .0 % 8 ≡ 0
+  pub begun : f .start .0 ≤ p .0
+  pub within : p .0 ≤ f .bound .0
+  pub ends : f .bound .0 ≤ 8 * length bytes
+  pub small : 8 * length bytes < 2 ^ 60
+
+-- a LEB128 number of ten bytes at most
+unfoldable pub Short : Leb → Type 0
+Short (Value v n) = n .0 ≤ 10
+Short Past = Unit {0}
+Short Large = Unit {0}

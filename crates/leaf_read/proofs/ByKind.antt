@@ -1,0 +1,310 @@
+-- The leaf of the class at a byte: what is seen of it by the numbers of its record is what the rules' reading of the class that stands there
+-- does.
+use mathlib.Core.Path.{_≡_, refl, sym, ap, subst, _∙_}
+use Prim.Native.Nat.{ℕ, zero, suc, _+_, _-_, _^_, _≤_, _<_}
+use native.Mathlib.Omega.{arith}
+use mathlib.Core.List.{List}
+use mathlib.Core.Bool.{Bool, true, false}
+use lib.Dec.{eqb}
+use mathlib.Core.Logic.{⊎-elim}
+use lib.ListN.{length}
+use borrow.Author.Tests.{lt-ltb, le-ltb, eq-eqb, ne-eqb}
+use Rattle.rules.specs.declared.BitPlace.{BitPlace}
+use Rattle.rules.specs.declared.ByteLength.{ByteLength}
+use Rattle.rules.specs.declared.LastOrder.{LastOrder}
+use Rattle.rules.specs.declared.Refusal.{Refusal}
+use Rattle.rules.specs.declared.Order.{Order}
+use Rattle.rules.specs.declared.Order.the-variants.{Big}
+use Rattle.rules.specs.declared.Content.{Content}
+use Rattle.rules.specs.declared.Content.the-variants.{Unsigned, Signed}
+use Rattle.rules.specs.Limits.{noSlot, slotCount}
+use Rattle.rules.specs.Class.{Sort, bitArray, boolean, unsignedInt, signedInt, float, Class, fixed}
+use Rattle.rules.specs.Record.{bitField, u8, u16}
+use Rattle.rules.specs.Faults.{roleOf}
+use Rattle.rules.specs.Parse.{orderOf}
+use Rattle.rules.specs.Slots.{Slots, slotAt}
+use Rattle.rules.specs.Step.{State as Whole, Step}
+use Rattle.rules.specs.Field.{read, valueOf}
+use Rattle.facts.specs.Bytes.{Bytes}
+use Rattle.facts.proofs.Numbers.{lt-or-ge}
+use Rattle.facts.proofs.Cases.{_▷_, below}
+use Rattle.leaf_find_number.specs.declared.Frame.{Frame}
+use Rattle.leaf_find_number.specs.declared.find.Found.{Found}
+use Rattle.leaf_find_number.specs.declared.find.Found.the-variants.{At, Refused}
+use Rattle.leaf_find_number.specs.Framed.{Framed, envOf}
+use Rattle.leaf_find_number.proofs.Lies.{bits-lie}
+use Rattle.leaf_find_number.specs.Found.{foundBits, foundUnsigned, foundSigned}
+use Rattle.leaf_find_bytes.specs.Found.{foundString, foundText, foundBlob}
+use Rattle.leaf_find_bytes.proofs.Lies.{string-ends, text-ends, blob-ends, blob-lies}
+use Rattle.slots.specs.declared.Length.{Length}
+use Rattle.slots.specs.declared.Length.the-variants.{Of, NotOf}
+use Rattle.slots.specs.Taken.{lengthOf}
+use Rattle.listing.specs.declared.State.{State}
+use Rattle.listing.specs.Did.{full}
+use Rattle.leaf_after.specs.declared.Leaf.{Leaf}
+use Rattle.leaf_after.specs.declared.Seen.{Seen}
+use Rattle.leaf_after.specs.declared.Due.{Due}
+use Rattle.leaf_after.specs.declared.Seen.the-variants.{Field, Stops}
+use Rattle.leaf_after.specs.Seeing.{Fits, done, seen, fixedSeen, lebSeen, plainSeen, blobSeen, forLength}
+use Rattle.leaf_after.specs.Done.{LeafDid}
+use Rattle.leaf_after.proofs.Done.{set-idle, set-none, set-apart}
+use Rattle.leaf_after.proofs.Seeing.{fixed-read, unsigned-read, signed-read, string-read, static-string-read, static-blob-read}
+use Rattle.leaf_after.proofs.Seeing.{dynamic-string-read, dynamic-blob-read}
+use Rattle.leaf_after.proofs.Fits.{fixed-fits, unsigned-fits, signed-fits, plain-fits, blob-fits}
+use Rattle.leaf_see_number.specs.Extends.{Extends}
+use Rattle.leaf_see_bytes.specs.Within.{Within}
+use Rattle.class_layout.specs.Trees.{shapes, shapeOf, recordSize, stoodAt, classIn, classAt, whole, wholeIn}
+use Rattle.leaf_read.specs.Reads.{LeafReads, leafSlot}
+use Rattle.leaf_read.specs.Seen.{Apart, LeafSeen, dynamicSeen}
+
+-- a kind that is none of the n kinds from a on, as `match` says it
+abbrev pub NoneOf : ℕ → ℕ → ℕ → Type 0
+NoneOf a k zero = Unit {0}
+NoneOf a k (suc n) = NoneOf a k n × (k ≡ a + n → ⊥)
+
+past : (a k n : ℕ) → a ≤ k → NoneOf a k n → a + n ≤ k
+past a k zero l none = omega arith
+past a k (suc n) l none =
+    let low = past a k n l (none .0) in
+    ⊎-elim (λ (h : k < a + suc n). absurd (none .1 (omega arith))) (λ (h : a + suc n ≤ k). h) (lt-or-ge k (a + suc n))
+
+module _ (t : List ℕ) (at : ℕ) where
+  pub is-float : whole 1 t at → u8 t at < 21 → NoneOf 16 (u8 t at) 4 → u8 t at ≡ 20
+  unfolding whole
+  is-float w h none = omega (arith, past 16 (u8 t at) 4 (w .low) none)
+
+  pub is-dynamic : 21 ≤ u8 t at → NoneOf 21 (u8 t at) 5 → 26 ≤ u8 t at
+  is-dynamic l none = omega (arith, past 21 (u8 t at) 5 l none)
+
+-- what the record of a class of kinds 16 to 20 says: width, order, and align as an exponent
+pub record BitsSay (t : List ℕ) (at w : ℕ) (o : Order) (e : ℕ) : Type 0 where
+  pub width : w ≡ u8 t (at + 1)
+  pub order : o ≡ orderOf (u8 t (at + 2))
+  pub exponent : e ≡ u8 t (at + 3)
+  pub some : 1 ≤ w
+  pub most : w ≤ 64
+  pub align : e ≤ 6
+
+module _ (t : List ℕ) (at : ℕ) where
+  abbrev Numbers : Type 0
+  Numbers = (1 ≤ u8 t (at + 1)) × (u8 t (at + 1) ≤ 64) × (u8 t (at + 3) ≤ 6)
+
+  of-bits : (s : Sort) → wholeIn (whole 0 t) (stoodAt 0 t) t at (bitField s) → Numbers
+  unfolding wholeIn
+  of-bits s w = w
+
+  -- kind 16 + i
+  abbrev Bits : ℕ → Type 0
+  Bits i = (4 ≤ recordSize (shapeOf (16 + i))) × (wholeIn (whole 0 t) (stoodAt 0 t) t at (shapeOf (16 + i)) → Numbers)
+
+  bits : (i : ℕ) → i < 5 → Bits i
+  unfolding shapeOf shapes recordSize
+  bits = below Bits 5 (
+      (omega arith, of-bits bitArray) ▷ (omega arith, of-bits boolean) ▷ (omega arith, of-bits unsignedInt)
+      ▷ (omega arith, of-bits signedInt) ▷ (omega arith, of-bits float) ▷ tt
+      )
+
+  module _ (w : whole 1 t at) (h : u8 t at < 21) where
+    kind : u8 t at ≡ 16 + (u8 t at - 16)
+    unfolding whole
+    kind = omega (arith, w .low)
+
+    these : Bits (u8 t at - 16)
+    these = bits (u8 t at - 16) (omega (arith, kind))
+
+    pub bits-there : at + 4 ≤ length t
+    unfolding whole
+    bits-there = omega (arith, w .there, these .0, ap (λ (k : ℕ). recordSize (shapeOf k)) kind)
+
+    pub bits-say : {n e : ℕ} {o : Order} → n ≡ u8 t (at + 1) → o ≡ orderOf (u8 t (at + 2)) → e ≡ u8 t (at + 3) → BitsSay t at n o e
+    unfolding whole
+    bits-say n o e =
+        let m = these .1 (subst (λ (k : ℕ). wholeIn (whole 0 t) (stoodAt 0 t) t at (shapeOf k)) kind (w .parts)) in
+        record { width = n; order = o; exponent = e; some = omega (arith, m .0); most = omega (arith, m .1); align = omega (arith, m .2) }
+
+-- the record of a kind is there, and its numbers are in range
+module _ (t : List ℕ) (at k : ℕ) (e : u8 t at ≡ k) (w : whole 1 t at) where
+  pub record-there : at + recordSize (shapeOf k) ≤ length t
+  unfolding whole
+  record-there = rw (e) at (w .there)
+
+-- kinds 26 and 27 have a byte behind their kind
+pub slot-there : (t : List ℕ) (at : ℕ) → whole 1 t at → u8 t at < 28 → 26 ≤ u8 t at → at + 2 ≤ length t
+unfolding shapeOf shapes recordSize
+slot-there t at w h l = ⊎-elim
+    (λ (a : u8 t at < 27). record-there t at 26 (omega arith) w)
+    (λ (a : 27 ≤ u8 t at). record-there t at 27 (omega arith) w)
+    (lt-or-ge (u8 t at) 27)
+
+-- "Order is 0 little, 1 big"
+pub big-order : (k : ℕ) → (k ≡ 0 → ⊥) → Big ≡ orderOf k
+unfolding orderOf
+big-order zero h = absurd (h refl)
+big-order (suc k) h = refl
+
+module _ (t : List ℕ) (at : ℕ) where
+  class-of : (k : ℕ) → u8 t at ≡ k → classAt 1 t at ≡ classIn (stoodAt 0 t) t at (shapeOf k)
+  unfolding stoodAt
+  class-of k e = rw (e) refl
+
+  -- kinds 26 and 27 read a slot
+  slot-of : {x : Content} (k : ℕ) → u8 t at ≡ k → 26 ≤ k → (l : Slots) → slotAt l (leafSlot t at) ≡ x → slotAt l (u8 t (at + 1)) ≡ x
+  unfolding leafSlot
+  slot-of k e h l s = rw (e, le-ltb k 26 h, leafSlot) at s
+
+-- kinds below 26 read no slot
+none-read : (t : List ℕ) (at : ℕ) {k : ℕ} → u8 t at ≡ k → k < 26 → (y : Seen) → Apart (leafSlot t at) y
+unfolding leafSlot
+none-read t at {k} e h y small d is = absurd (omega (arith, rw (e, lt-ltb k 26 h, leafSlot) at small))
+
+-- what names no slot sets none
+plain-apart : (k : ℕ) (o : LastOrder) (x : Found) (d : Due) → seen x (plainSeen k o) ≡ Field d → slotCount ≤ d .slot
+unfolding seen plainSeen
+plain-apart k o (At p n v) d e = let same : noSlot ≡ d .slot = cc in omega (arith, same)
+plain-apart k o (Refused r) d e = let z : _≡_ {A = ℕ} 0 1 = cc in absurd (omega arith)
+
+dynamic-apart : (b : List ℕ) (f : Frame) (p : BitPlace) (o : LastOrder) (k : ℕ) (l : Length) (d : Due)
+    → forLength l (dynamicSeen b f p o k) ≡ Field d → slotCount ≤ d .slot
+unfolding forLength dynamicSeen
+dynamic-apart b f p o k (Of n) d e = by (eqb k 26) refl e
+  where
+    by : (t : Bool) → eqb k 26 ≡ t → dynamicSeen b f p o k (n .0) ≡ Field d → slotCount ≤ d .slot
+    by true i e = plain-apart k o _ d (rw (i, dynamicSeen) at e)
+    by false i e = plain-apart k o _ d (rw (i, dynamicSeen) at e)
+dynamic-apart b f p o k (NotOf r) d e = let z : _≡_ {A = ℕ} 0 1 = cc in absurd (omega arith)
+
+-- to do what is seen is to read the class that stands there
+abbrev SeesAt : List ℕ → List ℕ → Frame → List ℕ → ℕ → Content → BitPlace → LastOrder → Seen → Type 0
+SeesAt b u f t at = LeafSeen (read (envOf b u f) (classAt 1 t at)) (leafSlot t at)
+
+-- kinds 26 and 27, by what the slot holds
+abbrev dynamically : List ℕ → Frame → Content → ℕ → BitPlace → LastOrder → Seen
+dynamically b f x k p o = forLength (lengthOf x) (dynamicSeen b f p o k)
+
+module _ (b u : List ℕ) (f : Frame) (t : List ℕ) (at : ℕ) {x : Content} {p : BitPlace} {o : LastOrder} {r : Seen} (framed : Framed b f p) where
+  -- y is what is seen from a place on, with an order as the last
+  by-class : (c : Class) (y : BitPlace → LastOrder → Seen) → classAt 1 t at ≡ c → Fits (y p o) → Apart (leafSlot t at) (y p o) → r ≡ y p o
+      → ((s : Whole) → 4 ≤ s .room → length (s .slots) ≡ slotCount → slotAt (s .slots) (leafSlot t at) ≡ x
+      → read (envOf b u f) c s ≡ done (y (s .place) (s .order)) s)
+      → SeesAt b u f t at x p o r
+  by-class c y e fits apart is law = record {
+    same = λ s room long slot place order.
+        rw (e) (law s room long slot ∙ ap (λ q. done (y q (s .order)) s) place ∙ ap (λ l. done (y p l) s) order ∙ ap (λ z. done z s) (sym is));
+    fits = rw (is) fits;
+    apart = rw (is) apart;
+  }
+
+  module _ {w e : ℕ} {d : Order} (n : BitsSay t at w d e) where
+    bits-sees : (k : Sort) (i ro : ℕ)
+        → classAt 1 t at ≡ fixed k (u8 t (at + 1)) (orderOf (u8 t (at + 2))) (u8 t (at + 3)) i (roleOf ro)
+        → (ro ≡ 7 → (m v : ℕ) → valueOf k m v ≡ v) → u8 t at < 21 → r ≡ seen (foundBits b f p o w d (2 ^ e)) (fixedSeen k d i ro)
+        → SeesAt b u f t at x p o r
+    unfolding read
+    bits-sees k i ro c same low is =
+        by-class (fixed k w d e i (roleOf ro)) (λ q l. seen (foundBits b f q l w d (2 ^ e)) (fixedSeen k d i ro))
+        (rw (n .width, n .order, n .exponent) c) (fixed-fits framed o w d (2 ^ e) k i ro same) (none-read t at refl (omega arith) _) is
+        (λ s room long slot. fixed-read b u f s room k w d (2 ^ e) i ro)
+
+    pub bit-array-sees : u8 t at ≡ 16 → r ≡ seen (foundBits b f p o w d (2 ^ e)) (fixedSeen bitArray d noSlot 0) → SeesAt b u f t at x p o r
+    unfolding shapeOf shapes classIn
+    bit-array-sees k = bits-sees bitArray noSlot 0 (class-of t at 16 k) (λ z. absurd (omega arith)) (omega (arith, k))
+
+    pub boolean-sees : u8 t at ≡ 17 → r ≡ seen (foundBits b f p o w d (2 ^ e)) (fixedSeen boolean d (u8 t (at + 4)) 0) → SeesAt b u f t at x p o r
+    unfolding shapeOf shapes classIn
+    boolean-sees k = bits-sees boolean (u8 t (at + 4)) 0 (class-of t at 17 k) (λ z. absurd (omega arith)) (omega (arith, k))
+
+    pub unsigned-sees : u8 t at ≡ 18 → r ≡ seen (foundBits b f p o w d (2 ^ e)) (fixedSeen unsignedInt d (u8 t (at + 4)) (u8 t (at + 5))) → SeesAt b u f t at x p o r
+    unfolding shapeOf shapes classIn valueOf
+    unsigned-sees k = bits-sees unsignedInt (u8 t (at + 4)) (u8 t (at + 5)) (class-of t at 18 k) (λ z m v. refl) (omega (arith, k))
+
+    pub signed-sees : u8 t at ≡ 19 → r ≡ seen (foundBits b f p o w d (2 ^ e)) (fixedSeen signedInt d (u8 t (at + 4)) 0) → SeesAt b u f t at x p o r
+    unfolding shapeOf shapes classIn
+    signed-sees k = bits-sees signedInt (u8 t (at + 4)) 0 (class-of t at 19 k) (λ z. absurd (omega arith)) (omega (arith, k))
+
+    pub float-sees : u8 t at ≡ 20 → r ≡ seen (foundBits b f p o w d (2 ^ e)) (fixedSeen float d noSlot 0) → SeesAt b u f t at x p o r
+    unfolding shapeOf shapes classIn
+    float-sees k = bits-sees float noSlot 0 (class-of t at 20 k) (λ z. absurd (omega arith)) (omega (arith, k))
+
+  pub unsigned-leb-sees : Bytes b → u8 t at ≡ 21
+      → r ≡ seen (foundUnsigned b f p) (lebSeen 21 Unsigned o (u8 t (at + 1)) (u8 t (at + 2))) → SeesAt b u f t at x p o r
+  unfolding shapeOf shapes classIn
+  unsigned-leb-sees h k is =
+      by-class _ (λ q l. seen (foundUnsigned b f q) (lebSeen 21 Unsigned l (u8 t (at + 1)) (u8 t (at + 2))))
+      (class-of t at 21 k) (unsigned-fits framed h o _ _) (none-read t at k (omega arith) _) is (λ s room long slot. unsigned-read b u f s room _ _)
+
+  pub signed-leb-sees : u8 t at ≡ 22 → r ≡ seen (foundSigned b f p) (lebSeen 22 Signed o (u8 t (at + 1)) 0) → SeesAt b u f t at x p o r
+  unfolding shapeOf shapes classIn
+  signed-leb-sees k is =
+      by-class _ (λ q l. seen (foundSigned b f q) (lebSeen 22 Signed l (u8 t (at + 1)) 0))
+      (class-of t at 22 k) (signed-fits framed o _) (none-read t at k (omega arith) _) is (λ s room long slot. signed-read b u f s room _)
+
+  pub string-sees : u8 t at ≡ 23 → r ≡ seen (foundString b f p) (plainSeen 23 o) → SeesAt b u f t at x p o r
+  unfolding shapeOf shapes classIn
+  string-sees k is =
+      by-class _ (λ q l. seen (foundString b f q) (plainSeen 23 l))
+      (class-of t at 23 k) (plain-fits 23 o _ (string-ends framed refl)) (none-read t at k (omega arith) _) is (λ s room long slot. string-read b u f s room long)
+
+  pub static-string-sees : u8 t at ≡ 24 → r ≡ seen (foundText b f p (u16 t (at + 1))) (plainSeen 24 o) → SeesAt b u f t at x p o r
+  unfolding shapeOf shapes classIn
+  static-string-sees k is =
+      by-class _ (λ q l. seen (foundText b f q (u16 t (at + 1))) (plainSeen 24 l))
+      (class-of t at 24 k) (plain-fits 24 o _ (text-ends framed _ refl)) (none-read t at k (omega arith) _) is (λ s room long slot. static-string-read b u f s room long _)
+
+  pub static-blob-sees : u8 t at ≡ 25 → r ≡ seen (foundBlob f p (u16 t (at + 1))) (blobSeen b u (u8 t (at + 3)) o) → SeesAt b u f t at x p o r
+  unfolding shapeOf shapes classIn
+  static-blob-sees k is =
+      by-class _ (λ q l. seen (foundBlob f q (u16 t (at + 1))) (blobSeen b u (u8 t (at + 3)) l))
+      (class-of t at 25 k) (blob-fits b u o _ _ (blob-ends framed _ refl)) (none-read t at k (omega arith) _) is (λ s room long slot. static-blob-read b u f s room long _ _)
+
+  pub dynamic-sees : 26 ≤ u8 t at → u8 t at < 28 → Fits (dynamically b f x (u8 t at) p o) → r ≡ dynamically b f x (u8 t at) p o → SeesAt b u f t at x p o r
+  unfolding shapeOf shapes classIn dynamicSeen
+  dynamic-sees low high fits is = ⊎-elim
+      (λ (h : u8 t at < 27).
+      let k : u8 t at ≡ 26 = omega arith in
+      by-class _ (dynamically b f x 26) (class-of t at 26 k) (rw (k) at fits) (λ h d. dynamic-apart b f p o 26 (lengthOf x) d) (rw (k) at is)
+      (λ s room long slot. dynamic-string-read b u f s room long _ ∙ rw (slot-of t at 26 k (omega arith) (s .slots) slot) refl))
+      (λ (h : 27 ≤ u8 t at).
+      let k : u8 t at ≡ 27 = omega arith in
+      by-class _ (dynamically b f x 27) (class-of t at 27 k) (rw (k) at fits) (λ h d. dynamic-apart b f p o 27 (lengthOf x) d) (rw (k) at is)
+      (λ s room long slot. dynamic-blob-read b u f s room long _ ∙ rw (slot-of t at 27 k (omega arith) (s .slots) slot) refl))
+      (lt-or-ge (u8 t at) 27)
+
+-- what the code rests on: a number in bits can be extended, and a BLOB's bytes lie in the stream
+module _ {b : List ℕ} {f : Frame} {p : BitPlace} (framed : Framed b f p) where
+  pub bits-extend : (x : Found) (o : LastOrder) (w : ℕ) (d : Order) (a : ℕ) → x ≡ foundBits b f p o w d a → 1 ≤ w → w ≤ 64 → Extends x
+  unfolding Extends
+  bits-extend (At q n v) o w d a is low high =
+      let lies = bits-lie framed refl o w d a is in
+      (omega (arith, lies .2), omega (arith, lies .2), lies .1)
+  bits-extend (Refused r) o w d a is low high = tt
+
+  pub blob-within : (x : Found) (n : ℕ) → x ≡ foundBlob f p n → Within b x
+  unfolding Within
+  blob-within (At q m v) n is = let lies = blob-lies framed refl n is in rw (lies .2) (lies .1)
+  blob-within (Refused r) n is = tt
+
+-- A length that a slot gives, or none
+
+module _ (b : List ℕ) (f : Frame) (p : BitPlace) (o : LastOrder) {x y : Length} (is : x ≡ y) where
+  pub no-length-seen : {why : Refusal} → x ≡ NotOf why → (k : ℕ) → Stops why ≡ forLength y (dynamicSeen b f p o k)
+  unfolding forLength
+  no-length-seen e k = rw (← is, e) refl
+
+  module _ {n : ByteLength} (e : x ≡ Of n) (k : ℕ) where
+    pub text-seen : k ≡ 26 → seen (foundText b f p (n .0)) (plainSeen k o) ≡ forLength y (dynamicSeen b f p o k)
+    unfolding forLength dynamicSeen
+    text-seen h = rw (← is, e, eq-eqb k 26 h, dynamicSeen) refl
+
+    pub blob-seen : (k ≡ 26 → ⊥) → seen (foundBlob f p (n .0)) (plainSeen k o) ≡ forLength y (dynamicSeen b f p o k)
+    unfolding forLength dynamicSeen
+    blob-seen h = rw (← is, e, ne-eqb k 26 h, dynamicSeen) refl
+
+-- what was done with what is seen
+pub seen-did : {m : Step} {i : ℕ} {x : Content} {st : State} {y : Seen} {r : Leaf} {ws ws′ : List ℕ}
+    → LeafSeen m i x (st .place) (st .order) y → 4 ≤ length ws → LeafDid y st r ws ws′ → LeafReads m i x st r ws ws′
+seen-did {st = st} {y} {r} {ws} sees room did = record {
+  at = λ l long slot. rw (sees .same (full st l (length ws)) room long slot refl refl) (did .at l long);
+  none = λ v off. rw (did .slot, off, set-none y v) (omega arith);
+  apart = λ h. rw (did .slot) (set-apart y (r .went) (sees .apart h));
+  idle = λ h. rw (did .slot, did .content) (set-idle y (r .went) (rw (did .slot) at h));
+}

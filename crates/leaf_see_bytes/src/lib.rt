@@ -1,0 +1,92 @@
+// What is seen of a leaf that is bytes, kinds 23 to 27, once it is found or refused: none sets a slot, and a static BLOB alone has a role.
+use leaf_after::Due;
+use leaf_after::Seen;
+use leaf_after::after::NO_ROLE;
+use leaf_after::after::NO_SLOT;
+use leaf_find_number::find::Found;
+use rules::Content;
+use rules::Entry;
+use rules::LastOrder;
+ghost use mathlib.Core.Path.{_≡_};
+ghost use Prim.Native.Nat.{_+_, _≤_};
+ghost use lib.ListN.{length, take, drop};
+ghost use Rattle.rules.specs.Field.{sameBytes};
+ghost use Rattle.leaf_after.specs.Seeing.{seen, plainSeen, uuidSeen, blobSeen};
+ghost use Rattle.leaf_see_bytes.specs.Within.{Within};
+
+const STATIC_BLOB: u8 = 25;
+
+const UUID: u8 = 4;
+
+// A leaf of any of these kinds, without a role.
+pub fn plain(kind: u8, found: Found, last: LastOrder) -> Seen
+    ensures { λ r. ⌜ r ≡ seen found (plainSeen kind last) ⌝ }
+{
+    match found {
+        Found::Refused(why) => Seen::Stops(why),
+        Found::At { place, bits, value } => Seen::Field(Due {
+            entry: Entry {
+                kind: kind as u64,
+                place,
+                bits,
+                value,
+            },
+            order: last,
+            slot: NO_SLOT,
+            content: Content::Unset,
+            role: NO_ROLE,
+            width: 0,
+        }),
+    }
+}
+
+// Kind 25, which may have to be the trace class's UUID.
+pub fn static_blob(found: Found, role: u8, last: LastOrder, uuid: &[u8], stream: &[u8]) -> Seen
+    requires { ⌜ Within (now stream) found ⌝ }
+    ensures { λ r. ⌜ r ≡ seen found (blobSeen (now (stream .entry)) (now (uuid .entry)) role last) ⌝ }
+{
+    if role == UUID {
+        return uuid_blob(found, last, uuid, stream);
+    }
+    plain(STATIC_BLOB, found, last)
+}
+
+// A BLOB whose bytes must be the UUID's.
+fn uuid_blob(found: Found, last: LastOrder, uuid: &[u8], stream: &[u8]) -> Seen
+    requires { ⌜ Within (now stream) found ⌝ }
+    ensures { λ r. ⌜ r ≡ seen found (uuidSeen (now (stream .entry)) (now (uuid .entry)) last) ⌝ }
+{
+    match found {
+        Found::Refused(why) => Seen::Stops(why),
+        Found::At { place, bits, value } => {
+            let at = places::bytes_before(place);
+            if same(stream, at.0, value as usize, uuid) {
+                return plain(STATIC_BLOB, found, last);
+            }
+            Seen::OtherUuid(Entry {
+                kind: STATIC_BLOB as u64,
+                place,
+                bits,
+                value,
+            })
+        }
+    }
+}
+
+// Whether so many bytes from a byte on are all of a UUID.
+fn same(stream: &[u8], at: usize, count: usize, uuid: &[u8]) -> bool
+    requires { ⌜ at + count ≤ length (now stream) ⌝ }
+    ensures { λ r. ⌜ r ≡ sameBytes (take count (drop at (now (stream .entry)))) (now (uuid .entry)) ⌝ }
+{
+    if uuid.len() != count {
+        return false;
+    }
+    let mut passed: usize = 0;
+    while passed < count {
+        if stream[at + passed] != uuid[passed] {
+            return false;
+        }
+        passed += 1;
+    }
+    true
+}

@@ -1,0 +1,8 @@
+-- A number that can be extended to 64 bits.
+use Prim.Native.Nat.{_^_, _<_, _≤_}
+use Rattle.leaf_find_number.specs.declared.find.Found.{Found}
+use Rattle.leaf_find_number.specs.declared.find.Found.the-variants.{At, Refused}
+
+unfoldable pub Extends : Found → Type 0
+Extends (At p n v) = (1 ≤ n) × (n ≤ 64) × (v < 2 ^ n)
+Extends (Refused r) = Unit {0}

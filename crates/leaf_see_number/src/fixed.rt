@@ -1,0 +1,158 @@
+// Kinds 16 to 20, which leave their order as the packet's last.
+use leaf_after::Due;
+use leaf_after::Seen;
+use leaf_after::after::NO_ROLE;
+use leaf_after::after::NO_SLOT;
+use leaf_find_number::find::Found;
+use rules::Content;
+use rules::Entry;
+use rules::LastOrder;
+use rules::Order;
+ghost use mathlib.Core.Path.{_≡_};
+ghost use Rattle.rules.specs.Limits.{noSlot};
+ghost use Rattle.rules.specs.Class.{bitArray, boolean, unsignedInt, signedInt, float};
+ghost use Rattle.rules.specs.Field.{truth, oneOrNone};
+ghost use Rattle.leaf_after.specs.Seeing.{seen, fixedSeen, bitsSeen};
+ghost use Rattle.leaf_see_number.specs.Extends.{Extends};
+
+const BIT_ARRAY: u64 = 16;
+
+const BOOLEAN: u64 = 17;
+
+const UNSIGNED: u64 = 18;
+
+const SIGNED: u64 = 19;
+
+const FLOAT: u64 = 20;
+
+// Kind 16.
+pub fn bit_array(found: Found, order: Order) -> Seen
+    ensures { λ r. ⌜ r ≡ seen found (fixedSeen bitArray order noSlot 0) ⌝ }
+{
+    see_bits(BIT_ARRAY, found, order)
+}
+
+// Kind 20.
+pub fn float(found: Found, order: Order) -> Seen
+    ensures { λ r. ⌜ r ≡ seen found (fixedSeen float order noSlot 0) ⌝ }
+{
+    see_bits(FLOAT, found, order)
+}
+
+// "floats and bit arrays their bits as unsigned" (The list)
+fn see_bits(kind: u64, found: Found, order: Order) -> Seen
+    ensures { λ r. ⌜ r ≡ seen found (bitsSeen kind order) ⌝ }
+{
+    match found {
+        Found::Refused(why) => Seen::Stops(why),
+        Found::At { place, bits, value } => {
+            let entry = Entry {
+                kind,
+                place,
+                bits,
+                value,
+            };
+            Seen::Field(Due {
+                entry,
+                order: LastOrder::Was(order),
+                slot: NO_SLOT,
+                content: Content::Unset,
+                role: NO_ROLE,
+                width: bits,
+            })
+        }
+    }
+}
+
+// Kind 17: "0 or, with any bit set, 1" (The list)
+pub fn boolean(found: Found, order: Order, slot: u8) -> Seen
+    ensures { λ r. ⌜ r ≡ seen found (fixedSeen boolean order slot 0) ⌝ }
+{
+    match found {
+        Found::Refused(why) => Seen::Stops(why),
+        Found::At { place, bits, value } => {
+            let entry = Entry {
+                kind: BOOLEAN,
+                place,
+                bits,
+                value: one_or_none(value),
+            };
+            Seen::Field(Due {
+                entry,
+                order: LastOrder::Was(order),
+                slot,
+                content: Content::Flag(any_bit(value)),
+                role: NO_ROLE,
+                width: bits,
+            })
+        }
+    }
+}
+
+fn any_bit(value: u64) -> bool
+    ensures { λ r. ⌜ r ≡ truth value ⌝ }
+{
+    value != 0
+}
+
+fn one_or_none(value: u64) -> u64
+    ensures { λ r. ⌜ r ≡ oneOrNone (truth value) ⌝ }
+{
+    if value == 0 { 0 } else { 1 }
+}
+
+// Kind 18.
+pub fn unsigned(found: Found, order: Order, slot: u8, role: u8) -> Seen
+    ensures { λ r. ⌜ r ≡ seen found (fixedSeen unsignedInt order slot role) ⌝ }
+{
+    match found {
+        Found::Refused(why) => Seen::Stops(why),
+        Found::At { place, bits, value } => {
+            let entry = Entry {
+                kind: UNSIGNED,
+                place,
+                bits,
+                value,
+            };
+            Seen::Field(Due {
+                entry,
+                order: LastOrder::Was(order),
+                slot,
+                content: Content::Unsigned(value),
+                role,
+                width: bits,
+            })
+        }
+    }
+}
+
+// Kind 19: "two's complement in 64 bits" (The list)
+pub fn signed(found: Found, order: Order, slot: u8) -> Seen
+    requires { ⌜ Extends found ⌝ }
+    ensures { λ r. ⌜ r ≡ seen found (fixedSeen signedInt order slot 0) ⌝ }
+{
+    match found {
+        Found::Refused(why) => Seen::Stops(why),
+        Found::At {
+            place,
+            bits,
+            value: number,
+        } => {
+            let value = bits::sign_extend(number, bits);
+            let entry = Entry {
+                kind: SIGNED,
+                place,
+                bits,
+                value,
+            };
+            Seen::Field(Due {
+                entry,
+                order: LastOrder::Was(order),
+                slot,
+                content: Content::Signed(value),
+                role: NO_ROLE,
+                width: bits,
+            })
+        }
+    }
+}

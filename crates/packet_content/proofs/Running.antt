@@ -1,0 +1,108 @@
+-- A packet behind its lookup as the code takes it: each stop, and the part that is left behind the context and behind entry 3.
+use mathlib.Core.Path.{_≡_, refl, ap, sym, _∙_}
+use mathlib.Core.List.{List, [], _∷_, _++_}
+use mathlib.Core.Bool.{Bool, true, false}
+use Prim.Native.Nat.{ℕ, _+_, _-_, _*_, _≤_, _<_}
+use native.Mathlib.Omega.{arith}
+use lib.ListN.{length, drop}
+use Rattle.rules.specs.declared.BitPlace.{BitPlace}
+use Rattle.rules.specs.declared.Stop.{Stop}
+use Rattle.rules.specs.declared.Refusal.the-variants.{ListFull, LengthsContradict, ClocksContradict}
+use Rattle.rules.specs.Verdict.{stopAt}
+use Rattle.rules.specs.Place.{further}
+use Rattle.rules.specs.Slots.{Slots}
+use Rattle.rules.specs.Entry.{entry, words, lengthsSettled}
+use Rattle.rules.specs.Step.{Out}
+use Rattle.rules.specs.Packet.{readRoot, readEvents, readContent, above, orElse}
+use Rattle.listing.specs.declared.State.{State}
+use Rattle.leaf_find_number.specs.declared.Frame.{Frame}
+use Rattle.listing.specs.declared.Went.the-variants.{On, Stopped}
+use Rattle.listing.specs.Did.{Did, full}
+use Rattle.leaf_find_number.specs.Framed.{Framed, envOf}
+use Rattle.listing.proofs.Parts.{Part}
+use Rattle.class_layout.specs.declared.Found.{Found}
+use Rattle.class_layout.specs.Fragments.{askedAt, streamClassAt}
+use Rattle.field_read.specs.declared.Field.{Field}
+use Rattle.field_read.specs.Reads.{FieldReads}
+use Rattle.event_turns.specs.Roots.{classOf}
+use Rattle.outcome.specs.Ran.{RanDid, stoppedRan}
+use Rattle.contradictions.specs.Lengths.{contradicts}
+use Rattle.packet_content.specs.Pieces.{wholeFrame, packetEnv, behindFound}
+use Rattle.outcome.proofs.Parted.{root-framed}
+use Rattle.outcome.proofs.Lists.{refused-ran, marked-part, part-same, part-first, first-stopped}
+use Rattle.packet_content.proofs.Lengths.{Lengths, lengths, content-full, content-lengths, content-clocks, content-marked}
+
+-- Content
+
+module _ (t b : List ℕ) (class : ℕ) (p : BitPlace) (total content : ℕ) (st : State) (l : Slots) (ws : List ℕ) where
+  abbrev Contents : Out
+  Contents = readContent (askedAt t) (streamClassAt t class) b p total content (full st l (length ws))
+
+  pub content-ran-full : length ws < 4 → RanDid Contents st (stoppedRan (stopAt ListFull (st .place)) 0 st) ws ws
+  content-ran-full h = refused-ran Contents st l ws _ (content-full (askedAt t) (streamClassAt t class) b p total content (full st l (length ws)) h)
+
+  -- the stream's end as the code has it, and how its tests went
+  module _ (room : 4 ≤ length ws) (f : Frame) (e : f ≡ wholeFrame b p) (x : Bool)
+      (k : x ≡ contradicts total content p (st .place) (f .bound .0)) where
+    told : (y : Bool) → x ≡ y → contradicts total content p (st .place) (8 * length b) ≡ y
+    told y h = ap (λ g. contradicts total content p (st .place) (g .bound .0)) (sym e) ∙ sym k ∙ h
+
+    pub content-ran-lengths : x ≡ true → RanDid Contents st (stoppedRan (stopAt LengthsContradict (st .place)) 0 st) ws ws
+    content-ran-lengths h =
+        refused-ran Contents st l ws _ (content-lengths (askedAt t) (streamClassAt t class) b p total content (full st l (length ws)) room (told true h))
+
+    module _ (ok : x ≡ false) where
+      pub content-lengths-fine : Lengths b (p .0) total content (st .place .0)
+      content-lengths-fine = lengths b p (st .place) total content (told false ok)
+
+      pub events-framed : Framed b (wholeFrame b p) (st .place)
+          → Framed b (record { start = p; bound = further p content }) (st .place) × (p .0 + content ≤ p .0 + total)
+      events-framed w =
+          let n = content-lengths-fine in
+          (record { whole = w .whole; begun = w .begun; within = n .reach; ends = omega (arith, n .order, n .inStream); small = w .small }, omega (arith, n .order))
+
+      module _ (y : Bool) (j : y ≡ above (st .clock .value) (st .said .ending)) where
+        pub content-ran-clocks : y ≡ true → RanDid Contents st (stoppedRan (stopAt ClocksContradict (st .place)) 0 st) ws ws
+        content-ran-clocks h =
+            refused-ran Contents st l ws _
+            (content-clocks (askedAt t) (streamClassAt t class) b p total content (full st l (length ws)) room (told false ok) (sym j ∙ h))
+
+        pub content-part : y ≡ false → {ws₁ : List ℕ} → ws₁ ≡ words (entry lengthsSettled (st .place) total content ∷ []) ++ drop 4 ws
+            → (u : List ℕ) → u ≡ (askedAt t) .uuid → (k : ℕ) → k ≡ class
+            → Part Contents
+            (readEvents (askedAt t) (streamClassAt t k) (envOf b u (record { start = p; bound = further p content })) (further p total) 0
+            (p .0 + content - st .place .0)) ws ws₁ 4 st l
+        content-part h w u v k q = rw (v, q)
+            (marked-part Contents (entry lengthsSettled (st .place) total content) _ room w
+            (content-marked (askedAt t) (streamClassAt t class) b p total content (full st l (length ws)) room (told false ok) (sym j ∙ h)))
+
+-- Behind the lookup: the context was lent the whole list
+
+-- the lengths as they were stated
+abbrev pub totalOf : List ℕ → BitPlace → State → ℕ
+totalOf b p st = orElse (st .said .total) (st .said .content) (8 * length b - p .0)
+
+abbrev pub contentOf : List ℕ → BitPlace → State → ℕ
+contentOf b p st = orElse (st .said .content) (st .said .total) (8 * length b - p .0)
+
+-- the context's root as the code has it
+module _ (t b : List ℕ) (p : BitPlace) (class : ℕ) (st : State) (l : Slots) (ws : List ℕ) (u : List ℕ) (v : u ≡ (askedAt t) .uuid)
+    (f : Frame) (e : f ≡ wholeFrame b p)
+    (x : Found) (k : classOf t x ≡ (streamClassAt t class) .context) {r : Field} {ys : List ℕ} (d : FieldReads (readRoot (envOf b u f) (classOf t x)) st l r ws ys) where
+  abbrev Founded : Out
+  Founded = behindFound (askedAt t) b p (streamClassAt t class) (full st l (length ws))
+
+  context : Did (readRoot (packetEnv (askedAt t) b p) ((streamClassAt t class) .context) (full st l (length ws))) st (r .went) (r .used) (r .state) (r .slots) ws ys
+  context = rw (v, e, k) at (d .did)
+
+  pub context-framed : Framed b (wholeFrame b p) (st .place) → r .went ≡ On → Framed b (wholeFrame b p) (r .state .place)
+  context-framed h on = root-framed b ((askedAt t) .uuid) (wholeFrame b p) ((streamClassAt t class) .context) l on context h
+
+  pub context-stopped : (w : Stop) → r .went ≡ Stopped w → RanDid Founded st (stoppedRan w (r .used) st) ws ys
+  unfolding behindFound
+  context-stopped w off = first-stopped _ _ refl context w off
+
+  pub context-part : r .went ≡ On → (total content : ℕ) → total ≡ totalOf b p (r .state) → content ≡ contentOf b p (r .state)
+      → Part Founded (readContent (askedAt t) (streamClassAt t class) b p total content) ws ys (r .used) (r .state) (r .slots)
+  unfolding behindFound
+  context-part on total content h j = part-same _ _ (rw (h, j) refl) (part-first _ _ refl context on)

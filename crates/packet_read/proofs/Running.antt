@@ -1,0 +1,101 @@
+-- A packet's steps as the code takes them: each stop, and the part that is left behind entries 1 and 2.
+use mathlib.Core.Path.{_≡_, ap, sym, _∙_}
+use mathlib.Core.List.{List, [], _∷_, _++_}
+use mathlib.Core.Bool.{Bool, true, false}
+use mathlib.Core.Option.{none}
+use Prim.Native.Nat.{ℕ, _+_, _≤_, _<_}
+use native.Mathlib.Omega.{arith}
+use lib.ListN.{length, drop}
+use Rattle.rules.specs.declared.BitPlace.{BitPlace}
+use Rattle.rules.specs.declared.Stated.{Stated}
+use Rattle.rules.specs.declared.Stop.{Stop}
+use Rattle.rules.specs.declared.Refusal.the-variants.{ListFull, StreamClassChanged, StreamClassUnknown}
+use Rattle.rules.specs.Limits.{streamLimit}
+use Rattle.rules.specs.Verdict.{stopAt}
+use Rattle.rules.specs.Slots.{Slots, noSlots}
+use Rattle.rules.specs.Entry.{entry, words, packetStarts, streamClassFound}
+use Rattle.rules.specs.Step.{Out, _⨾_}
+use Rattle.rules.specs.Packet.{readRoot, readPacket, differs, startPacket}
+use Rattle.listing.specs.declared.State.{State}
+use Rattle.leaf_find_number.specs.declared.Frame.{Frame}
+use Rattle.listing.specs.declared.Went.the-variants.{On, Stopped}
+use Rattle.listing.specs.Did.{full}
+use Rattle.leaf_find_number.specs.Framed.{Framed, envOf}
+use Rattle.listing.proofs.Parts.{Part, part-step, part-stop, back-room, lent, merged}
+use Rattle.class_layout.specs.declared.Found.{Found}
+use Rattle.class_layout.specs.declared.Found.the-variants.{At, Nothing}
+use Rattle.class_layout.specs.Fragments.{askedAt, streamClassAt, findStreamAt, fragmentsOf, mapOption}
+use Rattle.class_layout.specs.Sizes.{foundOf}
+use Rattle.class_layout.specs.Notes.{Notes}
+use Rattle.class_layout.proofs.Lookups.{found-some, found-none}
+use Rattle.field_read.specs.declared.Field.{Field}
+use Rattle.field_read.specs.Reads.{FieldReads}
+use Rattle.event_turns.specs.Roots.{classOf}
+use Rattle.outcome.specs.Ran.{RanDid, stoppedRan}
+use Rattle.packet_content.specs.Pieces.{wholeFrame, behindFound}
+use Rattle.packet_read.specs.Pieces.{behindHeader, freshState, Lent, Starts}
+use Rattle.outcome.proofs.Parted.{root-framed}
+use Rattle.outcome.proofs.Lists.{refused-ran, marked-part}
+use Rattle.packet_read.proofs.Packeted.{header-differs, header-full, header-unknown, header-marked, packet-full, packet-marked}
+
+-- where a packet starts, up to the stream's end
+pub start-framed : (b : List ℕ) (p : BitPlace) → length b ≤ streamLimit → Starts b p → Framed b (wholeFrame b p) p
+start-framed b p h s = record { whole = s .whole; begun = omega arith; within = s .within; ends = omega arith; small = omega arith }
+
+-- Behind the header
+
+module _ (t b : List ℕ) (p : BitPlace) (i : Stated) (st : State) (l : Slots) (ws : List ℕ) (x : Bool) (k : x ≡ differs (st .said .stream) i) where
+  abbrev Headed : Out
+  Headed = behindHeader (askedAt t) b p i (full st l (length ws))
+
+  pub header-ran-differs : x ≡ true → RanDid Headed st (stoppedRan (stopAt StreamClassChanged (st .place)) 0 st) ws ws
+  header-ran-differs h = refused-ran Headed st l ws _ (header-differs (askedAt t) b p i (full st l (length ws)) (sym k ∙ h))
+
+  module _ (same : x ≡ false) where
+    pub header-ran-full : length ws < 4 → RanDid Headed st (stoppedRan (stopAt ListFull (st .place)) 0 st) ws ws
+    header-ran-full h = refused-ran Headed st l ws _ (header-full (askedAt t) b p i (full st l (length ws)) (sym k ∙ same) h)
+
+    module _ (room : 4 ≤ length ws) (y : Found) (j : y ≡ foundOf (findStreamAt t (fragmentsOf t) (st .said .stream))) where
+      pub header-ran-unknown : y ≡ Nothing → RanDid Headed st (stoppedRan (stopAt (StreamClassUnknown (st .said .stream)) (st .place)) 0 st) ws ws
+      unfolding mapOption askedAt
+      header-ran-unknown h =
+          refused-ran Headed st l ws _
+          (header-unknown (askedAt t) b p i (full st l (length ws)) (sym k ∙ same) room (ap (mapOption (streamClassAt t)) (found-none _ (sym h ∙ j))))
+
+      pub header-part : (class : ℕ) → y ≡ At class → {ws₁ : List ℕ}
+          → ws₁ ≡ words (entry streamClassFound (st .place) 0 (st .said .stream) ∷ []) ++ drop 4 ws
+          → Part Headed (behindFound (askedAt t) b p (streamClassAt t class)) ws ws₁ 4 st l
+      unfolding mapOption askedAt
+      header-part class h w = marked-part Headed (entry streamClassFound (st .place) 0 (st .said .stream)) _ room w
+          (header-marked (askedAt t) b p i (full st l (length ws)) (sym k ∙ same) room (streamClassAt t class)
+          (ap (mapOption (streamClassAt t)) (found-some _ class (sym h ∙ j))))
+
+-- The packet
+
+module _ (t : List ℕ) (x : Notes) (u b : List ℕ) (h : Found) (given : Lent t x u h b) (k : ℕ) (i : Stated) (st : State) (ws : List ℕ) where
+  pub packet-ran-full : (l : Slots) → length ws < 4
+      → RanDid (readPacket (askedAt t) b k i (full st l (length ws))) st (stoppedRan (stopAt ListFull (st .place)) 0 st) ws ws
+  packet-ran-full l h = refused-ran _ st l ws _ (packet-full (askedAt t) b k i (full st l (length ws)) h)
+
+  module _ (room : 4 ≤ length ws) {ws₁ : List ℕ} (w : ws₁ ≡ words (entry packetStarts (st .place) 0 k ∷ []) ++ drop 4 ws)
+      (f : Frame) (e : f ≡ wholeFrame b (st .place)) (begun : State) (j : begun ≡ freshState st) (none : Slots) (n : none ≡ noSlots) where
+    packet-part : (l : Slots) → Part (readPacket (askedAt t) b k i (full st l (length ws))) (readRoot (envOf b u f) (classOf t h) ⨾ behindHeader (askedAt t) b (st .place) i) ws ws₁ 4 begun none
+    unfolding startPacket freshState
+    packet-part l = rw (given .uuid, e, given .header, j, n)
+        (marked-part _ (entry packetStarts (st .place) 0 k) _ room w (packet-marked (askedAt t) b k i (full st l (length ws)) room))
+
+    module _ {r : Field} {ys : List ℕ} (d : FieldReads (readRoot (envOf b u f) (classOf t h)) begun none r (lent 4 ws₁) ys) where
+      pub header-framed : Starts b (st .place) → r .went ≡ On → Framed b (wholeFrame b (st .place)) (r .state .place)
+      unfolding freshState
+      header-framed q on = rw (e) at (root-framed b u f (classOf t h) none on (d .did) (rw (e, j) (start-framed b (st .place) (given .small) q)))
+
+      pub header-stopped : (l : Slots) (v : Stop) → r .went ≡ Stopped v
+          → RanDid (readPacket (askedAt t) b k i (full st l (length ws))) st (stoppedRan v (4 + r .used) st) ws (merged 4 ws₁ ys)
+      header-stopped l v off = record { slots = l; did = part-stop _ _ (packet-part l) (d .did) v st l off }
+
+      pub behind-part : (l : Slots) → r .went ≡ On
+          → Part (readPacket (askedAt t) b k i (full st l (length ws))) (behindHeader (askedAt t) b (st .place) i) ws (merged 4 ws₁ ys) (4 + r .used) (r .state) (r .slots)
+      behind-part l on = part-step _ _ (packet-part l) (d .did) on
+
+      pub header-room : 4 + r .used ≤ length ws
+      header-room = back-room (readRoot (envOf b u f) (classOf t h)) (packet-part none) (d .did)
