@@ -45,7 +45,3 @@ align-fits start k place l h fits =
 
 pub aligning : Aligning
 aligning = record { is-least = round-least; is-standard = standard-align; near = align-near }
-
--- a stream of 536,870,911 bytes has only places that can be aligned
-pub place-fits : (place : ℕ) → place ≤ 8 * 536_870_911 → place + 64 ≤ 2 ^ 64
-place-fits place h = omega arith
