@@ -1,8 +1,8 @@
 /* trevoskel.h: a checker of class tables, and a reader of Common Trace Format 2 streams by such a table. For C99 and C++.
  *
  * Both functions answer every table, every stream and every length of what is lent, and their answers are proved: the contracts are in
- * crates/trevoskel/src/lib.rt, and what they cite, in the words of document 01, is in crates/rules/specs. Nothing checks that this header
- * says the same; host/run tries it on the shared cases.
+ * crates/trevoskel/src/lib.rt, and what they cite, in the words of document 01, is in crates/rules/specs. That this header says the same
+ * is not proved: tools/header holds each name to the rules' own, and host/run tries it on the shared cases and each name on an example.
  *
  * What is lent. Each slice is a pointer and then the number of its elements: bytes of a table or a stream, 64-bit words of a list or a
  * result. The caller sees to it that
