@@ -1,11 +1,17 @@
 #!/bin/sh
-# native-kit.sh DIR: makes DIR a stand-in for the Rattle kit whose compiler writes code for this machine, so that
+# bench/native-kit.sh DIR: makes DIR a stand-in for the Rattle kit whose compiler writes code for this machine, so that
 #     RATTLE_HOME=DIR rt staticlib NAME
 # gives an archive that links here. All of the kit but its clang is linked to, so that the proofs are the kit's own. On x86-64, for which the
 # kit compiles anyway, clang is linked to as well. Elsewhere the same LLVM module goes through another back end at the same -O3: good for
 # running and for measuring, and not the code that the kit builds for x86-64.
 set -eu
-dir=$1
+. "$(dirname "$0")/../tools/words.sh"
+help_if_asked "$@"
+case $#${1-} in
+1[!-]*) dir=$1 ;;
+*) refuse "takes a folder, and got '$*'" ;;
+esac
+[ -n "${RATTLE_HOME-}" ] || needs rt
 kit=${RATTLE_HOME:-$(cd "$(dirname "$(readlink -f "$(command -v rt)")")/.." && pwd -P)}
 machine=$(uname -m)
 mkdir -p "$dir/on/$machine/toolchain/bin"
