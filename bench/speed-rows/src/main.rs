@@ -1,4 +1,4 @@
-//! The proved reader against the one in ordinary Rust, on five shapes of streams with 10 and with 500 event classes.
+//! The proved reader against the one in ordinary Rust, on six shapes of streams with 10 and with 500 event classes.
 //!
 //!     speed-rows [ROUNDS]                      a table of all rows, the least time of so many rounds (7)
 //!     speed-rows SHAPE CLASSES READER ROUNDS   one reader (proved, rust) on one sample, for a profiler

@@ -1,5 +1,6 @@
-//! The five shapes of a stream. A packet's header and context are those that LTTng writes, and so are the sizes: packets of
-//! 64 KiB, padded behind their last event. Event classes are picked evenly, and stand in the table in no order of their ids.
+//! The six shapes of a stream. A packet's header and context are those that LTTng writes, and so are the sizes: packets of
+//! 64 KiB, padded behind their last event. Event classes are picked evenly, and stand in the table in no order of their ids
+//! but for LTTng's own, which count from 0.
 
 use crate::class::*;
 use crate::random::Random;
@@ -16,14 +17,17 @@ pub enum Shape {
     Structures,
     /// LTTng's large event header: a short id and stamp, or after its largest id long ones, by a variant.
     VariantHeader,
+    /// What LTTng itself writes: that header, two or three integers, and now and then a string.
+    Lttng,
 }
 
-pub const SHAPES: [Shape; 5] = [
+pub const SHAPES: [Shape; 6] = [
     Shape::WholeBytes,
     Shape::UnalignedBits,
     Shape::MixedKinds,
     Shape::Structures,
     Shape::VariantHeader,
+    Shape::Lttng,
 ];
 
 impl Shape {
@@ -34,6 +38,7 @@ impl Shape {
             Shape::MixedKinds => "mixed-kinds",
             Shape::Structures => "structures",
             Shape::VariantHeader => "variant-header",
+            Shape::Lttng => "lttng",
         }
     }
 }
@@ -93,7 +98,7 @@ fn packet_context() -> Class {
 }
 
 fn event_header(shape: Shape) -> Class {
-    if !matches!(shape, Shape::VariantHeader) {
+    if !matches!(shape, Shape::VariantHeader | Shape::Lttng) {
         return structure(3, vec![with_role(16, EVENT_CLASS_ID), with_role(32, CLOCK)]);
     }
     let (slot, role, value) = (SELECTOR, EVENT_CLASS_ID, Value::SaidOr(LONG_ID));
@@ -146,6 +151,14 @@ fn payload(shape: Shape, random: &mut Random) -> Class {
             }
             structure(0, members)
         }
+        Shape::Lttng => {
+            let count = random.between(2, 3);
+            let mut members: Vec<Class> = (0..count).map(|_| whole(random)).collect();
+            if random.between(1, 5) == 1 {
+                members.push(Class::String);
+            }
+            structure(0, members)
+        }
     }
 }
 
@@ -195,10 +208,13 @@ fn mixed(random: &mut Random, slot: u8) -> Vec<Class> {
 /// The sample of a shape with so many event classes.
 pub fn sample(shape: Shape, classes: usize) -> Sample {
     let mut random = Random(shape as u64 * 1000 + classes as u64);
-    // 251 and LONG_ID have no common divisor, so that no id occurs twice.
-    let events: Vec<(u64, Class)> = (1..=classes as u64)
-        .map(|turn| (turn * 251 % LONG_ID, payload(shape, &mut random)))
-        .collect();
+    let id = |turn: u64| match shape {
+        Shape::Lttng => turn - 1,
+        // 251 and LONG_ID have no common divisor, so that no id occurs twice.
+        _ => turn * 251 % LONG_ID,
+    };
+    let events: Vec<(u64, Class)> =
+        (1..=classes as u64).map(|turn| (id(turn), payload(shape, &mut random))).collect();
     let header = event_header(shape);
     Sample { table: table(&header, &events), stream: stream(&header, &events, &mut random) }
 }
