@@ -46,7 +46,7 @@ struct bytes {
 #define BYTES(...) {(const uint8_t[]){__VA_ARGS__}, sizeof((const uint8_t[]){__VA_ARGS__})}
 #define NONE {NULL, 0}
 
-/* Of each number but two, which need more than a few bytes, a table that is checked or a stream that is read. */
+/* A table that is checked, or a stream that is read, for each number but 15, which takes a long table, and 40, which is of the list. */
 static const struct {
     uint32_t number;
     struct bytes table;
