@@ -1,7 +1,8 @@
--- Every clock of a reading's list is the least one. A law of steps: from the state's clock the entries tick, and the clock behind them is
--- the state's. In order: the new clock; entries; steps; fields; packets; readings.
+-- Every clock of a reading's list is the least one, and a stamp is refused where the least one needs more than 64 bits. A law of steps:
+-- from the state's clock the entries tick; the clock behind them is the state's; and where 36 stops the step, it is behind the entry of a
+-- stamp that does not fit. In order: the new clock; refusals; entries; steps; fields; packets; readings.
 use mathlib.Core.Path.{_≡_, refl, sym, ap, subst, _∙_}
-use Prim.Native.Nat.{ℕ, zero, suc, _+_, _-_, _*_, _%_, _^_, _<_}
+use Prim.Native.Nat.{ℕ, zero, suc, _+_, _-_, _*_, _%_, _^_, _<_, _≤_}
 use native.Mathlib.Nat.{mod-lt, mod-add-mod}
 use native.Mathlib.Omega.{arith}
 use lib.Pow.{pow-pos}
@@ -10,7 +11,7 @@ use mathlib.Core.Bool.{Bool, true, false, _||_}
 use mathlib.Core.Option.{Option, none, some}
 use lib.ListN.{length}
 use lib.Dec.{ltb, eqb}
-use borrow.Author.Tests.{ltb-true, ne-eqb}
+use borrow.Author.Tests.{ltb-true, ltb-false, ne-eqb}
 use Rattle.rules.specs.declared.BitPlace.{BitPlace}
 use Rattle.rules.specs.declared.Stated.{Stated}
 use Rattle.rules.specs.declared.Stated.the-variants.{Missing, As}
@@ -33,7 +34,7 @@ use Rattle.rules.specs.Clock.{advance, clockAfter}
 use Rattle.rules.specs.Text.{textLength, zeroAt}
 use Rattle.rules.specs.Place.{bitPlace, further}
 use Rattle.rules.specs.Slots.{slotAt}
-use Rattle.rules.specs.Verdict.{stopAt}
+use Rattle.rules.specs.Verdict.{stopAt, refusalNumber, numberOf, placeOf}
 use Rattle.rules.specs.Entry.{entry, packetStarts, streamClassFound, lengthsSettled, eventStarts, eventClassFound, clockAdvanced}
 use Rattle.rules.specs.Step.{State, Out, stop, go, Step, onto, after, _⨾_, refuse, check, due, listed, change, pass, withSlots, withOrder, withClock, withLast, withSaid}
 use Rattle.rules.specs.Class.{Role, noRole, magic, streamClassId, streamId, uuid, totalLength, contentLength, clock, endClock, discarded, sequence, eventClassId}
@@ -47,7 +48,7 @@ use Rattle.facts.proofs.Steps.{onto-nil}
 use Rattle.clock.specs.Least.{Least}
 use Rattle.clock.proofs.Least.{new-clock}
 use Rattle.laws.proofs.Law.{FieldKind, Any, any-slot, Law, law-any}
-use Rattle.promises.specs.Clocks.{clockBehind, stampBits, Ticking}
+use Rattle.promises.specs.Clocks.{clockBehind, clocksBehind, stampBits, Ticking, NeedsMore}
 
 -- The new clock
 
@@ -74,11 +75,35 @@ after-least c l v n h = by (ltb (c + advance c l v) (2 ^ 64)) refl h
         (subst (Least c l (v % 2 ^ l)) (ap (λ z. c + z) (advance-low c l v) ∙ p) (new-clock .is-least c l (v % 2 ^ l) (mod-lt v (pow-pos l))), omega arith)
     by false e k = let z : _≡_ {A = ℕ} 0 1 = cc in absurd (omega arith)
 
--- Entries
+-- and where there is none, the least value does not fit
+after-none : (c l v : ℕ) → clockAfter c l v ≡ none → Least c l (v % 2 ^ l) (c + advance c l v) × (2 ^ 64 ≤ c + advance c l v)
+unfolding clockAfter
+after-none c l v h = by (ltb (c + advance c l v) (2 ^ 64)) refl h
+  where
+    by : (b : Bool) → ltb (c + advance c l v) (2 ^ 64) ≡ b
+        → _≡_ {A = Option ℕ} (elim b [ true ↦ some (c + advance c l v) | false ↦ none ]) none
+        → Least c l (v % 2 ^ l) (c + advance c l v) × (2 ^ 64 ≤ c + advance c l v)
+    by true e k = let z : _≡_ {A = ℕ} 0 1 = cc in absurd (omega arith)
+    by false e k = (
+      subst (Least c l (v % 2 ^ l)) (ap (λ z. c + z) (advance-low c l v)) (new-clock .is-least c l (v % 2 ^ l) (mod-lt v (pow-pos l))),
+      ltb-false _ _ e,
+    )
 
-clocksBehind : ℕ → List Entry → ℕ
-clocksBehind c [] = c
-clocksBehind c (e ∷ es) = clocksBehind (clockBehind c e) es
+-- Refusals
+
+-- not by 36
+abbrev Other : Refusal → Type 0
+Other r = refusalNumber r ≡ 36 → ⊥
+
+-- a stamp that does not fit: the clock is c, the last entry p, and the place
+record Unfit (c : ℕ) (p : Entry) (place : ℕ) : Type 0 where
+  field : FieldKind (p .kind)
+  behind : place ≡ p .place .0 + p .bits
+  clock : ℕ
+  least : Least c (stampBits p) (p .value % 2 ^ stampBits p) clock
+  past : 2 ^ 64 ≤ clock
+
+-- Entries
 
 lastOf : Entry → List Entry → Entry
 lastOf p [] = p
@@ -94,6 +119,11 @@ unfolding clocksBehind
 behind-append [] fs c = refl
 behind-append (e ∷ es) fs c = behind-append es fs (clockBehind c e)
 
+last-append : (es fs : List Entry) (p : Entry) → lastOf p (es ++ fs) ≡ lastOf (lastOf p es) fs
+unfolding lastOf
+last-append [] fs p = refl
+last-append (e ∷ es) fs p = last-append es fs e
+
 -- an entry that is neither 1 nor 6
 record Still (k : ℕ) : Type 0 where
   not-packet : k ≡ packetStarts → ⊥
@@ -106,7 +136,7 @@ still-behind c e h = simp (ne-eqb (e .kind) packetStarts (h .not-packet), ne-eqb
 -- Steps
 
 abbrev TickOut : ℕ → Entry → Out → Type 0
-TickOut c p (stop es w) = Ticking c p es
+TickOut c p (stop es w) = Ticking c p es × (refusalNumber (w .why) ≡ 36 → Unfit (clocksBehind c es) (lastOf p es) (w .place .0))
 TickOut c p (go es s) = Ticking c p es × (clocksBehind c es ≡ s .clock)
 
 -- behind an entry p, at the place after it
@@ -119,7 +149,10 @@ record Tick (m : Step) : Type 0 where
 
 tick-onto : (c : ℕ) (p : Entry) (es : List Entry) (o : Out) → Ticking c p es → TickOut (clocksBehind c es) (lastOf p es) o → TickOut c p (onto es o)
 unfolding onto
-tick-onto c p es (stop fs w) h k = ticking-append es fs c p h k
+tick-onto c p es (stop fs w) h k = (
+  ticking-append es fs c p h (k .0),
+  λ q. rw (behind-append es fs c, last-append es fs p) (k .1 q),
+)
 tick-onto c p es (go fs s) h k = (ticking-append es fs c p h (k .0), behind-append es fs c ∙ k .1)
 
 tick-after : (c : ℕ) (p : Entry) (o : Out) (n : Step) → TickOut c p o → Tick n → TickOut c p (after o n)
@@ -136,21 +169,21 @@ tick-pass : Tick pass
 unfolding pass clocksBehind
 tick-pass = record { at = λ v s. (tt, refl) }
 
-tick-refuse : (r : Refusal) → Tick (refuse r)
+tick-refuse : (r : Refusal) → Other r → Tick (refuse r)
 unfolding refuse
-tick-refuse r = record { at = λ v s. tt }
+tick-refuse r h = record { at = λ v s. (tt, λ q. absurd (h q)) }
 
 tick-if : (c : ℕ) (v : Entry) (b : Bool) (x y : Out) → TickOut c v x → TickOut c v y → TickOut c v (elim b [ true ↦ x | false ↦ y ])
 tick-if c v true x y h k = h
 tick-if c v false x y h k = k
 
-tick-check : (t : State → Bool) (r : Refusal) → Tick (check t r)
+tick-check : (t : State → Bool) (r : Refusal) → Other r → Tick (check t r)
 unfolding check
-tick-check t r = record { at = λ v s. tick-if (s .clock) v (t s) _ _ (tick-refuse r .at v s) (tick-pass .at v s) }
+tick-check t r h = record { at = λ v s. tick-if (s .clock) v (t s) _ _ (tick-refuse r h .at v s) (tick-pass .at v s) }
 
 tick-due : Tick due
-unfolding due
-tick-due = tick-check _ ListFull
+unfolding due refusalNumber
+tick-due = tick-check _ ListFull (λ q. omega arith)
 
 tick-change : (f : State → State) → ((s : State) → (f s) .clock ≡ s .clock) → Tick (change f)
 unfolding change clocksBehind
@@ -195,43 +228,54 @@ at-change p f h k {m} g = record {
 }
 
 -- the role of the clock, behind the field's own entry
-at-clock : (l : ℕ) (p : Entry) → l ≡ stampBits p → TickAt p (due ⨾ λ s. newClock l (clockAfter (s .clock) l (p .value)) s)
-unfolding due check _⨾_ pass refuse after
-at-clock l p k = record { at = λ s g. by s g (ltb (s .room) 4) }
+at-clock : (l : ℕ) (p : Entry) → FieldKind (p .kind) → l ≡ stampBits p
+    → TickAt p (due ⨾ λ s. newClock l (clockAfter (s .clock) l (p .value)) s)
+unfolding due check _⨾_ pass refuse after refusalNumber
+at-clock l p f k = record { at = λ s g. by s g (ltb (s .room) 4) }
   where
     new : (s : State) → s .place .0 ≡ p .place .0 + p .bits → (o : Option ℕ) → clockAfter (s .clock) l (p .value) ≡ o → TickOut (s .clock) p (newClock l o s)
-    new s g none e = unfold newClock refuse in tt
+    new s g none e = unfold newClock refuse lastOf clocksBehind in
+        let x = after-none (s .clock) l (p .value) e in (
+          tt,
+          λ q. record {
+            field = f;
+            behind = g;
+            clock = s .clock + advance (s .clock) l (p .value);
+            least = subst (λ z. Least (s .clock) z (p .value % 2 ^ z) (s .clock + advance (s .clock) l (p .value))) k (x .0);
+            past = x .1;
+          },
+        )
     new s g (some c) e = unfold newClock _⨾_ listed after change onto withClock clocksBehind clockBehind in
         let x = after-least (s .clock) l (p .value) c e in
         (((λ q. record { place = g; bits = k; least = x .0; fits = x .1 }), tt), refl)
 
     by : (s : State) → s .place .0 ≡ p .place .0 + p .bits → (b : Bool)
         → TickOut (s .clock) p (after (elim b [ true ↦ refuse ListFull s | false ↦ pass s ]) (λ s. newClock l (clockAfter (s .clock) l (p .value)) s))
-    by s g true = unfold refuse after in tt
+    by s g true = unfold refuse after in (tt, λ q. absurd (omega arith))
     by s g false = unfold pass after in rw (onto-nil (newClock l (clockAfter (s .clock) l (p .value)) s)) (new s g (clockAfter (s .clock) l (p .value)) refl)
 
-at-role : (r : Role) (l : ℕ) (p : Entry) → (r ≡ clock → l ≡ stampBits p) → TickAt p (role r l (p .value))
-unfolding role say withSaid
-at-role noRole l p h = at-any p tick-pass
-at-role magic l p h = at-any p (tick-check _ WrongMagic)
-at-role streamClassId l p h = at-any p (tick-change _ (λ s. refl))
-at-role streamId l p h = at-any p tick-pass
-at-role uuid l p h = at-any p tick-pass
-at-role totalLength l p h = at-any p (tick-change _ (λ s. refl))
-at-role contentLength l p h = at-any p (tick-change _ (λ s. refl))
-at-role clock l p h = at-clock l p (h refl)
-at-role endClock l p h = at-any p (tick-change _ (λ s. refl))
-at-role discarded l p h = at-any p tick-pass
-at-role sequence l p h = at-any p tick-pass
-at-role eventClassId l p h = at-any p (tick-change _ (λ s. refl))
+at-role : (r : Role) (l : ℕ) (p : Entry) → FieldKind (p .kind) → (r ≡ clock → l ≡ stampBits p) → TickAt p (role r l (p .value))
+unfolding role say withSaid refusalNumber
+at-role noRole l p f h = at-any p tick-pass
+at-role magic l p f h = at-any p (tick-check _ WrongMagic (λ q. omega arith))
+at-role streamClassId l p f h = at-any p (tick-change _ (λ s. refl))
+at-role streamId l p f h = at-any p tick-pass
+at-role uuid l p f h = at-any p tick-pass
+at-role totalLength l p f h = at-any p (tick-change _ (λ s. refl))
+at-role contentLength l p f h = at-any p (tick-change _ (λ s. refl))
+at-role clock l p f h = at-clock l p f (h refl)
+at-role endClock l p f h = at-any p (tick-change _ (λ s. refl))
+at-role discarded l p f h = at-any p tick-pass
+at-role sequence l p f h = at-any p tick-pass
+at-role eventClassId l p f h = at-any p (tick-change _ (λ s. refl))
 
 tick-blobRole : (e : Env) (r : Role) (b : List ℕ) → Tick (blobRole e r b)
-unfolding blobRole
+unfolding blobRole refusalNumber
 tick-blobRole e noRole b = tick-pass
 tick-blobRole e magic b = tick-pass
 tick-blobRole e streamClassId b = tick-pass
 tick-blobRole e streamId b = tick-pass
-tick-blobRole e uuid b = tick-check _ WrongUuid
+tick-blobRole e uuid b = tick-check _ WrongUuid (λ q. omega arith)
 tick-blobRole e totalLength b = tick-pass
 tick-blobRole e contentLength b = tick-pass
 tick-blobRole e clock b = tick-pass
@@ -266,45 +310,49 @@ no-clock h = let z : _≡_ {A = ℕ} 0 1 = cc in absurd (omega arith)
 
 module _ (e : Env) where
   tick-fit : (a n : ℕ) → Tick (fit e a n)
-  unfolding fit
-  tick-fit a n = tick-check _ PastBound
+  unfolding fit refusalNumber
+  tick-fit a n = tick-check _ PastBound (λ q. omega arith)
 
   tick-fixed : (k : Sort) (n : ℕ) (o : Order) (a i : ℕ) (r : Role) → Tick (readFixed e k n o a i r)
-  unfolding readFixed store withOrder withSlots
+  unfolding readFixed store withOrder withSlots refusalNumber
   tick-fixed k n o a i r =
-      tick-due ⨾ᵗ tick-fit a 0 ⨾ᵗ tick-check _ OrderChanged ⨾ᵗ tick-fit a n
+      tick-due ⨾ᵗ tick-fit a 0 ⨾ᵗ tick-check _ OrderChanged (λ q. omega arith) ⨾ᵗ tick-fit a n
       ⨾ᵗ record {
         at = λ u s.
             let v = bits o (e .bytes) ((aligned e a s) .0) n in
             tick-valued e (kindOf k) a n (valueOf k n v) (kind-field k)
-            (λ q. at-change _ _ (λ s. refl) (λ s. refl) (at-change _ _ (λ s. refl) (λ s. refl) (at-role r n (entry (kindOf k) q n (valueOf k n v)) (λ h. fixed-bits k q n _)))) .at u s;
+            (λ q.
+            let x = entry (kindOf k) q n (valueOf k n v) in
+            at-change _ _ (λ s. refl) (λ s. refl)
+            (at-change _ _ (λ s. refl) (λ s. refl) (at-role r n x (kind-field k) (λ h. fixed-bits k q n _)))) .at u s;
       }
 
   tick-leb : (k : ℕ) (c : ℕ → Content) (i : ℕ) (r : Role) (x : Leb) → FieldKind k → ((q : BitPlace) (n v : ℕ) → r ≡ clock → 7 * n ≡ stampBits (entry k q (8 * n) v))
       → Tick (readLeb e k c i r x)
-  unfolding readLeb store withSlots
+  unfolding readLeb store withSlots refusalNumber
   tick-leb k c i r (Value v n) h l =
-      tick-valued e k 8 (8 * n .0) v h (λ q. at-change _ _ (λ s. refl) (λ s. refl) (at-role r (lebWidth n) (entry k q (8 * n .0) v) (l q (n .0) v)))
-  tick-leb k c i r Past h l = tick-refuse PastBound
-  tick-leb k c i r Large h l = tick-refuse LebTooLarge
+      tick-valued e k 8 (8 * n .0) v h
+      (λ q. at-change _ _ (λ s. refl) (λ s. refl) (at-role r (lebWidth n) (entry k q (8 * n .0) v) h (l q (n .0) v)))
+  tick-leb k c i r Past h l = tick-refuse PastBound (λ q. omega arith)
+  tick-leb k c i r Large h l = tick-refuse LebTooLarge (λ q. omega arith)
 
   tick-zero : (x : Ended) → Tick (readZero e x)
-  unfolding readZero
+  unfolding readZero refusalNumber
   tick-zero (After n) = tick-field e 23 8 _ _ (omega arith)
-  tick-zero Never = tick-refuse NoZeroByte
+  tick-zero Never = tick-refuse NoZeroByte (λ q. omega arith)
 
   tick-law : Law e Any Any Any Tick Tick
-  unfolding fromSlot
+  unfolding fromSlot refusalNumber
   tick-law = record {
     none? = tt;
     one? = tt;
     seq = λ h k. h ⨾ᵗ k;
     dueʳ = λ h. tick-due ⨾ᵗ h;
     passes = tick-pass;
-    unset = tick-refuse SlotUnset;
-    wrongSort = tick-refuse SlotOfWrongSort;
-    inNone = tick-refuse SelectorInNoOption;
-    within = λ n h. tick-check _ LengthTooLarge ⨾ᵗ h;
+    unset = tick-refuse SlotUnset (λ q. omega arith);
+    wrongSort = tick-refuse SlotOfWrongSort (λ q. omega arith);
+    inNone = tick-refuse SelectorInNoOption (λ q. omega arith);
+    within = λ n h. tick-check _ LengthTooLarge (λ q. omega arith) ⨾ᵗ h;
     slot = λ i f h. record { at = λ v s. h (slotAt (s .slots) i) (any-slot (slotAt (s .slots) i)) .at v s };
     fixes = λ k n o a i r w z. tick-fixed k n o (2 ^ a) i r;
     lebs = λ i r z. tick-fit 8 0 ⨾ᵗ record { at = λ v s. tick-leb 21 Unsigned i r (lebUnsigned (ahead e (aligned e 8 s))) (omega arith) (λ q n v h. leb-bits q n v) .at v s };
@@ -326,21 +374,22 @@ module _ (e : Env) where
 
 module _ (t : Asked) where
   tick-found : (i j : ℕ) (x : Option EventClass) (f : EventClass → Step) → ((d : EventClass) → Tick (f d)) → Tick (withEvent i j x f)
-  unfolding withEvent
-  tick-found i j none f h = tick-refuse (EventClassUnknown i j)
+  unfolding withEvent refusalNumber
+  tick-found i j none f h = tick-refuse (EventClassUnknown i j) (λ q. omega arith)
   tick-found i j (some d) f h = h d
 
   tick-event : (c : StreamClass) (e : Env) (n : ℕ) → Tick (readEvent t c e n)
-  unfolding readEvent startEvent withLast
+  unfolding readEvent startEvent withLast refusalNumber
   tick-event c e n = record {
     at = λ v s₀.
-        (tick-due ⨾ᵗ tick-mark eventStarts 0 n (still 4 (λ q. omega arith) (λ q. omega arith)) ⨾ᵗ tick-change _ (λ s. refl) ⨾ᵗ tick-root e (c .header) ⨾ᵗ tick-check _ ClockWentBack
+        (tick-due ⨾ᵗ tick-mark eventStarts 0 n (still 4 (λ q. omega arith) (λ q. omega arith)) ⨾ᵗ tick-change _ (λ s. refl)
+        ⨾ᵗ tick-root e (c .header) ⨾ᵗ tick-check _ ClockWentBack (λ q. omega arith)
         ⨾ᵗ tick-change _ (λ s. refl) ⨾ᵗ tick-due
         ⨾ᵗ record {
           at = λ v s. tick-found (c .id) (s .said .event) (t .event (c .id) (s .said .event)) _
               (λ d. tick-mark eventClassFound 0 (s .said .event) (still 5 (λ q. omega arith) (λ q. omega arith)) ⨾ᵗ tick-root e (c .common) ⨾ᵗ tick-root e (d .specific) ⨾ᵗ tick-root e (d .payload)) .at v s;
         }
-        ⨾ᵗ tick-check (λ s. eqb (s .place .0) (s₀ .place .0)) EventTookNoBits) .at v s₀;
+        ⨾ᵗ tick-check (λ s. eqb (s .place .0) (s₀ .place .0)) EventTookNoBits (λ q. omega arith)) .at v s₀;
   }
 
   tick-end : (to : BitPlace) (n : ℕ) → Tick (endPacket to n)
@@ -355,9 +404,10 @@ module _ (t : Asked) where
   }
 
   tick-content : (c : StreamClass) (b : List ℕ) (p : BitPlace) (total content : ℕ) → Tick (readContent t c b p total content)
-  unfolding readContent
+  unfolding readContent refusalNumber
   tick-content c b p total content =
-      tick-due ⨾ᵗ tick-check _ LengthsContradict ⨾ᵗ tick-check _ ClocksContradict ⨾ᵗ tick-mark lengthsSettled total content (still 3 (λ q. omega arith) (λ q. omega arith))
+      tick-due ⨾ᵗ tick-check _ LengthsContradict (λ q. omega arith) ⨾ᵗ tick-check _ ClocksContradict (λ q. omega arith)
+      ⨾ᵗ tick-mark lengthsSettled total content (still 3 (λ q. omega arith) (λ q. omega arith))
       ⨾ᵗ record { at = λ v s. tick-events c _ (further p total) 0 (p .0 + content - s .place .0) .at v s }
 
   -- a packet starts: its entry 1 and the clock's 0 go together
@@ -370,15 +420,15 @@ module _ (t : Asked) where
   }
 
   tick-stream : (i : ℕ) (x : Option StreamClass) (f : StreamClass → Step) → ((c : StreamClass) → Tick (f c)) → Tick (withStream i x f)
-  unfolding withStream
-  tick-stream i none f h = tick-refuse (StreamClassUnknown i)
+  unfolding withStream refusalNumber
+  tick-stream i none f h = tick-refuse (StreamClassUnknown i) (λ q. omega arith)
   tick-stream i (some c) f h = h c
 
   tick-packet : (b : List ℕ) (k : ℕ) (i : Stated) → Tick (readPacket t b k i)
-  unfolding readPacket
+  unfolding readPacket refusalNumber
   tick-packet b k i = record {
     at = λ v s₀.
-        (tick-due ⨾ᵗ tick-start k (tick-root _ (t .header) ⨾ᵗ tick-check _ StreamClassChanged ⨾ᵗ tick-due
+        (tick-due ⨾ᵗ tick-start k (tick-root _ (t .header) ⨾ᵗ tick-check _ StreamClassChanged (λ q. omega arith) ⨾ᵗ tick-due
         ⨾ᵗ record {
           at = λ v s. tick-stream (s .said .stream) (t .stream (s .said .stream)) _
               (λ c. tick-mark streamClassFound 0 (s .said .stream) (still 2 (λ q. omega arith) (λ q. omega arith)) ⨾ᵗ tick-root _ (c .context)
@@ -397,23 +447,61 @@ module _ (t : Asked) where
 
 -- Readings
 
-ended-ticks : (p : Entry) (o : Out) → TickOut 0 p o → Ticking 0 p ((ended o) .entries)
-unfolding ended
-ended-ticks p (stop es v) h = h
-ended-ticks p (go es s) h = h .0
+abbrev Ticked : Entry → Reading → Type 0
+Ticked p r =
+    Ticking 0 p (r .entries)
+    × (numberOf (r .verdict) ≡ 36 → Unfit (clocksBehind 0 (r .entries)) (lastOf p (r .entries)) (placeOf (r .verdict)))
 
-stream-ticks : (t : Asked) (b : List ℕ) (room : ℕ) (p : Entry) → Ticking 0 p ((readStream t b room) .entries)
-unfolding readStream
+ended-ticks : (p : Entry) (o : Out) → TickOut 0 p o → Ticked p (ended o)
+unfolding ended numberOf placeOf
+ended-ticks p (stop es v) h = h
+ended-ticks p (go es s) h = (h .0, λ q. absurd (omega arith))
+
+stream-ticks : (t : Asked) (b : List ℕ) (room : ℕ) (p : Entry) → Ticked p (readStream t b room)
+unfolding readStream numberOf refusalNumber
 stream-ticks t b room p = by (eqb (length b) 0 || ltb streamLimit (length b))
   where
-    by : (x : Bool) → Ticking 0 p ((elim x as (λ z. Reading) [ true ↦ record { entries = []; verdict = Refused (stopAt StreamSize (bitPlace 0)) } | false ↦ ended (readPackets t b 0 Missing (length b) (begin room)) ]) .entries)
-    by true = tt
+    by : (x : Bool) → Ticked p (elim x as (λ z. Reading) [
+      | true ↦ record { entries = []; verdict = Refused (stopAt StreamSize (bitPlace 0)) }
+      | false ↦ ended (readPackets t b 0 Missing (length b) (begin room))
+    ])
+    by true = (tt, λ q. absurd (omega arith))
     by false = unfold begin in ended-ticks p _ (tick-packets t b 0 Missing (length b) .at p (begin room))
 
-pub reading-ticks : (x b : List ℕ) (room : ℕ) (e : Entry) → Ticking 0 e ((readAll x b room) .entries)
-unfolding readAll
-reading-ticks x b room e = by (parse x)
+reading-ticked : (x b : List ℕ) (room : ℕ) (e : Entry) → Ticked e (readAll x b room)
+unfolding readAll numberOf
+reading-ticked x b room e = by (parse x)
   where
-    by : (p : Parsed Table) → Ticking 0 e ((readParsed x p b room) .entries)
-    by (bad n y) = unfold readParsed in tt
+    by : (p : Parsed Table) → Ticked e (readParsed x p b room)
+    by (bad n y) = unfold readParsed in (tt, λ q. absurd (omega arith))
     by (good t y) = unfold readParsed in stream-ticks (asked t) b room e
+
+pub reading-ticks : (x b : List ℕ) (room : ℕ) (e : Entry) → Ticking 0 e ((readAll x b room) .entries)
+reading-ticks x b room e = reading-ticked x b room e .0
+
+-- the last entry of a list that has one
+last-stands : (p e : Entry) (es : List Entry) → (before : List Entry) × (e ∷ es ≡ before ++ (lastOf p (e ∷ es) ∷ []))
+unfolding lastOf
+last-stands p e [] = ([], refl)
+last-stands p e (f ∷ es) = let h = last-stands e f es in (e ∷ h .0, ap (e ∷_) (h .1))
+
+-- where 36 refuses it, behind whatever entry: one of no field shows that the list is not empty
+unfit-last : (es : List Entry) (place : ℕ) → ((p : Entry) → Unfit (clocksBehind 0 es) (lastOf p es) place) → NeedsMore es place
+unfit-last [] place h = unfold lastOf in absurd (omega (arith, h (entry 0 (bitPlace 0) 0 0) .field .0))
+unfit-last (e ∷ es) place h =
+    let u = h e in
+    let l = last-stands e e es in
+    record {
+      before = l .0;
+      stamp = lastOf e (e ∷ es);
+      last = l .1;
+      field = u .field;
+      behind = u .behind;
+      clock = u .clock;
+      least = u .least;
+      past = u .past;
+    }
+
+pub reading-needs : (x b : List ℕ) (room : ℕ) → numberOf ((readAll x b room) .verdict) ≡ 36
+    → NeedsMore ((readAll x b room) .entries) (placeOf ((readAll x b room) .verdict))
+reading-needs x b room h = unfit-last _ _ (λ p. reading-ticked x b room p .1 h)

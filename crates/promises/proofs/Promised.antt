@@ -1,20 +1,37 @@
--- The demands, gathered; and as the functions in src/ ensure them, from what `read` ensures.
-use mathlib.Core.Path.{_≡_, sym, subst}
+-- The demands, gathered; and as the functions of `promises_calls` ensure them, from what `read` ensures.
+use mathlib.Core.Path.{_≡_, sym, ap, subst, _∙_}
 use Prim.Native.Nat.{ℕ}
 use mathlib.Core.List.{List}
 use lib.ListN.{length}
+use Rattle.rules.specs.declared.Entry.{Entry}
 use Rattle.rules.specs.declared.Result.{Result}
+use Rattle.rules.specs.Verdict.{refusalNumber}
 use Rattle.rules.specs.Read.{readAll, resultOf, listAfter}
-use Rattle.promises.specs.Demands.{call, Contract, Demands, OneCall, TwoCalls}
-use Rattle.promises.specs.Clocks.{Ticking}
-use Rattle.promises.proofs.Clocks.{reading-ticks}
+use Rattle.clock.specs.declared.Ticked.the-variants.{TooLarge}
+use Rattle.clock.specs.Ticked.{tickedNumber}
+use Rattle.promises.specs.Demands.{Call, call, listedBy, Contract, Demands, OneCall, TwoCalls}
+use Rattle.promises.specs.Clocks.{Ticking, NeedsMore}
+use Rattle.promises.proofs.Clocks.{reading-ticks, reading-needs}
 use Rattle.promises.proofs.Calls.{lists-entries, demand-3-calls}
 use Rattle.promises.proofs.Answers.{demand-1, less-room-calls}
+
+-- of a call that meets the contract: what the rules list is what it lists
+ticks : (x b : List ℕ) (c : Call) → Contract x b c → (p : Entry) → Ticking 0 p (listedBy c)
+ticks x b c h p = subst (Ticking 0 p) (sym (lists-entries x b c h)) (reading-ticks x b (length (c .before)) p)
+
+needs-more : (x b : List ℕ) (c : Call) → Contract x b c → c .result .number ≡ tickedNumber TooLarge
+    → NeedsMore (listedBy c) (c .result .place)
+unfolding tickedNumber refusalNumber resultOf
+needs-more x b c h e =
+    let r = readAll x b (length (c .before)) in
+    let m = reading-needs x b (length (c .before)) (sym (ap (λ z. z .number) (h .result)) ∙ e) in
+    let at : NeedsMore (r .entries) (c .result .place) = subst (NeedsMore (r .entries)) (sym (ap (λ z. z .place) (h .result))) m in
+    subst (λ es. NeedsMore es (c .result .place)) (sym (lists-entries x b c h)) at
 
 pub demands : Demands
 demands = record {
   demand-1 = demand-1;
-  demand-2 = λ x b c h. record { rules = h; clocks = λ p. subst (Ticking 0 p) (sym (lists-entries x b c h)) (reading-ticks x b (length (c .before)) p) };
+  demand-2 = λ x b c h. record { rules = h; clocks = ticks x b c h; too-large = needs-more x b c h };
   demand-3 = demand-3-calls;
   less-room = less-room-calls;
 }

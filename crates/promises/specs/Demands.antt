@@ -16,7 +16,9 @@ use Rattle.rules.specs.Parse.{checked}
 use Rattle.rules.specs.Entry.{entry}
 use Rattle.rules.specs.Verdict.{refusalNumber, refusalFirst, refusalSecond}
 use Rattle.rules.specs.Read.{readAll, resultOf, listAfter}
-use Rattle.promises.specs.Clocks.{Ticking}
+use Rattle.clock.specs.declared.Ticked.the-variants.{TooLarge}
+use Rattle.clock.specs.Ticked.{tickedNumber}
+use Rattle.promises.specs.Clocks.{Ticking, NeedsMore}
 use Rattle.promises.specs.Edition.{leave}
 use Rattle.promises.specs.Missing.{Lost, missed, Good}
 
@@ -79,12 +81,15 @@ pub record Demand1 (x b : List ℕ) (c : Call) : Type 0 where
   pub untouched : drop (wordsPerEntry * c .result .entries) (c .after) ≡ cameBehind (c .result .entries) c
 
 -- Demand 2: list and verdict are the rules' own; and each clock in the list is the least value, not below the last one in that packet, that
--- ends in the stamp's bits, and below 2 to the 64. That the rules' update and bits are the standard's is `AsStandard`
+-- ends in the stamp's bits, and below 2 to the 64; a stamp is refused where that value needs more. That the rules' update and bits are the
+-- standard's is `AsStandard`
 
 pub record Demand2 (x b : List ℕ) (c : Call) : Type 0 where
   pub rules : Contract x b c
   -- the first entry is a packet's: what stands before it does not count
   pub clocks : (p : Entry) → Ticking 0 p (listedBy c)
+  -- "clock above 64 bits" (36)
+  pub too-large : c .result .number ≡ tickedNumber TooLarge → NeedsMore (listedBy c) (c .result .place)
 
 -- Demand 3: of one stream, a call by a table x and a call by what stays of it, with lists of one length
 
@@ -131,7 +136,7 @@ pub record Demands : Type 0 where
   pub demand-3 : (x x′ b : List ℕ) (c d : Call) → Contract x b c → Contract x′ b d → Demand3Calls x x′ c d
   pub less-room : (x x′ b : List ℕ) (c d : Call) → Contract x b c → Contract x′ b d → LessRoomCalls x x′ c d
 
--- and of one call, and of two of one stream, as the functions in src/ ensure it
+-- and of one call, and of two of one stream, as the functions of `promises_calls` ensure it
 pub record OneCall (x b : List ℕ) (c : Call) : Type 0 where
   pub demand-1 : Demand1 x b c
   pub demand-2 : Demand2 x b c
