@@ -64,7 +64,7 @@ advance-low c l v =
 some-some : (a b : ℕ) → some a ≡ some b → a ≡ b
 some-some a b h = cc
 
-after-least : (c l v n : ℕ) → clockAfter c l v ≡ some n → Least c l (v % 2 ^ l) n × (n < 2 ^ 64)
+pub after-least : (c l v n : ℕ) → clockAfter c l v ≡ some n → Least c l (v % 2 ^ l) n × (n < 2 ^ 64)
 unfolding clockAfter
 after-least c l v n h = by (ltb (c + advance c l v) (2 ^ 64)) refl h
   where
@@ -76,7 +76,7 @@ after-least c l v n h = by (ltb (c + advance c l v) (2 ^ 64)) refl h
     by false e k = let z : _≡_ {A = ℕ} 0 1 = cc in absurd (omega arith)
 
 -- and where there is none, the least value does not fit
-after-none : (c l v : ℕ) → clockAfter c l v ≡ none → Least c l (v % 2 ^ l) (c + advance c l v) × (2 ^ 64 ≤ c + advance c l v)
+pub after-none : (c l v : ℕ) → clockAfter c l v ≡ none → Least c l (v % 2 ^ l) (c + advance c l v) × (2 ^ 64 ≤ c + advance c l v)
 unfolding clockAfter
 after-none c l v h = by (ltb (c + advance c l v) (2 ^ 64)) refl h
   where

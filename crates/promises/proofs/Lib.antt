@@ -28,3 +28,4 @@ mod OnlyRan
 mod Cases
 mod Rejected
 mod Standard
+mod Numbers

@@ -10,3 +10,4 @@ pub mod Laws
 pub mod Cases
 pub mod Rejected
 pub mod Standard
+pub mod Numbers

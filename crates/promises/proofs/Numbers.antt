@@ -1,0 +1,105 @@
+-- The rules refuse by the paper's numbers for the answers: a field that gets to its bytes does as the answer says. In order: fields;
+-- stamps.
+use mathlib.Core.Path.{_≡_, refl, sym, subst, _∙_}
+use mathlib.Core.Logic.{_↔_}
+use Prim.Native.Nat.{ℕ, _+_, _%_, _^_, _≤_}
+use native.Mathlib.Omega.{arith}
+use mathlib.Core.List.{[], _∷_}
+use mathlib.Core.Bool.{Bool, false}
+use mathlib.Core.Option.{Option, none, some}
+use borrow.Author.Tests.{le-ltb}
+use Rattle.rules.specs.declared.Entry.{Entry}
+use Rattle.rules.specs.declared.Content.{Content}
+use Rattle.rules.specs.declared.Content.the-variants.{Unsigned, Signed}
+use Rattle.rules.specs.declared.Leb.{Leb}
+use Rattle.rules.specs.declared.Leb.the-variants.{Value, Past, Large}
+use Rattle.rules.specs.declared.Ended.{Ended}
+use Rattle.rules.specs.declared.Ended.the-variants.{After, Never}
+use Rattle.rules.specs.declared.Refusal.{Refusal}
+use Rattle.rules.specs.declared.Refusal.the-variants.{PastBound, LebTooLarge, NoZeroByte, ClockTooLarge}
+use Rattle.rules.specs.Leb128.{lebUnsigned, lebSigned}
+use Rattle.rules.specs.Clock.{clockAfter}
+use Rattle.rules.specs.Text.{zeroAt}
+use Rattle.rules.specs.Class.{Role, noRole}
+use Rattle.rules.specs.Verdict.{refusalNumber}
+use Rattle.rules.specs.Step.{State, Out, stop, go, Step, onto, after, _⨾_, refuse, check, due, listed, pass}
+use Rattle.rules.specs.Field.{Env, aligned, fit, ahead, field, newClock, role, readLeb, readZero, read}
+use Rattle.facts.proofs.Steps.{onto-nil}
+use Rattle.leb128.specs.Answer.{lebNumber}
+use Rattle.clock.specs.Ticked.{tickedOf, tickedNumber}
+use Rattle.clock.specs.Least.{Least}
+use Rattle.clock.proofs.Least.{new-clock}
+use Rattle.text.specs.Number.{endedNumber}
+use Rattle.promises.specs.Numbers.{Lists, ByNumber, AtBytes, Numbers}
+use Rattle.promises.proofs.Clocks.{after-least, after-none}
+
+-- Fields
+
+check-passed : (t : State → Bool) (r : Refusal) (m : Step) (s : State) → t s ≡ false → (check t r ⨾ m) s ≡ m s
+unfolding check _⨾_ pass after
+check-passed t r m s h = rw (h, check) (onto-nil (m s))
+
+at-bytes : (e : Env) (m : Step) (s : State) → AtBytes e s → (due ⨾ fit e 8 0 ⨾ m) s ≡ m s
+unfolding due fit
+at-bytes e m s h =
+    check-passed _ _ _ s (le-ltb (s .room) 4 (h .room))
+    ∙ check-passed _ _ m s (le-ltb (e .bound .0) ((aligned e 8 s) .0 + 0) (omega (arith, h .within)))
+
+-- an entry is listed, whatever comes behind it
+lists-onto : (x : Entry) (o : Out) → Lists (onto (x ∷ []) o)
+unfolding onto
+lists-onto x (stop es v) = tt
+lists-onto x (go es s) = tt
+
+by-zero : (s : State) (o : Out) → Lists o → ByNumber 0 (s .place) o
+by-zero s o h = record { lists = λ e. h; refuses = λ n. absurd (n refl) }
+
+by-refuse : (r : Refusal) (s : State) → (refusalNumber r ≡ 0 → ⊥) → ByNumber (refusalNumber r) (s .place) (refuse r s)
+unfolding refuse
+by-refuse r s h = record { lists = λ e. absurd (h e); refuses = λ n. record { why = r; number = refl; stopped = refl } }
+
+by-leb : (e : Env) (k : ℕ) (c : ℕ → Content) (i : ℕ) (r : Role) (x : Leb) (s : State)
+    → ByNumber (lebNumber x) (s .place) (readLeb e k c i r x s)
+unfolding readLeb lebNumber field _⨾_ listed after
+by-leb e k c i r (Value v n) s = by-zero s _ (lists-onto _ _)
+by-leb e k c i r Past s = by-refuse PastBound s (unfold refusalNumber in λ q. omega arith)
+by-leb e k c i r Large s = by-refuse LebTooLarge s (unfold refusalNumber in λ q. omega arith)
+
+by-zeroByte : (e : Env) (x : Ended) (s : State) → ByNumber (endedNumber x) (s .place) (readZero e x s)
+unfolding readZero endedNumber field listed
+by-zeroByte e (After n) s = by-zero s _ tt
+by-zeroByte e Never s = by-refuse NoZeroByte s (unfold refusalNumber in λ q. omega arith)
+
+-- Stamps
+
+by-clock : (l : ℕ) (o : Option ℕ) (s : State) → ByNumber (tickedNumber (tickedOf o)) (s .place) (newClock l o s)
+unfolding newClock tickedNumber tickedOf _⨾_ listed after
+by-clock l none s = by-refuse ClockTooLarge s (unfold refusalNumber in λ q. omega arith)
+by-clock l (some c) s = by-zero s _ (lists-onto _ _)
+
+needs-more : (c l v n : ℕ) → Least c l (v % 2 ^ l) n → (tickedNumber (tickedOf (clockAfter c l v)) ≡ 36) ↔ (2 ^ 64 ≤ n)
+needs-more c l v n h = by (clockAfter c l v) refl
+  where
+    by : (o : Option ℕ) → clockAfter c l v ≡ o → (tickedNumber (tickedOf o) ≡ 36) ↔ (2 ^ 64 ≤ n)
+    by none e = unfold tickedOf tickedNumber refusalNumber in
+        let x = after-none c l v e in
+        ((λ q. omega (arith, new-clock .once h (x .0), x .1)), λ q. refl)
+    by (some m) e = unfold tickedOf tickedNumber refusalNumber in
+        let x = after-least c l v m e in
+        ((λ q. absurd (omega arith)), λ q. absurd (omega (arith, new-clock .once h (x .0), x .1)))
+
+pub numbers : Numbers
+unfolding read role
+numbers = record {
+  leb-past = unfold lebNumber refusalNumber in refl;
+  leb-large = unfold lebNumber refusalNumber in refl;
+  zero-never = unfold endedNumber refusalNumber in refl;
+  clock-large = unfold tickedNumber refusalNumber in refl;
+  leb = λ e i r s h. subst (ByNumber _ _) (sym (at-bytes e _ s h)) (by-leb e 21 Unsigned i r (lebUnsigned (ahead e (aligned e 8 s))) s);
+  signed-leb = λ e i s h.
+      subst (ByNumber _ _) (sym (at-bytes e _ s h)) (by-leb e 22 Signed i noRole (lebSigned (ahead e (aligned e 8 s))) s);
+  zero-byte = λ e s h. subst (ByNumber _ _) (sym (at-bytes e _ s h)) (by-zeroByte e (zeroAt (ahead e (aligned e 8 s))) s);
+  stamp = λ l v s h. unfold due in
+      subst (ByNumber _ _) (sym (check-passed _ _ _ s (le-ltb (s .room) 4 h))) (by-clock l (clockAfter (s .clock) l v) s);
+  too-large = needs-more;
+}

@@ -1,0 +1,67 @@
+-- Document 01's numbers for answers that are enums: by them the rules refuse a LEB128 number, a string and a stamp, and by nothing else
+-- where they are 0. In order: what a number says of an outcome; when a field gets so far; the numbers.
+use mathlib.Core.Path.{_≡_}
+use mathlib.Core.Logic.{_↔_}
+use Prim.Native.Nat.{ℕ, _%_, _^_, _≤_}
+use mathlib.Core.List.{[], _∷_}
+use Rattle.rules.specs.declared.BitPlace.{BitPlace}
+use Rattle.rules.specs.declared.Refusal.{Refusal}
+use Rattle.rules.specs.declared.Leb.the-variants.{Past, Large}
+use Rattle.rules.specs.declared.Ended.the-variants.{Never}
+use Rattle.rules.specs.Limits.{wordsPerEntry}
+use Rattle.rules.specs.Leb128.{lebUnsigned, lebSigned}
+use Rattle.rules.specs.Clock.{clockAfter}
+use Rattle.rules.specs.Text.{zeroAt}
+use Rattle.rules.specs.Class.{Role, clock, leb128, signedLeb128, string}
+use Rattle.rules.specs.Verdict.{stopAt, refusalNumber}
+use Rattle.rules.specs.Step.{State, Out, stop, go}
+use Rattle.rules.specs.Field.{Env, aligned, ahead, role, read}
+use Rattle.leb128.specs.Answer.{lebNumber}
+use Rattle.clock.specs.declared.Ticked.the-variants.{TooLarge}
+use Rattle.clock.specs.Ticked.{tickedOf, tickedNumber}
+use Rattle.clock.specs.Least.{Least}
+use Rattle.text.specs.Number.{endedNumber}
+
+-- an entry is listed
+abbrev pub Lists : Out → Type 0
+Lists (stop [] v) = ⊥
+Lists (stop (x ∷ es) v) = Unit {0}
+Lists (go [] s) = ⊥
+Lists (go (x ∷ es) s) = Unit {0}
+
+-- refused by a number at a place, with no entry
+pub record RefusedBy (n : ℕ) (p : BitPlace) (o : Out) : Type 0 where
+  pub why : Refusal
+  pub number : refusalNumber why ≡ n
+  pub stopped : o ≡ stop [] (stopAt why p)
+
+-- what a number says of the outcome of a field, or of a role, that began at a place: 0, that its entry is listed; any other, that it is
+-- refused there by this number
+pub record ByNumber (n : ℕ) (p : BitPlace) (o : Out) : Type 0 where
+  pub lists : n ≡ 0 → Lists o
+  pub refuses : (n ≡ 0 → ⊥) → RefusedBy n p o
+
+-- a field of kinds 21 to 23 gets as far as its bytes: there is room for its entry (40), and its alignment is within the bound (22)
+pub record AtBytes (e : Env) (s : State) : Type 0 where
+  pub room : wordsPerEntry ≤ s .room
+  pub within : (aligned e 8 s) .0 ≤ e .bound .0
+
+pub record Numbers : Type 0 where
+  -- the numbers themselves (Refusing a stream)
+  pub leb-past : lebNumber Past ≡ 22
+  pub leb-large : lebNumber Large ≡ 24
+  pub zero-never : endedNumber Never ≡ 25
+  pub clock-large : tickedNumber TooLarge ≡ 36
+  -- a LEB128 number, kinds 21 and 22
+  pub leb : (e : Env) (i : ℕ) (r : Role) (s : State) → AtBytes e s
+      → ByNumber (lebNumber (lebUnsigned (ahead e (aligned e 8 s)))) (s .place) (read e (leb128 i r) s)
+  pub signed-leb : (e : Env) (i : ℕ) (s : State) → AtBytes e s
+      → ByNumber (lebNumber (lebSigned (ahead e (aligned e 8 s)))) (s .place) (read e (signedLeb128 i) s)
+  -- a string that a zero byte ends, kind 23
+  pub zero-byte : (e : Env) (s : State) → AtBytes e s
+      → ByNumber (endedNumber (zeroAt (ahead e (aligned e 8 s)))) (s .place) (read e string s)
+  -- a stamp v of l bits, where there is room for its entry
+  pub stamp : (l v : ℕ) (s : State) → wordsPerEntry ≤ s .room
+      → ByNumber (tickedNumber (tickedOf (clockAfter (s .clock) l v))) (s .place) (role clock l v s)
+  -- "refused if it needs more than 64": just where the least value, not below the clock, that ends in the stamp's bits does
+  pub too-large : (c l v n : ℕ) → Least c l (v % 2 ^ l) n → (tickedNumber (tickedOf (clockAfter c l v)) ≡ 36) ↔ (2 ^ 64 ≤ n)
