@@ -26,6 +26,7 @@ pub mod Promised
 mod Only
 mod OnlyRan
 mod Cases
+mod Counted
 mod Rejected
 mod Standard
 mod Numbers

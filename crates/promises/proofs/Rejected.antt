@@ -1,13 +1,15 @@
--- Readers that are no good fail on the figure's table and stream: by computation.
-use mathlib.Core.Path.{_≡_, refl, sym, ap, _∙_}
+-- Readers that are no good fail on the figure's table and stream: by computation. Those that make up a count fail wherever they do.
+use mathlib.Core.Path.{_≡_, refl, sym, ap, subst, _∙_}
 use mathlib.Core.Logic.{_⊎_, inl, inr}
-use Prim.Native.Nat.{ℕ}
+use Prim.Native.Nat.{ℕ, _*_}
 use native.Mathlib.Omega.{arith}
 use mathlib.Core.List.{List, [], _∷_}
 use mathlib.Core.Bool.{not, true}
 use mathlib.Core.Option.{none}
-use lib.ListN.{length, getD, replicate}
+use lib.ListN.{length, getD, drop, replicate}
+use lib.Seq.{getD-drop}
 use lib.Dec.{eqb}
+use Rattle.rules.specs.Limits.{wordsPerEntry}
 use Rattle.rules.specs.Verdict.{numberOf}
 use Rattle.rules.specs.Table.{Table}
 use Rattle.rules.specs.Parse.{Parsed, bad, good, parse}
@@ -17,8 +19,11 @@ use Rattle.promises.specs.Figures.{table40, stream1}
 use Rattle.promises.specs.Cases.{numbered}
 use Rattle.promises.specs.Edition.{keep, both, keepStreams, keepEvents}
 use Rattle.promises.specs.Missing.{missed, shortened, goneStream, goneEvent, firstLost, lost, front, later, under}
-use Rattle.promises.specs.Rejected.{Reader, Meets, Refusing, Fixed, Silent, AtOnce, WholeOrNone, Demand3By, nearestEvent, nearest, Rejected}
+use Rattle.promises.specs.Rejected.{Reader, Meets, Refusing, Fixed, Silent, AtOnce, WholeOrNone}
+use Rattle.promises.specs.Rejected.{shown, MadeUpEntries, Counting, MadeUpEvents, Demand3By, nearestEvent, nearest, Rejected}
 use Rattle.promises.proofs.Exact.{left-out}
+use Rattle.promises.proofs.Calls.{lists-entries}
+use Rattle.promises.proofs.Counted.{reading-counts, reading-shown}
 
 -- lists of 32 words and of 31
 abbrev zeros : ℕ → List ℕ
@@ -97,6 +102,16 @@ module _ (f : Reader) (m : Meets f) where
       by (inl p) = let q = sym seven-31 ∙ p ∙ eight in omega arith
       by (inr p) = let q = sym seven-31 ∙ p in omega arith
 
+  no-made-up-entries : (x b ws : List ℕ) → MadeUpEntries f x b ws → ⊥
+  unfolding resultOf listAfter
+  no-made-up-entries x b ws h =
+      let n = wordsPerEntry * length ((readAll x b (length ws)) .entries) in
+      let z : getD (drop n ws) 0 0 ≡ 0 = getD-drop n ws 0 0 ∙ h .zeros _ in
+      h .other (ap (λ a. a .entries) (m x b ws .result) ∙ sym (reading-shown x b (length ws) _ z) ∙ ap shown (sym (m x b ws .list)))
+
+  no-made-up-events : (x b ws : List ℕ) → MadeUpEvents f x b ws → ⊥
+  no-made-up-events x b ws h = h (subst (Counting 0) (sym (lists-entries x b _ (m x b ws))) (reading-counts x b (length ws)))
+
 -- Event classes 0 and 2, and an event that says 1: the nearest is 2. Where that is left out, no entry names it, and yet the short reading is
 -- refused
 
@@ -140,6 +155,8 @@ rejected = record {
   silent = λ f h m. no-silent f m h;
   at-once = λ f h m. no-at-once f m h;
   whole-or-none = λ f h m. no-whole f m h;
+  made-up-entries = λ f x b ws h m. no-made-up-entries f m x b ws h;
+  made-up-events = λ f x b ws h m. no-made-up-events f m x b ws h;
   exact-id = λ ks ke x t y p b room. left-out ks ke t 0 b room;
   nearest-id = no-nearest;
 }
