@@ -30,3 +30,5 @@ mod Counted
 mod Rejected
 mod Standard
 mod Numbers
+mod Parts
+pub mod Promises

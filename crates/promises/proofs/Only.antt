@@ -234,8 +234,9 @@ opening-same k r r′ p q =
 
 pub no-slack : NoSlack
 no-slack = record {
-  equation = λ v. record { same = λ r r′ p q. p ∙ sym q };
-  bounded = λ v P. record { same = λ r r′ p q. p .0 ∙ sym (q .0) };
+  equation = λ a v. record { same = λ r r′ p q. p ∙ sym q };
+  below = λ v n. record { same = λ r r′ p q. p .0 ∙ sym (q .0) };
+  at-most = λ v n. record { same = λ r r′ p q. p .0 ∙ sym (q .0) };
   clock = λ n. record { same = λ r r′ p q. λ i. record { value = (p ∙ sym q) i } };
   reading = λ x b ws. record { same = λ r r′ vs vs′ p q. (p .result ∙ sym (q .result), p .list ∙ sym (q .list)) };
   once = λ x b ws. record {

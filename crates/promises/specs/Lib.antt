@@ -4,6 +4,7 @@ pub mod Edition
 pub mod Missing
 pub mod Clocks
 pub mod Demands
+pub mod Results
 pub mod Only
 pub mod OnlyRan
 pub mod Laws
@@ -11,3 +12,5 @@ pub mod Cases
 pub mod Rejected
 pub mod Standard
 pub mod Numbers
+pub mod Parts
+pub mod Promises

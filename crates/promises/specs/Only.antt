@@ -1,7 +1,7 @@
 -- No slack: any two outcomes that a function's statement allows are the same. In order: what that means of a statement; the statements of
 -- the public functions, shape by shape. docs/NO-SLACK.md says which function has which shape.
 use mathlib.Core.Path.{_≡_}
-use Prim.Native.Nat.{ℕ}
+use Prim.Native.Nat.{ℕ, _<_, _≤_}
 use mathlib.Core.List.{List}
 use Rattle.rules.specs.declared.Content.{Content}
 use Rattle.rules.specs.Slots.{Slots}
@@ -17,6 +17,7 @@ use Rattle.class_layout.specs.Sizes.{Opens}
 use Rattle.class_layout.specs.Notes.{Notes, Made, Reaches}
 use Rattle.promises.specs.declared.Both.{Both}
 use Rattle.promises.specs.Demands.{call, Contract, OneCall, TwoCalls}
+use Rattle.promises.specs.Results.{Answer, Of}
 
 -- a statement of a result that allows one
 pub record Only {A : Type 0} (S : A → Type 0) : Type 0 where
@@ -26,10 +27,11 @@ pub record Only {A : Type 0} (S : A → Type 0) : Type 0 where
 pub record OnlyBoth {A : Type 0} (S : A → List ℕ → Type 0) : Type 0 where
   pub same : (r r′ : A) (ws ws′ : List ℕ) → S r ws → S r′ ws′ → (r ≡ r′) × (ws ≡ ws′)
 
-pub record NoSlack : Type 1 where
-  -- `r ≡ …`, and the same beside a bound
-  pub equation : {A : Type 0} (v : A) → Only (λ r. r ≡ v)
-  pub bounded : {A : Type 0} (v : A) (P : A → Type 0) → Only (λ r. (r ≡ v) × P r)
+pub record NoSlack : Type 0 where
+  -- `r ≡ …`, for each type of result; and for numbers the same beside a bound
+  pub equation : (a : Answer) (v : Of a) → Only {A = Of a} (λ r. r ≡ v)
+  pub below : (v n : ℕ) → Only (λ r. (r ≡ v) × (r < n))
+  pub at-most : (v n : ℕ) → Only (λ r. (r ≡ v) × (r ≤ n))
   -- a struct of one field
   pub clock : (n : ℕ) → Only {A = Clock} (λ r. r .value ≡ n)
   -- `read`, and the calls of it that promise

@@ -1,13 +1,15 @@
-// The reader called as a host would, and what is promised of the calls as their contract: the demands of `promises`. The functions add nothing
-// to the reader.
+// The reader called as a host would, and what is promised as the contract of the calls: the demands, of the call itself; and beside them
+// all the promises, so that none is without its proof. The functions add nothing to the reader.
 use promises::Both;
 use reader::read;
 use rules::Result;
 ghost use Rattle.promises.specs.Demands.{call, OneCall, TwoCalls};
+ghost use Rattle.promises.specs.Promises.{Promises};
 
-// Reads a stream by a table. Demands 1 and 2.
+// Reads a stream by a table. Demands 1 and 2, and whatever else is promised.
 pub fn read_once(table: &[u8], stream: &[u8], list: &mut [u64]) -> Result
     ensures { λ r. ⌜ OneCall (now (table .entry)) (now (stream .entry)) (call r (now (list .entry)) (now (list .exit))) ⌝ }
+    ensures { λ _. ⌜ Promises ⌝ }
 {
     read(table, stream, list)
 }

@@ -1,0 +1,35 @@
+-- Every promise, each by its proof.
+use Rattle.promises.specs.Promises.{Promises}
+use Rattle.promises.proofs.Edited.{editions}
+use Rattle.promises.proofs.Figures.{figures}
+use Rattle.promises.proofs.Leave.{nothing-left}
+use Rattle.promises.proofs.Exact.{demand-3}
+use Rattle.promises.proofs.Finds.{demand-3-figures}
+use Rattle.promises.proofs.Laws.{the-laws}
+use Rattle.promises.proofs.Promised.{demands}
+use Rattle.promises.proofs.Only.{no-slack}
+use Rattle.promises.proofs.OnlyRan.{no-slack-ran}
+use Rattle.promises.proofs.Cases.{cases}
+use Rattle.promises.proofs.Rejected.{rejected}
+use Rattle.promises.proofs.Standard.{as-standard}
+use Rattle.promises.proofs.Numbers.{numbers}
+use Rattle.promises.proofs.Parts.{check-tied, table-stands}
+
+pub all-promises : Promises
+all-promises = record {
+  demands = demands;
+  as-standard = as-standard;
+  numbers = numbers;
+  demand-3 = demand-3;
+  nothing-left = nothing-left;
+  editions = editions;
+  demand-3-figures = demand-3-figures;
+  rejected = rejected;
+  no-slack = no-slack;
+  no-slack-ran = no-slack-ran;
+  figures = figures;
+  cases = cases;
+  the-laws = the-laws;
+  check-tied = check-tied;
+  table-stands = table-stands;
+}

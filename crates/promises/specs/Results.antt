@@ -1,0 +1,59 @@
+-- What public functions answer by an equation: the types of their results, each once. A statement over all types would not be a fact that a
+-- contract can hold; these are all that there are (tools/pub-functions holds them to the sources).
+use Prim.Native.Nat.{ℕ}
+use mathlib.Core.List.{List}
+use mathlib.Core.Bool.{Bool}
+use Rattle.rules.specs.declared.BitPlace.{BitPlace}
+use Rattle.rules.specs.declared.ByteLength.{ByteLength}
+use Rattle.rules.specs.declared.Leb.{Leb}
+use Rattle.rules.specs.declared.Ended.{Ended}
+use Rattle.rules.specs.declared.Said.{Said}
+use Rattle.rules.specs.declared.Checked.{Checked}
+use Rattle.rules.specs.declared.Result.{Result}
+use Rattle.clock.specs.declared.Ticked.{Ticked}
+use Rattle.slots.specs.declared.Length.{Length}
+use Rattle.slots.specs.declared.Number.{Number}
+use Rattle.listing.specs.declared.State.{State}
+use Rattle.table_offsets.specs.declared.Body.{Body}
+use Rattle.table_offsets.specs.declared.Walk.{Walk}
+use Rattle.table_offsets.specs.declared.Says.{Says}
+use Rattle.class_layout.specs.declared.Found.{Found as TablePlace}
+use Rattle.leaf_find_number.specs.declared.Frame.{Frame}
+use Rattle.leaf_find_number.specs.declared.find.Found.{Found}
+use Rattle.leaf_after.specs.declared.Seen.{Seen}
+use Rattle.field_choice.specs.declared.Choice.{Choice}
+use Rattle.field_inside.specs.declared.look.Inside.{Inside}
+use Rattle.outcome.specs.declared.Ran.{Ran}
+
+pub data Answer : Type 0 where
+  number test list : Answer
+  bitPlace byteLength leb ended said checked result : Answer
+  ticked length slotNumber state : Answer
+  body walk says tablePlace : Answer
+  frame found seen choice inside ran : Answer
+
+unfoldable pub Of : Answer → Type 0
+Of number = ℕ
+Of test = Bool
+Of list = List ℕ
+Of bitPlace = BitPlace
+Of byteLength = ByteLength
+Of leb = Leb
+Of ended = Ended
+Of said = Said
+Of checked = Checked
+Of result = Result
+Of ticked = Ticked
+Of length = Length
+Of slotNumber = Number
+Of state = State
+Of body = Body
+Of walk = Walk
+Of says = Says
+Of tablePlace = TablePlace
+Of frame = Frame
+Of found = Found
+Of seen = Seen
+Of choice = Choice
+Of inside = Inside
+Of ran = Ran
