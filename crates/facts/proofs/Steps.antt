@@ -9,6 +9,11 @@ unfoldable pub listOf : Out → List Entry
 listOf (stop es v) = es
 listOf (go es s) = es
 
+pub list-onto : (es : List Entry) (o : Out) → listOf (onto es o) ≡ es ++ listOf o
+unfolding listOf onto
+list-onto es (stop fs v) = refl
+list-onto es (go fs s) = refl
+
 pub onto-nil : (o : Out) → onto [] o ≡ o
 unfolding onto
 onto-nil (stop es v) = refl

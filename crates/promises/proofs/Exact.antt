@@ -436,12 +436,6 @@ module _ (ks : ℕ → Bool) (ke : ℕ → ℕ → Bool) (t : Table) where
   left-out j b room =
       sim-from (goneStream ks) (goneEvent ks ke) (asked t) (findStream (keepStreams ks (t .streams))) (findEvent (keepEvents (both ks ke) (t .events))) left-less j b room
 
-  -- the id that the search starts with is not used: with any other the short reading comes out the same
-  pub any-start : (j : ℕ) (b : List ℕ) (room : ℕ)
-      → shortened (firstLost (goneStream ks) (goneEvent ks ke) j ((readStream (asked t) b room) .entries)) (readStream (asked t) b room)
-      ≡ shortened (firstLost (goneStream ks) (goneEvent ks ke) 0 ((readStream (asked t) b room) .entries)) (readStream (asked t) b room)
-  any-start j b room = sym (left-out j b room) ∙ left-out 0 b room
-
 -- an accepted table says something
 pub record Says (x : List ℕ) : Type 0 where
   pub table : Table

@@ -1,12 +1,13 @@
 -- The rules refuse by the paper's numbers for the answers: a field that gets to its bytes does as the answer says. In order: fields;
--- stamps.
+-- stamps; records.
 use mathlib.Core.Path.{_≡_, refl, sym, subst, _∙_}
 use mathlib.Core.Logic.{_↔_}
-use Prim.Native.Nat.{ℕ, _+_, _%_, _^_, _≤_}
+use Prim.Native.Nat.{ℕ, zero, suc, _+_, _%_, _^_, _≤_}
 use native.Mathlib.Omega.{arith}
-use mathlib.Core.List.{[], _∷_}
-use mathlib.Core.Bool.{Bool, false}
+use mathlib.Core.List.{List, [], _∷_}
+use mathlib.Core.Bool.{Bool, true, false, not, _&&_, _||_}
 use mathlib.Core.Option.{Option, none, some}
+use lib.ListN.{getD}
 use borrow.Author.Tests.{le-ltb}
 use Rattle.rules.specs.declared.Entry.{Entry}
 use Rattle.rules.specs.declared.Content.{Content}
@@ -17,6 +18,8 @@ use Rattle.rules.specs.declared.Ended.{Ended}
 use Rattle.rules.specs.declared.Ended.the-variants.{After, Never}
 use Rattle.rules.specs.declared.Refusal.{Refusal}
 use Rattle.rules.specs.declared.Refusal.the-variants.{PastBound, LebTooLarge, NoZeroByte, ClockTooLarge}
+use Rattle.rules.specs.Record.{Record, unknown, fragment, root, class, range, option, Layout, no, bitsLayout, layouts, layoutOf, recordOf, u8}
+use Rattle.rules.specs.Faults.{Seen, firstFault, recordFault}
 use Rattle.rules.specs.Leb128.{lebUnsigned, lebSigned}
 use Rattle.rules.specs.Clock.{clockAfter}
 use Rattle.rules.specs.Text.{zeroAt}
@@ -24,12 +27,15 @@ use Rattle.rules.specs.Class.{Role, noRole}
 use Rattle.rules.specs.Verdict.{refusalNumber}
 use Rattle.rules.specs.Step.{State, Out, stop, go, Step, onto, after, _⨾_, refuse, check, due, listed, pass}
 use Rattle.rules.specs.Field.{Env, aligned, fit, ahead, field, newClock, role, readLeb, readZero, read}
+use Rattle.facts.proofs.Truth.{clash, and-left, and-right}
 use Rattle.facts.proofs.Steps.{onto-nil}
 use Rattle.leb128.specs.Answer.{lebNumber}
 use Rattle.clock.specs.Ticked.{tickedOf, tickedNumber}
 use Rattle.clock.specs.Least.{Least}
 use Rattle.clock.proofs.Least.{new-clock}
 use Rattle.text.specs.Number.{endedNumber}
+use Rattle.table_offsets.specs.declared.Body.the-variants.{Bytes, Unknown}
+use Rattle.table_offsets.specs.Bodies.{known, bodyIn, bodyOf, bodyNumber}
 use Rattle.promises.specs.Numbers.{Lists, ByNumber, AtBytes, Numbers}
 use Rattle.promises.proofs.Clocks.{after-least, after-none}
 
@@ -88,6 +94,54 @@ needs-more c l v n h = by (clockAfter c l v) refl
         let x = after-least c l v m e in
         ((λ q. absurd (omega arith)), λ q. absurd (omega (arith, new-clock .once h (x .0), x .1)))
 
+-- Records
+
+-- no byte of a body gives a row a kind that it has not
+without : List ℕ → Layout → Bool
+without x row = known (row .1 []) || not (known (row .1 x))
+
+every : (Layout → Bool) → List Layout → Bool
+every p [] = true
+every p (row ∷ rows) = p row && every p rows
+
+every-at : (p : Layout → Bool) (rows : List Layout) → every p rows ≡ true → p no ≡ true → (k : ℕ) → p (getD rows k no) ≡ true
+unfolding every
+every-at p [] h n k = n
+every-at p (row ∷ rows) h n zero = and-left (p row) _ h
+every-at p (row ∷ rows) h n (suc k) = every-at p rows (and-right (p row) _ h) n k
+
+all-without : (x : List ℕ) → every (without x) layouts ≡ true
+unfolding every without layouts bitsLayout known no
+all-without x = refl
+
+unknown-only : (r : Record) → known r ≡ false → r ≡ unknown
+unfolding known
+unknown-only unknown h = refl
+unknown-only (fragment f) h = absurd (clash (sym h))
+unknown-only (root n) h = absurd (clash (sym h))
+unknown-only (class s) h = absurd (clash (sym h))
+unknown-only (range g l h) e = absurd (clash (sym e))
+unknown-only (option n) h = absurd (clash (sym h))
+
+-- without a body there is no kind, whatever bytes come
+no-body : (row : Layout) (x : List ℕ) → without x row ≡ true → bodyIn row ≡ Unknown → known (row .1 x) ≡ false
+unfolding without bodyIn
+no-body row x w h = by (known (row .1 [])) (known (row .1 x)) refl refl
+  where
+    by : (a b : Bool) → known (row .1 []) ≡ a → known (row .1 x) ≡ b → b ≡ false
+    by true b p q = let k : Bytes (row .0) ≡ Unknown = rw (p, bodyIn) at h in let z : _≡_ {A = ℕ} 0 1 = cc in absurd (omega arith)
+    by false true p q = let k : false ≡ true = rw (p, q) at w in absurd (clash k)
+    by false false p q = refl
+
+no-kind : (x : List ℕ) → bodyOf (u8 x 0) ≡ Unknown → recordOf x ≡ unknown
+unfolding bodyOf recordOf layoutOf without no known
+no-kind x h = unknown-only _ (no-body _ _ (every-at (without _) layouts (all-without _) refl (u8 x 0)) h)
+
+by-kind : (x : List ℕ) → bodyOf (u8 x 0) ≡ Unknown → (short : Bool)
+    → (firstFault short (recordOf x) ≡ bodyNumber Unknown) × ((q : Seen) (m : ℕ) → recordFault short q (recordOf x) m ≡ bodyNumber Unknown)
+unfolding firstFault recordFault bodyNumber
+by-kind x h short = rw (no-kind x h) (refl, λ q m. refl)
+
 pub numbers : Numbers
 unfolding read role
 numbers = record {
@@ -102,4 +156,6 @@ numbers = record {
   stamp = λ l v s h. unfold due in
       subst (ByNumber _ _) (sym (check-passed _ _ _ s (le-ltb (s .room) 4 h))) (by-clock l (clockAfter (s .clock) l v) s);
   too-large = needs-more;
+  kind-unknown = unfold bodyNumber in refl;
+  kind = by-kind;
 }

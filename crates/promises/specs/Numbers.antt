@@ -1,14 +1,17 @@
 -- Document 01's numbers for answers that are enums: by them the rules refuse a LEB128 number, a string and a stamp, and by nothing else
--- where they are 0. In order: what a number says of an outcome; when a field gets so far; the numbers.
+-- where they are 0; and a record of no kind. In order: what a number says of an outcome; when a field gets so far; the numbers.
 use mathlib.Core.Path.{_≡_}
 use mathlib.Core.Logic.{_↔_}
 use Prim.Native.Nat.{ℕ, _%_, _^_, _≤_}
-use mathlib.Core.List.{[], _∷_}
+use mathlib.Core.List.{List, [], _∷_}
+use mathlib.Core.Bool.{Bool}
 use Rattle.rules.specs.declared.BitPlace.{BitPlace}
 use Rattle.rules.specs.declared.Refusal.{Refusal}
 use Rattle.rules.specs.declared.Leb.the-variants.{Past, Large}
 use Rattle.rules.specs.declared.Ended.the-variants.{Never}
 use Rattle.rules.specs.Limits.{wordsPerEntry}
+use Rattle.rules.specs.Record.{u8, recordOf}
+use Rattle.rules.specs.Faults.{Seen, firstFault, recordFault}
 use Rattle.rules.specs.Leb128.{lebUnsigned, lebSigned}
 use Rattle.rules.specs.Clock.{clockAfter}
 use Rattle.rules.specs.Text.{zeroAt}
@@ -21,6 +24,8 @@ use Rattle.clock.specs.declared.Ticked.the-variants.{TooLarge}
 use Rattle.clock.specs.Ticked.{tickedOf, tickedNumber}
 use Rattle.clock.specs.Least.{Least}
 use Rattle.text.specs.Number.{endedNumber}
+use Rattle.table_offsets.specs.declared.Body.the-variants.{Unknown}
+use Rattle.table_offsets.specs.Bodies.{bodyOf, bodyNumber}
 
 -- an entry is listed
 abbrev pub Lists : Out → Type 0
@@ -65,3 +70,7 @@ pub record Numbers : Type 0 where
       → ByNumber (tickedNumber (tickedOf (clockAfter (s .clock) l v))) (s .place) (role clock l v s)
   -- "refused if it needs more than 64": just where the least value, not below the clock, that ends in the stamp's bits does
   pub too-large : (c l v n : ℕ) → Least c l (v % 2 ^ l) n → (tickedNumber (tickedOf (clockAfter c l v)) ≡ 36) ↔ (2 ^ 64 ≤ n)
+  -- a record whose kind has no body (Refusing a table), the first one and any other
+  pub kind-unknown : bodyNumber Unknown ≡ 2
+  pub kind : (x : List ℕ) → bodyOf (u8 x 0) ≡ Unknown → (short : Bool)
+      → (firstFault short (recordOf x) ≡ bodyNumber Unknown) × ((q : Seen) (m : ℕ) → recordFault short q (recordOf x) m ≡ bodyNumber Unknown)
