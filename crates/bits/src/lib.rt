@@ -50,7 +50,8 @@ fn number(stream: &[u8], from: u64, width: u64, order: Order) -> u64
     walk(stream, from, width, order)
 }
 
-// The number of the two bytes from a byte on.
+// The number of the two bytes from a byte on; then of four and of eight. The order is asked before a byte is read, and what counts least is
+// read first: so LLVM makes one load of each.
 fn two(stream: &[u8], at: usize, order: Order) -> u64
     requires { ⌜ at + 2 ≤ length (now stream) ⌝ }
     ensures { λ r. ⌜ (r ≡ bits order (now (stream .entry)) (8 * at) 16) × (r < 2 ^ 16) ⌝ }

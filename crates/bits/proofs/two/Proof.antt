@@ -70,13 +70,15 @@ returns : tie.Need-returns
 returns c =
     let low = c .before .before .wide .ensures in
     let high = c .wide2 .ensures in
-    (twice-little _ _ 1 (little c .enum-told .given .1) (one-byte _ _ _ (low .0) (low .1)) (one-byte _ _ _ (high .0) (high .1)), omega arith)
+    let order = little c .enum-told .given .1 in
+    (twice-little _ _ 1 order (one-byte _ _ _ (low .0) (low .1)) (one-byte _ _ _ (high .0) (high .1)), omega arith)
 
 returns-2 : tie.Need-returns-2
 returns-2 c =
     let low = c .before .before .wide3 .ensures in
     let high = c .wide4 .ensures in
-    (twice-big _ _ 1 (big c .enum-told2 .given .1) (one-byte _ _ _ (high .0) (high .1)) (one-byte _ _ _ (low .0) (low .1)), omega arith)
+    let order = big c .enum-told2 .given .1 in
+    (twice-big _ _ 1 order (one-byte _ _ _ (high .0) (high .1)) (one-byte _ _ _ (low .0) (low .1)), omega arith)
 
 pub two-spec : {M : Type 1} → statement M
 two-spec =
