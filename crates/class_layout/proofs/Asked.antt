@@ -16,12 +16,13 @@ use Rattle.rules.specs.Class.{Class}
 use Rattle.rules.specs.Record.{Fragment as Opening, preamble, traceClass, clockClass, streamClass, eventClass, Record, unknown, fragment, root, class, range, option, u8, u64, size, recordOf, behind}
 use Rattle.rules.specs.Table.{Table, findStream, findEvent, asked}
 use Rattle.rules.specs.Parse.{Parsed, bad, good, Parser, then, one, sound, missing, parseRoots, rootNumbers, isTimed, hasUuid, noTable, rootOf, add, parseFragment, parseOpened, parseFragments, parse, checkedOf, checked}
-use Rattle.rules.specs.Faults.{Seen, noneSeen, seen, openFault, firstFault}
+use Rattle.rules.specs.Faults.{Seen, noneSeen, seen, recordFault, openFault, firstFault}
 use Rattle.facts.proofs.Truth.{or-false}
 use Rattle.class_layout.specs.Fragments.{isTrace, isStream, isEvent, firstOf, openingSize, rootsOf, rootPlaces, behindRoots, rootPlace, behindFragment, fragmentsFrom, fragmentsOf, findTraceAt, findStreamAt, findEventAt, mapOption, rootClass, streamClassAt, eventClassAt, uuidAt, headerAt, askedAt, Fragment, AllFragments}
 use Rattle.class_layout.proofs.Records.{preamble-at, trace-at, clock-at, stream-at, event-at}
 use Rattle.facts.proofs.Faults.{pick-false, pick-zero}
 use Rattle.class_layout.proofs.Sound.{bad-good, good-value, then-good, one-good}
+use Rattle.class_layout.proofs.Once.{First, Once, none-once, fragment-once}
 use Rattle.class_layout.proofs.Rooted.{RootsStand, roots-stand, root-class}
 
 module _ (t : List ℕ) where
@@ -144,47 +145,59 @@ module _ (t : List ℕ) where
       let s : 1 ≤ size (drop at t) = unfold size in omega arith in
       record { low = o .low; high = o .high; there = omega (arith, o .bytes); roots = r .wholes; onward = omega (arith, o .bytes, r .onward); within = r .within }
 
-  fragments-stand : (left : ℕ) (q : Seen) (at : ℕ) (T : Table) (y : List ℕ) → at ≤ length t → parseFragments left q (drop at t) ≡ good T y → Tabled (fragmentsFrom left t at) T
+  -- what the table says is had from these fragments, and no two event classes have the same ids
+  abbrev Asks : Seen → Table → List ℕ → Type 0
+  Asks q T os = Tabled os T × Once t q os
+
+  fragments-stand : (left : ℕ) (q : Seen) (at : ℕ) (T : Table) (y : List ℕ) → at ≤ length t → parseFragments left q (drop at t) ≡ good T y
+      → Asks q T (fragmentsFrom left t at)
   unfolding parseFragments fragmentsFrom parseOpened parseFragment openFault behindFragment rootClass rootPlace
-  fragments-stand zero q at T y l e = rw (← good-value e) none-tabled
+  fragments-stand zero q at T y l e = (rw (← good-value e) none-tabled, none-once t q)
   fragments-stand (suc left) q at T y l e =
       by (ltb at (length t)) (λ q at T y l e. fragments-stand left q at T y l e) (rw (missing-at at, parseFragments) at e)
     where
       Rest : Type 0
-      Rest = (q : Seen) (at : ℕ) (T : Table) (y : List ℕ) → at ≤ length t → parseFragments left q (drop at t) ≡ good T y → Tabled (fragmentsFrom left t at) T
+      Rest = (q : Seen) (at : ℕ) (T : Table) (y : List ℕ) → at ≤ length t → parseFragments left q (drop at t) ≡ good T y
+          → Asks q T (fragmentsFrom left t at)
 
-      opening : Rest → (r : Record) → recordOf (drop at t) ≡ r → openFault q r ≡ 0 → at + size (drop at t) ≤ length t
-          → parseOpened q (parseFragments left) r (drop (at + size (drop at t)) t) ≡ good T y → Tabled (at ∷ fragmentsFrom left t (behindFragment t at)) T
-      opening rec unknown r z l k = absurd (omega arith)
-      opening rec (root n) r z l k = absurd (omega arith)
-      opening rec (class s) r z l k = absurd (omega arith)
-      opening rec (range g a b) r z l k = absurd (omega arith)
-      opening rec (option n) r z l k = absurd (omega arith)
-      opening rec (fragment g) r z l k =
+      opening : Rest → (r : Record) → recordOf (drop at t) ≡ r → (b : Bool) → recordFault b q r (openFault q r) ≡ 0
+          → openFault q r ≡ 0 → at + size (drop at t) ≤ length t
+          → parseOpened q (parseFragments left) r (drop (at + size (drop at t)) t) ≡ good T y
+          → Asks q T (at ∷ fragmentsFrom left t (behindFragment t at))
+      opening rec unknown r s c z l k = absurd (omega arith)
+      opening rec (root n) r s c z l k = absurd (omega arith)
+      opening rec (class v) r s c z l k = absurd (omega arith)
+      opening rec (range g a b) r s c z l k = absurd (omega arith)
+      opening rec (option n) r s c z l k = absurd (omega arith)
+      opening rec (fragment g) r u v z l k =
           let o = opened q at g r z in
           let a = then-good (parseRoots (seen q g) (isTimed g) (hasUuid g) (rootsOf (u8 t at)) (drop (rootsAt at) t)) _ T y (rw (o .bytes, o .roots) at k) in
           let b = roots-stand t (seen q g) (isTimed g) (hasUuid g) (rootsOf (u8 t at)) (rootsAt at) (a .value) (a .rest) (omega (arith, o .bytes)) (a .first) in
           let f = fragment-stands at g (a .value) (a .rest) o l b in
           let c = then-good (parseFragments left (seen q g) (drop (behindFragment t at) t)) _ T y (rw (b .rest) at (a .second)) in
-          rw (← good-value (c .second))
-          (added q g at (a .value) _ (c .value) r z f (λ i. root-class t _ _ _ (a .value) (a .rest) i b)
-          (rec (seen q g) (behindFragment t at) (c .value) (c .rest) (f .within) (c .first)))
+          let w = rec (seen q g) (behindFragment t at) (c .value) (c .rest) (f .within) (c .first) in (
+            rw (← good-value (c .second))
+                (added q g at (a .value) _ (c .value) r z f (λ i. root-class t _ _ _ (a .value) (a .rest) i b) (w .0)),
+            fragment-once t u q g _ at _ r v (w .1),
+          )
 
       by : (b : Bool) → Rest
           → elim (not b) [ true ↦ good noTable (drop at t) | false ↦ one q (openFault q) (λ r x. parseOpened q (parseFragments left) r x) (drop at t) ] ≡ good T y
-          → Tabled (elim b [ true ↦ at ∷ fragmentsFrom left t (behindFragment t at) | false ↦ [] ]) T
-      by true rec e = let k = one-good q _ _ t at T y e in opening rec (recordOf (drop at t)) refl (k .fine) (k .there) (k .rest)
-      by false rec e = rw (← good-value e) none-tabled
+          → Asks q T (elim b [ true ↦ at ∷ fragmentsFrom left t (behindFragment t at) | false ↦ [] ])
+      by true rec e =
+          let k = one-good q _ _ t at T y e in
+          opening rec (recordOf (drop at t)) refl _ (k .sound) (k .fine) (k .there) (k .rest)
+      by false rec e = (rw (← good-value e) none-tabled, none-once t q)
 
 -- The table
 
 -- the first record is a preamble
-record First (t : List ℕ) : Type 0 where
+record FirstRecord (t : List ℕ) : Type 0 where
   kind : u8 t 0 ≡ 1
   there : 2 ≤ length t
   onward : behind t ≡ drop 2 t
 
-first-fine : (t : List ℕ) (s : Bool) (r : Record) → ltb (length t) (size t) ≡ s → recordOf t ≡ r → firstFault s r ≡ 0 → First t
+first-fine : (t : List ℕ) (s : Bool) (r : Record) → ltb (length t) (size t) ≡ s → recordOf t ≡ r → firstFault s r ≡ 0 → FirstRecord t
 unfolding firstFault behind
 first-fine t s unknown b e z = absurd (omega arith)
 first-fine t s (fragment (preamble v)) b e z =
@@ -204,6 +217,7 @@ module _ (t : List ℕ) (T : Table) (y : List ℕ) (e : parse t ≡ good T y) wh
     limit : length t ≤ 65536
     first : u8 t 0 ≡ 1
     says : Tabled t (fragmentsOf t) T
+    once : Once t noneSeen (fragmentsOf t)
 
   accepted : Accepted-table
   unfolding parse sound fragmentsOf behindRoots
@@ -213,7 +227,7 @@ module _ (t : List ℕ) (T : Table) (y : List ℕ) (e : parse t ≡ good T y) wh
       rest x = then (parseRoots noneSeen false false [] x) λ cs x. parseFragments (length x) noneSeen x
 
       behind-first : (n : ℕ) → firstFault (ltb (length t) (size t)) (recordOf t) ≡ n → sound n t rest ≡ good T y
-          → (u8 t 0 ≡ 1) × Tabled t (fragmentsFrom (length t - 2) t 2) T
+          → (u8 t 0 ≡ 1) × Asks t noneSeen T (fragmentsFrom (length t - 2) t 2)
       behind-first zero z e =
           let f = first-fine t _ (recordOf t) refl refl z in
           let a = then-good (parseRoots noneSeen false false [] (drop 2 t)) _ T y (rw (f .onward) at e) in
@@ -226,7 +240,7 @@ module _ (t : List ℕ) (T : Table) (y : List ℕ) (e : parse t ≡ good T y) wh
       by true m e = absurd (bad-good e)
       by false m e =
           let r = behind-first _ refl e in
-          record { limit = ltb-false 65536 (length t) (or-false (missing t) _ m .1); first = r .0; says = r .1 }
+          record { limit = ltb-false 65536 (length t) (or-false (missing t) _ m .1); first = r .0; says = r .1 .0; once = r .1 .1 }
 
   pub table-size : length t ≤ 65536
   table-size = accepted .limit
@@ -236,6 +250,9 @@ module _ (t : List ℕ) (T : Table) (y : List ℕ) (e : parse t ≡ good T y) wh
 
   pub all-fragments : AllFragments t (fragmentsOf t)
   all-fragments = accepted .says .each
+
+  pub each-first : First t (fragmentsOf t)
+  each-first = accepted .once .first
 
   pub asked-at : asked T ≡ askedAt t
   unfolding asked askedAt
@@ -251,6 +268,7 @@ pub record Accepts (t : List ℕ) : Type 0 where
   pub limit : length t ≤ 65536
   pub first : u8 t 0 ≡ 1
   pub fragments : AllFragments t (fragmentsOf t)
+  pub firsts : First t (fragmentsOf t)
 
 pub checked-accepts : (t : List ℕ) (n : ByteLength) → checked t ≡ Accepted n → Accepts t
 unfolding checked checkedOf
@@ -258,4 +276,9 @@ checked-accepts t n h = by (parse t) refl h
   where
     by : (o : Parsed Table) → parse t ≡ o → checkedOf t o ≡ Accepted n → Accepts t
     by (bad m x) e h = let z : _≡_ {A = ℕ} 0 1 = cc in absurd (omega arith)
-    by (good T y) e h = record { limit = table-size t T y e; first = preamble-first t T y e; fragments = all-fragments t T y e }
+    by (good T y) e h = record {
+      limit = table-size t T y e;
+      first = preamble-first t T y e;
+      fragments = all-fragments t T y e;
+      firsts = each-first t T y e;
+    }

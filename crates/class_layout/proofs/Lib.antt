@@ -7,6 +7,7 @@ mod One
 pub mod Aligned
 mod Ends
 mod Rooted
+mod Once
 pub mod Asked
 pub mod Lookups
 pub mod Ahead

@@ -46,13 +46,15 @@ fault-zero s q (range g l i) m h = (pick-false s 2 m h, pick-zero s 2 m h)
 fault-zero s q (option n) m h = (pick-false s 2 m h, pick-zero s 2 m h)
 
 -- one record at a byte of a table: it has no fault, its bytes are there, and the rest begins behind it
-pub record Found {A : Type 0} (more : Record → ℕ) (f : Record → Parser A) (t : List ℕ) (at : ℕ) (a : A) (y : List ℕ) : Type 0 where
+pub record Found {A : Type 0} (q : Seen) (more : Record → ℕ) (f : Record → Parser A) (t : List ℕ) (at : ℕ) (a : A) (y : List ℕ)
+    : Type 0 where
+  pub sound : recordFault (ltb (length (drop at t)) (size (drop at t))) q (recordOf (drop at t)) (more (recordOf (drop at t))) ≡ 0
   pub fine : more (recordOf (drop at t)) ≡ 0
   pub there : at + size (drop at t) ≤ length t
   pub rest : f (recordOf (drop at t)) (drop (at + size (drop at t)) t) ≡ good a y
 
-pub one-good : {A : Type 0} (q : Seen) (more : Record → ℕ) (f : Record → Parser A) (t : List ℕ) (at : ℕ) (a : A) (y : List ℕ) → one q more f (drop at t) ≡ good a y
-    → Found more f t at a y
+pub one-good : {A : Type 0} (q : Seen) (more : Record → ℕ) (f : Record → Parser A) (t : List ℕ) (at : ℕ) (a : A) (y : List ℕ)
+    → one q more f (drop at t) ≡ good a y → Found q more f t at a y
 unfolding one sound
 one-good {A} q more f t at a y h = by _ refl h
   where
@@ -60,13 +62,14 @@ one-good {A} q more f t at a y h = by _ refl h
     x = drop at t
 
     by : (n : ℕ) → pick (missing x) 3 (recordFault (ltb (length x) (size x)) q (recordOf x) (more (recordOf x))) ≡ n
-        → sound n x (f (recordOf x)) ≡ good a y → Found more f t at a y
+        → sound n x (f (recordOf x)) ≡ good a y → Found q more f t at a y
     by (suc n) e h = absurd (bad-good h)
     by zero e h =
-        let k = fault-zero _ q (recordOf x) _ (pick-zero (missing x) 2 _ e) in
+        let z = pick-zero (missing x) 2 _ e in
+        let k = fault-zero _ q (recordOf x) _ z in
         let s : size x ≤ length x = ltb-false _ _ (k .0) in
         let l : 1 ≤ size x = unfold size in omega arith in
-        record { fine = k .1; there = omega (arith, length-drop at t); rest = rw (behind-at t at) at h }
+        record { sound = z; fine = k .1; there = omega (arith, length-drop at t); rest = rw (behind-at t at) at h }
 
 -- a class record with no fault: its numbers lie in their ranges
 pub record Sane (y : Says) : Type 0 where
