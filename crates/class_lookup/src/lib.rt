@@ -1,20 +1,40 @@
-// The lookups: which fragment is the trace class, a stream class or an event class. They go over the fragments from the front, by the sizes
-// that `prepare` noted.
+// The lookups: which fragment is the trace class, a stream class or an event class. The first two go over the fragments from the front, by
+// the sizes that `prepare` noted; an event class is looked up in an index that `make_index` fills once per reading.
 use class_layout::Found;
 use class_layout::openings::PREAMBLE;
 use table_bytes::size_at;
 use table_bytes::u64_at;
+use table_bytes::wide32;
 ghost use mathlib.Core.Path.{_≡_};
-ghost use Prim.Native.Nat.{_+_, _≤_, _<_};
+ghost use Prim.Native.Nat.{_+_, _≤_, _<_, _^_};
 ghost use lib.ListN.{length};
 ghost use Rattle.class_layout.specs.Fragments.{isTrace, isStream, isEvent, findTraceAt, findStreamAt, findEventAt, fragmentsOf, Fragment};
 ghost use Rattle.class_layout.specs.Sizes.{Sized, foundOf};
+ghost use Rattle.class_lookup.specs.Index.{mixed, homeOf, putFrom, indexOne, indexed, Hints};
+
+// Places of the index: twice as many as there can be event classes (15), so that some are always empty.
+pub const PLACES: usize = 1024;
 
 const TRACE_CLASS: u8 = 2;
 
 const STREAM_CLASS: u8 = 4;
 
 const EVENT_CLASS: u8 = 5;
+
+// 2 to the 32: half of an id.
+const HALF: u64 = 4294967296;
+
+// A factor for each half of each id.
+const STREAM_LOW: u64 = 770493857;
+
+const STREAM_HIGH: u64 = 671546289;
+
+const ID_LOW: u64 = 582208147;
+
+const ID_HIGH: u64 = 659168895;
+
+// 2 to the 31: ids are mixed to below it.
+const MIXED: u64 = 2147483648;
 
 // The trace class.
 pub fn find_trace_class(table: &[u8], sizes: &[u16]) -> Found
@@ -31,8 +51,8 @@ pub fn find_trace_class(table: &[u8], sizes: &[u16]) -> Found
     Found::Nothing
 }
 
-// The stream class that has an id. The index is for a faster search, and is not used yet.
-pub fn find_stream_class(table: &[u8], sizes: &[u16], index: &[u32], id: u64) -> Found
+// The stream class that has an id.
+pub fn find_stream_class(table: &[u8], sizes: &[u16], id: u64) -> Found
     requires { ⌜ Sized (now table) (now sizes) ⌝ }
     ensures { λ r. ⌜ r ≡ foundOf (findStreamAt (now (table .entry)) (fragmentsOf (now (table .entry))) id) ⌝ }
 {
@@ -46,8 +66,92 @@ pub fn find_stream_class(table: &[u8], sizes: &[u16], index: &[u32], id: u64) ->
     Found::Nothing
 }
 
-// The event class that has both ids. The index is for a faster search, and is not used yet.
+// The event class that has both ids: by the index, and where that does not have it, from the front.
 pub fn find_event_class(table: &[u8], sizes: &[u16], index: &[u32], stream: u64, id: u64) -> Found
+    requires { ⌜ Sized (now table) (now sizes) ⌝ }
+    requires { ⌜ Hints (now table) (now index) ⌝ }
+    ensures { λ r. ⌜ r ≡ foundOf (findEventAt (now (table .entry)) (fragmentsOf (now (table .entry))) stream id) ⌝ }
+{
+    let mut at = home(stream, id);
+    let mut left = PLACES;
+    while 0 < left {
+        let place = wide32(index[at]);
+        if place == 0 {
+            break;
+        }
+        if is_event_class(table, place, stream, id) {
+            return Found::At(place);
+        }
+        at = (at + 1) % PLACES;
+        left = left - 1;
+    }
+    search_event_class(table, sizes, stream, id)
+}
+
+// Puts the places of all event classes into an index that is empty.
+pub fn make_index(table: &[u8], sizes: &[u16], index: &mut [u32])
+    requires { ⌜ (Sized (now table) (now sizes)) × (length (now index) ≡ 1024) ⌝ }
+    ensures { λ _. ⌜ now (index .exit) ≡ indexed (now (table .entry)) (fragmentsOf (now (table .entry))) (now (index .entry)) ⌝ }
+{
+    let mut at = PREAMBLE;
+    while at < table.len() {
+        index_one(table, index, at);
+        at = at + size_at(sizes, at);
+    }
+}
+
+// Puts the place of a fragment into the index, if it is an event class.
+fn index_one(table: &[u8], index: &mut [u32], at: usize)
+    requires { ⌜ (Fragment (now table) at) × (length (now table) ≤ 65536) × (length (now index) ≡ 1024) ⌝ }
+    ensures { λ _. ⌜ now (index .exit) ≡ indexOne (now (table .entry)) at (now (index .entry)) ⌝ }
+{
+    if table[at] == EVENT_CLASS {
+        put(
+            index,
+            home(u64_at(table, at + 1), u64_at(table, at + 9)),
+            at,
+        );
+    }
+}
+
+// Puts a place into the first empty one from another on.
+fn put(index: &mut [u32], from: usize, place: usize)
+    requires { ⌜ (length (now index) ≡ 1024) × (from < 1024) × (place < 2 ^ 32) ⌝ }
+    ensures { λ _. ⌜ now (index .exit) ≡ putFrom 1024 (now (index .entry)) from place ⌝ }
+{
+    let mut at = from;
+    let mut left = PLACES;
+    while 0 < left {
+        if index[at] == 0 {
+            index[at] = place as u32;
+            return;
+        }
+        at = (at + 1) % PLACES;
+        left = left - 1;
+    }
+}
+
+// Where the search for a pair of ids begins: the ten highest of 31 bits, each of which depends on all bits below it.
+fn home(stream: u64, id: u64) -> usize
+    ensures { λ r. ⌜ (r ≡ homeOf stream id) × (r < 1024) ⌝ }
+{
+    let x = mix(stream, id);
+    (x * (2 * x + 1) % MIXED / 2097152) as usize
+}
+
+// Both ids as one number.
+fn mix(stream: u64, id: u64) -> u64
+    ensures { λ r. ⌜ (r ≡ mixed stream id) × (r < 2 ^ 31) ⌝ }
+{
+    (stream % HALF * STREAM_LOW
+        + stream / HALF * STREAM_HIGH
+        + id % HALF * ID_LOW
+        + id / HALF * ID_HIGH)
+        % MIXED
+}
+
+// The event class that has both ids, from the front.
+fn search_event_class(table: &[u8], sizes: &[u16], stream: u64, id: u64) -> Found
     requires { ⌜ Sized (now table) (now sizes) ⌝ }
     ensures { λ r. ⌜ r ≡ foundOf (findEventAt (now (table .entry)) (fragmentsOf (now (table .entry))) stream id) ⌝ }
 {

@@ -32,6 +32,7 @@ ghost use Rattle.class_layout.specs.Notes.{notes};
 ghost use Rattle.class_layout.specs.Fragments.{askedAt};
 ghost use Rattle.outcome.specs.Ran.{RanDid};
 ghost use Rattle.packet_content.specs.Pieces.{wholeFrame, Within};
+ghost use Rattle.class_lookup.specs.Index.{Hints};
 ghost use Rattle.packet_read.specs.Pieces.{behindHeader, freshState, Lent, Starts, PacketDid};
 
 const PACKET_STARTS: u64 = 1;
@@ -54,6 +55,7 @@ pub fn read_packet(
 ) -> Ran
     requires { ⌜ Lent (now table) (notes (now sizes) (now aligns)) (now uuid) header (now stream) ⌝ }
     requires { ⌜ Starts (now stream) (begun .place) ⌝ }
+    requires { ⌜ Hints (now table) (now index) ⌝ }
     ensures { λ r. ⌜
         PacketDid (readPacket (askedAt (now (table .entry))) (now (stream .entry)) number first) begun r (now (list .entry)) (now (list .exit))
         ⌝ }
@@ -126,6 +128,7 @@ fn read_behind_header(
 ) -> Ran
     requires { ⌜ Within (now table) (notes (now sizes) (now aligns)) (now uuid) (now stream) ⌝ }
     requires { ⌜ Framed (now stream) (wholeFrame (now stream) start) (st .place) ⌝ }
+    requires { ⌜ Hints (now table) (now index) ⌝ }
     ensures { λ r. ⌜
         RanDid (behindHeader (askedAt (now (table .entry))) (now (stream .entry)) start first (full st slots (length (now (list .entry)))))
         st r (now (list .entry)) (now (list .exit))
@@ -139,7 +142,7 @@ fn read_behind_header(
     if list.len() < 4 {
         return refused(Refusal::ListFull, place, 0, st);
     }
-    match find_stream_class(table, sizes, index, id) {
+    match find_stream_class(table, sizes, id) {
         Found::Nothing => refused(Refusal::StreamClassUnknown(id), place, 0, st),
         Found::At(class) => {
             write(

@@ -1,7 +1,10 @@
-// Reading a stream by a table: the table's check (20), the stream's size (21), the table's notes, and the packets.
+// Reading a stream by a table: the table's check (20), the stream's size (21), the table's notes and the index of its event classes, and
+// the packets.
 use check_table::check;
 use class_layout::Found;
+use class_lookup::PLACES;
 use class_lookup::find_trace_class;
+use class_lookup::make_index;
 use class_notes::prepare;
 use class_roots::root_place;
 use class_roots::uuid_place;
@@ -15,7 +18,7 @@ use rules::Result;
 use rules::Stop;
 ghost use mathlib.Core.Path.{_≡_};
 ghost use Prim.Native.Nat.{_≤_};
-ghost use lib.ListN.{length};
+ghost use lib.ListN.{length, replicate};
 ghost use Rattle.rules.specs.declared.Checked.the-variants.{Accepted};
 ghost use Rattle.rules.specs.declared.Refusal.the-variants.{StreamSize};
 ghost use Rattle.rules.specs.Limits.{streamLimit};
@@ -25,6 +28,7 @@ ghost use Rattle.rules.specs.Parse.{checked};
 ghost use Rattle.rules.specs.Read.{readAll, readStream, resultOf, listAfter};
 ghost use Rattle.class_layout.specs.Notes.{notes};
 ghost use Rattle.class_layout.specs.Fragments.{askedAt};
+ghost use Rattle.class_lookup.specs.Index.{Hints};
 ghost use Rattle.event_turns.specs.Ready.{Ready};
 ghost use Rattle.packet_read.specs.Pieces.{Lent};
 ghost use Rattle.reader_result.specs.Answer.{refusedWith};
@@ -71,19 +75,23 @@ fn read_stream(table: &[u8], stream: &[u8], list: &mut [u64]) -> Result
     let mut sizes = no_sizes();
     let mut aligns = no_aligns();
     prepare(table, &mut sizes, &mut aligns);
-    read_prepared(table, &sizes, &aligns, stream, list)
+    let mut index = empty_index();
+    make_index(table, &sizes, &mut index);
+    read_prepared(table, &sizes, &aligns, &index, stream, list)
 }
 
-// The table's notes are made: the trace class's UUID and header are looked up, and the packets read.
+// The table's notes and the index are made: the trace class's UUID and header are looked up, and the packets read.
 fn read_prepared(
     table: &[u8],
     sizes: &[u16],
     aligns: &[u8],
+    index: &[u32],
     stream: &[u8],
     list: &mut [u64],
 ) -> Result
     requires { ⌜ Ready (now table) (notes (now sizes) (now aligns)) ⌝ }
     requires { ⌜ (1 ≤ length (now stream)) × (length (now stream) ≤ streamLimit) ⌝ }
+    requires { ⌜ Hints (now table) (now index) ⌝ }
     ensures { λ r. ⌜
         Answers (readStream (askedAt (now (table .entry))) (now (stream .entry)) (length (now (list .entry)))) r (now (list .entry)) (now (list .exit))
         ⌝ }
@@ -93,6 +101,7 @@ fn read_prepared(
             table,
             sizes,
             aligns,
+            index,
             &table[0..0],
             Found::Nothing,
             stream,
@@ -102,12 +111,22 @@ fn read_prepared(
             let header = root_place(table, sizes, trace, 0);
             match uuid_place(table, trace) {
                 Found::Nothing => {
-                    read_by(table, sizes, aligns, &table[0..0], header, stream, list)
+                    read_by(
+                        table,
+                        sizes,
+                        aligns,
+                        index,
+                        &table[0..0],
+                        header,
+                        stream,
+                        list,
+                    )
                 }
                 Found::At(at) => read_by(
                     table,
                     sizes,
                     aligns,
+                    index,
                     &table[at..at + 16],
                     header,
                     stream,
@@ -123,6 +142,7 @@ fn read_by(
     table: &[u8],
     sizes: &[u16],
     aligns: &[u8],
+    index: &[u32],
     uuid: &[u8],
     header: Found,
     stream: &[u8],
@@ -130,12 +150,12 @@ fn read_by(
 ) -> Result
     requires { ⌜ Lent (now table) (notes (now sizes) (now aligns)) (now uuid) header (now stream) ⌝ }
     requires { ⌜ 1 ≤ length (now stream) ⌝ }
+    requires { ⌜ Hints (now table) (now index) ⌝ }
     ensures { λ r. ⌜
         Answers (readStream (askedAt (now (table .entry))) (now (stream .entry)) (length (now (list .entry)))) r (now (list .entry)) (now (list .exit))
         ⌝ }
 {
-    let index = [0u32; 0];
-    answer(read_packets(table, sizes, aligns, &index, uuid, header, stream, list))
+    answer(read_packets(table, sizes, aligns, index, uuid, header, stream, list))
 }
 
 // Room for the notes of the longest table.
@@ -149,6 +169,13 @@ fn no_aligns() -> [u8; 65536]
     ensures { λ r. ⌜ 65536 ≡ length r ⌝ }
 {
     [0; 65536]
+}
+
+// "every place empty at first" (request 10)
+fn empty_index() -> [u32; PLACES]
+    ensures { λ r. ⌜ r ≡ replicate 1024 0 ⌝ }
+{
+    [0; PLACES]
 }
 
 fn bad_size() -> Result

@@ -9,31 +9,41 @@ use Rattle.class_layout.specs.Fragments.{isStream}
 use Rattle.class_layout.proofs.Ahead.{Ahead, ahead-start, ahead-here, ahead-hit, ahead-next, ahead-end, ahead-onward}
 
 abbrev Inv-loop : tie.InvT-loop
-Inv-loop table sizes index id at₀ at = Ahead (isStream table id) table sizes at
+Inv-loop table sizes id at₀ at = Ahead (isStream table id) table sizes at
 
 abbrev μ-loop : tie.MeasureT-loop
-μ-loop table sizes index id at₀ at = length table - at
+μ-loop table sizes id at₀ at = length table - at
+
+abbrev start : tie.In-loop Inv-loop μ-loop → tie.Start Inv-loop μ-loop
+start c = c .before .before .before .before
 
 loop-holds : tie.Need-loop-holds Inv-loop μ-loop
-loop-holds c = ahead-start (c .before .before .before .pre)
+loop-holds c = ahead-start (c .before .before .pre)
 
 is-stream-class-requires : tie.Need-is-stream-class-requires Inv-loop μ-loop
-is-stream-class-requires c κs = (ahead-here (c .loop-test .taken) (c .before .loop .inv) .stands, c .before .before .before .before .before .pre .limit)
+is-stream-class-requires c κs = (ahead-here (c .loop-test .taken) (c .before .loop .inv) .stands, start c .pre .limit)
 
 returns : tie.Need-returns Inv-loop μ-loop
-returns c = ahead-hit (c .before .before .loop-test .taken) (c .before .before .before .loop .inv) (sym (c .before .is-stream-class .ensures) ∙ c .if1 .taken)
+returns c =
+    let f = c .before .before in
+    ahead-hit (f .loop-test .taken) (f .before .loop .inv) (sym (c .before .is-stream-class .ensures) ∙ c .if1 .taken)
 
 size-at-requires : tie.Need-size-at-requires Inv-loop μ-loop
-size-at-requires c κs = omega (arith, c .before .before .before .before .before .before .before .pre .room)
+size-at-requires c κs = omega (arith, start (c .before .before) .pre .room)
 
 add-at : tie.Need-add-at Inv-loop μ-loop
-add-at c = omega (arith, c .before .before .before .before .before .before .before .before .pre .limit, c .size-at .ensures .1)
+add-at c = omega (arith, start (c .before .before .before) .pre .limit, c .size-at .ensures .1)
 
 loop-less : tie.Need-loop-less Inv-loop μ-loop
-loop-less c = omega (arith, ahead-onward (c .before .before .before .loop-test .taken) (c .before .before .before .before .loop .inv) (c .size-at .ensures .0))
+loop-less c =
+    let f = c .before .before .before in
+    omega (arith, ahead-onward (f .loop-test .taken) (f .before .loop .inv) (c .size-at .ensures .0))
 
 loop-again : tie.Need-loop-again Inv-loop μ-loop
-loop-again c = ahead-next (c .before .before .before .loop-test .taken) (c .before .before .before .before .loop .inv) (sym (c .before .before .is-stream-class .ensures) ∙ c .before .if1 .left) (c .size-at .ensures .0)
+loop-again c =
+    let f = c .before .before .before in
+    let other = sym (c .before .before .is-stream-class .ensures) ∙ c .before .if1 .left in
+    ahead-next (f .loop-test .taken) (f .before .loop .inv) other (c .size-at .ensures .0)
 
 returns-2 : tie.Need-returns-2 Inv-loop μ-loop
 returns-2 c = ahead-end (c .loop-test .left) (c .before .loop .inv)
