@@ -10,10 +10,10 @@ use lib.ListN.{drop}
 use lib.Dec.{eqb}
 use borrow.Author.Tests.{eqb-true, eq-eqb}
 use Rattle.rules.specs.Record.{Fragment as Opening, preamble, traceClass, clockClass, streamClass, eventClass, fragment, u8, u64, recordOf}
-use Rattle.rules.specs.Faults.{pick, Seen, seen, pairAmong, fragmentFault, recordFault}
+use Rattle.rules.specs.Faults.{Seen, seen, pairAmong, fragmentFault, recordFault}
 use Rattle.facts.proofs.Truth.{clash, and-left, and-right}
 use Rattle.facts.proofs.Faults.{pick-false, pick-zero}
-use Rattle.class_layout.specs.Fragments.{isEvent, firstOf, findEventAt, fragmentsOf, All}
+use Rattle.class_layout.specs.Fragments.{isEvent, firstOf, findEventAt, All}
 use Rattle.class_layout.proofs.Records.{trace-at, clock-at, stream-at, event-at}
 
 all-map : {P Q : ℕ → Type 0} → ((o : ℕ) → P o → Q o) → (os : List ℕ) → All P os → All Q os
