@@ -4,6 +4,9 @@ mod Sound
 mod Stands
 pub mod Standing
 mod One
+pub mod Depths
+pub mod Split
+pub mod InPlace
 pub mod Aligned
 mod Ends
 mod Rooted
