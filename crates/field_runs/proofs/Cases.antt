@@ -1,0 +1,126 @@
+-- What is made of a run, by whether its first field is an element.
+use mathlib.Core.Path.{_≡_, refl}
+use Prim.Native.Nat.{ℕ, _+_, _-_, _<_, _≤_}
+use native.Mathlib.Omega.{arith}
+use mathlib.Core.List.{List}
+use mathlib.Core.Bool.{Bool, true, false}
+use lib.ListN.{getD}
+use mathlib.Core.Logic.{_⊎_, inl, inr}
+use lib.Dec.{eqb}
+use Rattle.facts.proofs.Numbers.{lt-or-ge}
+use borrow.Author.Tests.{eq-eqb, ne-eqb}
+use Rattle.field_runs.specs.declared.Run.{Run}
+use Rattle.field_runs.specs.Run.{variantKind, run, noArray, membersRun, free, over, element, firstAt, countOf}
+use Rattle.field_runs.specs.Run.{forwardRun, behindRun, takenRun, openedRun, putOffRun, intoRun}
+
+some-eqb : (n : ℕ) → 0 < n → eqb n 0 ≡ false
+some-eqb n h = ne-eqb n 0 (λ e. omega arith)
+
+none-eqb : (n : ℕ) → n ≤ 0 → eqb n 0 ≡ true
+none-eqb n h = eq-eqb n 0 (omega arith)
+
+module _ (r : Run) (h : 0 < r .todo) where
+  pub element-no : element r ≡ false
+  unfolding element
+  element-no = some-eqb (r .todo) h
+
+  pub first-member : firstAt r ≡ r .next
+  unfolding firstAt element
+  first-member = rw (some-eqb (r .todo) h, firstAt) refl
+
+  pub count-members : countOf r ≡ r .todo
+  unfolding countOf element
+  count-members = rw (some-eqb (r .todo) h, countOf) refl
+
+  pub forward-members : forwardRun r ≡ r
+  unfolding forwardRun
+  forward-members = rw (count-members, some-eqb (r .todo) h, forwardRun) refl
+
+  pub behind-members : (s : List ℕ) (last left : ℕ)
+      → behindRun r s last left ≡ run (last + getD s last 0) left (r .again) (r .more) (r .later) (r .rest) (r .array)
+  unfolding behindRun element
+  behind-members s last left = rw (some-eqb (r .todo) h, behindRun) refl
+
+  pub taken-members : takenRun r ≡ r
+  unfolding takenRun element
+  taken-members = rw (some-eqb (r .todo) h, takenRun) refl
+
+  pub not-over : over r ≡ false
+  unfolding over
+  not-over = rw (some-eqb (r .todo) h) refl
+
+module _ (r : Run) (h : r .todo ≤ 0) where
+  pub element-yes : element r ≡ true
+  unfolding element
+  element-yes = none-eqb (r .todo) h
+
+  pub first-element : firstAt r ≡ r .again
+  unfolding firstAt element
+  first-element = rw (none-eqb (r .todo) h, firstAt) refl
+
+  pub count-elements : countOf r ≡ r .more
+  unfolding countOf element
+  count-elements = rw (none-eqb (r .todo) h, countOf) refl
+
+  pub some-element : 0 < countOf r → 0 < r .more
+  some-element k = rw (count-elements) at k
+
+  pub forward-elements : 0 < r .more → forwardRun r ≡ r
+  unfolding forwardRun
+  forward-elements k = rw (count-elements, some-eqb (r .more) k, forwardRun) refl
+
+  pub forward-later : r .more ≤ 0 → forwardRun r ≡ membersRun (r .later) (r .rest)
+  unfolding forwardRun
+  forward-later k = rw (count-elements, none-eqb (r .more) k, forwardRun) refl
+
+  pub behind-elements : (s : List ℕ) (last left : ℕ)
+      → behindRun r s last left ≡ run (r .next) 0 (r .again) left (r .later) (r .rest) (r .array)
+  unfolding behindRun element
+  behind-elements s last left = rw (none-eqb (r .todo) h, behindRun) refl
+
+  pub taken-element : takenRun r ≡ run (r .again) 1 (r .again) (r .more - 1) (r .later) (r .rest) (r .array)
+  unfolding takenRun element
+  taken-element = rw (none-eqb (r .todo) h, takenRun) refl
+
+  pub more-over : 0 < r .more → over r ≡ false
+  unfolding over
+  more-over k = rw (none-eqb (r .todo) h, some-eqb (r .more) k) refl
+
+  pub over-rest : r .more ≤ 0 → over r ≡ eqb (r .rest) 0
+  unfolding over
+  over-rest k = rw (none-eqb (r .todo) h, none-eqb (r .more) k) refl
+
+pub more-free : (r : Run) → 0 < r .more → free r ≡ false
+unfolding free
+more-free r h = rw (some-eqb (r .more) h) refl
+
+module _ (r : Run) (h : r .more ≤ 0) where
+  pub rest-free : 0 < r .rest → free r ≡ false
+  unfolding free
+  rest-free k = rw (none-eqb (r .more) h, some-eqb (r .rest) k) refl
+
+  pub free-array : r .rest ≤ 0 → free r ≡ eqb (r .array) noArray
+  unfolding free
+  free-array k = rw (none-eqb (r .more) h, none-eqb (r .rest) k) refl
+
+-- what `into` picks
+pub into-elements : (k : ℕ) (r : Run) (s : List ℕ) (from n : ℕ) (b : Bool) → b ≡ true → intoRun k r s from n b ≡ putOffRun r s from n from
+unfolding intoRun
+into-elements k r s from n b e = rw e refl
+
+pub into-variant : (k : ℕ) (r : Run) (s : List ℕ) (from n : ℕ) (b : Bool) → b ≡ false → k ≡ variantKind
+    → intoRun k r s from n b ≡ putOffRun r s from 1 noArray
+unfolding intoRun
+into-variant k r s from n b e h = rw (e, eq-eqb k variantKind h, intoRun) refl
+
+pub into-parts : (k : ℕ) (r : Run) (s : List ℕ) (from n : ℕ) (b : Bool) → b ≡ false → (k ≡ variantKind → ⊥)
+    → intoRun k r s from n b ≡ openedRun r from n
+unfolding intoRun
+into-parts k r s from n b e h = rw (e, ne-eqb k variantKind h, intoRun) refl
+
+pub positive : (n : ℕ) → (n ≡ 0 → ⊥) → 0 < n
+positive n h = by (lt-or-ge 0 n)
+  where
+    by : (0 < n) ⊎ (n ≤ 0) → 0 < n
+    by (inl k) = k
+    by (inr k) = absurd (h (omega arith))

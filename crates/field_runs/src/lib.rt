@@ -1,0 +1,216 @@
+// What is left of a run of fields, in numbers alone. A structure or an optional is opened in place: its parts stand where its record ends,
+// and end where it ends, so that they take its turn among the classes. The class of a variant's option, and an array's elements, stand in
+// front of what was left, which is put off; only where something is put off already, or an element is open, does such a field have to be
+// read by itself.
+use table_bytes::size_at;
+ghost use mathlib.Core.Path.{_≡_};
+ghost use Prim.Native.Nat.{_+_, _<_, _^_};
+ghost use lib.ListN.{length};
+ghost use Rattle.field_runs.specs.Run.{membersRun, elementsRun, free, over, element, firstAt, countOf};
+ghost use Rattle.field_runs.specs.Run.{forwardRun, behindRun, takenRun, openedRun, putOffRun, intoRun};
+
+// `todo` classes one behind the other from the byte `next` on; then the class at `again`, `more` times; then `rest` classes from `later`
+// on. What comes before these is in elements of the class at `array`, or in no array's, where that is 0.
+pub struct Run {
+    pub next: usize,
+    pub todo: usize,
+    pub again: usize,
+    pub more: usize,
+    pub later: usize,
+    pub rest: usize,
+    pub array: usize,
+}
+
+const VARIANT: u8 = 32;
+
+// No class stands at the table's first byte.
+const NO_ARRAY: usize = 0;
+
+// `count` classes one behind the other.
+pub fn members(at: usize, count: usize) -> Run
+    ensures { λ r. ⌜ r ≡ membersRun at count ⌝ }
+{
+    Run {
+        next: at,
+        todo: count,
+        again: at,
+        more: 0,
+        later: at,
+        rest: 0,
+        array: NO_ARRAY,
+    }
+}
+
+// One class, `count` times.
+pub fn elements(at: usize, count: usize) -> Run
+    ensures { λ r. ⌜ r ≡ elementsRun at count ⌝ }
+{
+    Run {
+        next: at,
+        todo: 0,
+        again: at,
+        more: count,
+        later: at,
+        rest: 0,
+        array: at,
+    }
+}
+
+// Whether nothing is left.
+pub fn is_over(run: Run) -> bool
+    ensures { λ r. ⌜ r ≡ over run ⌝ }
+{
+    if 0 < run.todo {
+        return false;
+    }
+    if 0 < run.more {
+        return false;
+    }
+    run.rest == 0
+}
+
+// Whether nothing comes behind the classes that stand one behind the other, and no element ends with them, so that they can be put off.
+pub fn is_free(run: Run) -> bool
+    ensures { λ r. ⌜ r ≡ free run ⌝ }
+{
+    if 0 < run.more {
+        return false;
+    }
+    if 0 < run.rest {
+        return false;
+    }
+    run.array == NO_ARRAY
+}
+
+// What was put off comes forward where nothing else is left.
+pub fn forward(run: Run) -> Run
+    ensures { λ r. ⌜ r ≡ forwardRun run ⌝ }
+{
+    if 0 < run.todo {
+        return run;
+    }
+    if 0 < run.more {
+        return run;
+    }
+    members(run.later, run.rest)
+}
+
+// Whether the first field is an element.
+pub fn is_element(run: Run) -> bool
+    ensures { λ r. ⌜ r ≡ element run ⌝ }
+{
+    run.todo == 0
+}
+
+// Where the class of the first field stands.
+pub fn first(run: Run) -> usize
+    ensures { λ r. ⌜ r ≡ firstAt run ⌝ }
+{
+    if run.todo == 0 {
+        return run.again;
+    }
+    run.next
+}
+
+// How many fields there are of the first one's sort, members or elements.
+pub fn count(run: Run) -> usize
+    ensures { λ r. ⌜ r ≡ countOf run ⌝ }
+{
+    if run.todo == 0 {
+        return run.more;
+    }
+    run.todo
+}
+
+// Behind some fields: the last one's class, and how many are left of their sort.
+pub fn behind(run: Run, sizes: &[u16], last: usize, left: usize) -> Run
+    requires { ⌜ (last < length (now sizes)) × (last < 2 ^ 63) ⌝ }
+    ensures { λ r. ⌜ r ≡ behindRun run (now (sizes .entry)) last left ⌝ }
+{
+    if run.todo == 0 {
+        return Run {
+            next: run.next,
+            todo: 0,
+            again: run.again,
+            more: left,
+            later: run.later,
+            rest: run.rest,
+            array: run.array,
+        };
+    }
+    Run {
+        next: last + size_at(sizes, last),
+        todo: left,
+        again: run.again,
+        more: run.more,
+        later: run.later,
+        rest: run.rest,
+        array: run.array,
+    }
+}
+
+// The first field is an element no more, but a member in front of the other elements.
+pub fn taken(run: Run) -> Run
+    requires { ⌜ 0 < countOf run ⌝ }
+    ensures { λ r. ⌜ r ≡ takenRun run ⌝ }
+{
+    if 0 < run.todo {
+        return run;
+    }
+    Run {
+        next: run.again,
+        todo: 1,
+        again: run.again,
+        more: run.more - 1,
+        later: run.later,
+        rest: run.rest,
+        array: run.array,
+    }
+}
+
+// The parts of the first member stand for it; they end where it ends.
+pub fn opened(run: Run, from: usize, parts: usize) -> Run
+    requires { ⌜ (0 < run .todo) × (run .todo + parts < 2 ^ 63) ⌝ }
+    ensures { λ r. ⌜ r ≡ openedRun run from parts ⌝ }
+{
+    Run {
+        next: from,
+        todo: run.todo - 1 + parts,
+        again: run.again,
+        more: run.more,
+        later: run.later,
+        rest: run.rest,
+        array: run.array,
+    }
+}
+
+// A class so many times, as elements of an array or of none, and what is behind the first member later.
+pub fn put_off(run: Run, sizes: &[u16], at: usize, times: usize, array: usize) -> Run
+    requires { ⌜ (0 < run .todo) × (run .next < length (now sizes)) × (run .next < 2 ^ 63) ⌝ }
+    ensures { λ r. ⌜ r ≡ putOffRun run (now (sizes .entry)) at times array ⌝ }
+{
+    let next = run.next;
+    Run {
+        next: at,
+        todo: 0,
+        again: at,
+        more: times,
+        later: next + size_at(sizes, next),
+        rest: run.todo - 1,
+        array,
+    }
+}
+
+// Into the first member: its parts; a variant's class; or its elements.
+pub fn into(kind: u8, run: Run, sizes: &[u16], from: usize, parts: usize, elements: bool) -> Run
+    requires { ⌜ (0 < run .todo) × (run .todo + parts < 2 ^ 63) × (run .next < length (now sizes)) × (run .next < 2 ^ 63) ⌝ }
+    ensures { λ r. ⌜ r ≡ intoRun kind run (now (sizes .entry)) from parts elements ⌝ }
+{
+    if elements {
+        return put_off(run, sizes, from, parts, from);
+    }
+    if kind == VARIANT {
+        return put_off(run, sizes, from, 1, NO_ARRAY);
+    }
+    opened(run, from, parts)
+}
