@@ -23,6 +23,7 @@ use Rattle.leaf_find_number.specs.declared.find.Found.{Found}
 use Rattle.leaf_after.specs.declared.Seen.{Seen}
 use Rattle.field_choice.specs.declared.Choice.{Choice}
 use Rattle.field_inside.specs.declared.look.Inside.{Inside}
+use Rattle.field_runs.specs.declared.Run.{Run}
 use Rattle.outcome.specs.declared.Ran.{Ran}
 
 pub data Answer : Type 0 where
@@ -30,7 +31,7 @@ pub data Answer : Type 0 where
   bitPlace byteLength leb ended said checked result : Answer
   ticked length slotNumber state : Answer
   body walk says tablePlace : Answer
-  frame found seen choice inside ran : Answer
+  frame found seen choice inside run ran : Answer
 
 unfoldable pub Of : Answer → Type 0
 Of number = ℕ
@@ -56,4 +57,5 @@ Of found = Found
 Of seen = Seen
 Of choice = Choice
 Of inside = Inside
+Of run = Run
 Of ran = Ran
