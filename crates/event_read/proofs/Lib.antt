@@ -1,3 +1,2 @@
-mod Unset
 pub mod Evented
 mod Turning

@@ -30,7 +30,7 @@ use Rattle.listing.specs.declared.State.{State}
 use Rattle.listing.specs.declared.Went.the-variants.{On, Stopped}
 use Rattle.listing.specs.Did.{Did, full, outOf}
 use Rattle.listing.proofs.Parts.{Part, part-step, part-stop, part-length, lent-room, lent, merged}
-use Rattle.laws.specs.Kept.{KeepsEvents}
+use Rattle.laws.specs.Kept.{KeepsSlots}
 use Rattle.class_layout.specs.Trees.{Stood, membersAt}
 use Rattle.class_layout.proofs.Standing.{First}
 use Rattle.field_read.proofs.Turns.{Call, call, env, outcome, CallReads, stoppedCall, Walked, Turn, members-end}
@@ -160,7 +160,7 @@ mark-keeps : (k n v : ℕ) → Keeps (mark k n v)
 unfolding mark listed
 mark-keeps k n v s es s′ e = let p : packetSlots (s .slots) ≡ packetSlots (s′ .slots) = cc in sym p
 
-module _ (a : Asked) (c : StreamClass) (i : ℕ) (e : Env) (keeps : KeepsEvents a) (found : a .stream i ≡ some c) where
+module _ (a : Asked) (c : StreamClass) (i : ℕ) (e : Env) (keeps : KeepsSlots a) (found : a .stream i ≡ some c) where
   roots-keep : (d : EventClass) (j k v : ℕ) → a .event j k ≡ some d
       → Keeps (mark eventClassFound 0 v ⨾ partsOf e (c .common) (d .specific) (d .payload))
   unfolding partsOf
@@ -232,7 +232,7 @@ turns-done t a class (suc (suc (suc (suc zero)))) st h w = absurd (omega arith)
 turns-done t a class (suc (suc (suc (suc (suc n))))) st h w = part-same _ (moved st) (onto-nil _) (w .part)
 
 -- the place moved, and slots 0 to 15 are as they were
-event-done : (a : Asked) (c : StreamClass) (i : ℕ) (e : Env) → KeepsEvents a → a .stream i ≡ some c → (n : ℕ) (came : State) (l₀ : Slots) {ws₀ ws : List ℕ}
+event-done : (a : Asked) (c : StreamClass) (i : ℕ) (e : Env) → KeepsSlots a → a .stream i ≡ some c → (n : ℕ) (came : State) (l₀ : Slots) {ws₀ ws : List ℕ}
     {used : ℕ} {st : State} {l : Slots} → 4 ≤ length ws₀ → length l₀ ≡ slotCount
     → Part (readEvent a c e n (full came l₀ (length ws₀))) (moved came) ws₀ ws used st l → (st .place .0 ≡ came .place .0 → ⊥)
     → EventDid (readEvent a c e n) came l₀ (record { went = On; used = used; state = st }) ws₀ ws
@@ -243,7 +243,7 @@ event-done a c i e keeps found n came l₀ {ws₀} {ws} {used} {st} {l} h many p
     (event-keeps a c i e keeps found n came l₀ (length ws₀) h many _ (full st l (length ws₀ - used)) (p .rest ∙ ap (onto (p .listed)) on)) on
 
 -- the event's end, whether the place moved or not
-pub event-ended : (a : Asked) (c : StreamClass) (i : ℕ) (e : Env) → KeepsEvents a → a .stream i ≡ some c → (n : ℕ) (came : State) (l₀ : Slots)
+pub event-ended : (a : Asked) (c : StreamClass) (i : ℕ) (e : Env) → KeepsSlots a → a .stream i ≡ some c → (n : ℕ) (came : State) (l₀ : Slots)
     {ws₀ ws : List ℕ} {used : ℕ} {st : State} {l : Slots} → 4 ≤ length ws₀ → length l₀ ≡ slotCount
     → Part (readEvent a c e n (full came l₀ (length ws₀))) (moved came) ws₀ ws used st l → EventDid (readEvent a c e n) came l₀ (endedRan used st came) ws₀ ws
 unfolding endedRan

@@ -3,16 +3,16 @@ use Prim.Native.Nat.{ℕ}
 use mathlib.Core.Path.{_≡_}
 use mathlib.Core.List.{List}
 use mathlib.Core.Option.{some}
-use Rattle.laws.specs.Kept.{KeepsEvents}
+use Rattle.laws.specs.Kept.{KeepsSlots}
 use Rattle.class_layout.specs.Fragments.{streamClassAt, askedAt}
 use Rattle.class_layout.specs.Notes.{Notes, Prepared}
 use Rattle.event_turns.specs.Roots.{classOf, RootStands}
 use Rattle.event_turns.specs.declared.Asking.{Asking}
 
--- a table that the check accepted, with its notes; its events keep the packet's slots
+-- a table that the check accepted, with its notes; its roots keep to their slots
 pub record Ready (t : List ℕ) (x : Notes) : Type 0 where
   pub noted : Prepared t x
-  pub keeps : KeepsEvents (askedAt t)
+  pub keeps : KeepsSlots (askedAt t)
 
 -- the stream class that a packet's events belong to
 pub record OfStream (t : List ℕ) (w : Asking) : Type 0 where

@@ -1,21 +1,22 @@
 -- What an accepted table's classes are: lengths of 1 to 64 bits, slots that their roots may set, and numbers that their bytes can say.
 -- It goes along the parse: what sound records tell holds of the classes that are made of them.
 use mathlib.Core.Path.{_≡_, refl, subst}
-use Prim.Native.Nat.{ℕ, zero, suc, _+_, _≤_, _<_}
+use Prim.Native.Nat.{ℕ, zero, suc, _+_, _-_, _≤_, _<_}
 use native.Mathlib.Omega.{arith}
 use mathlib.Core.List.{List, [], _∷_, _++_}
 use mathlib.Core.Bool.{Bool, true, false, not, _&&_, _||_}
 use mathlib.Core.Option.{Option, none, some}
+use mathlib.Core.Logic.{_⊎_, inl, inr}
 use lib.ListN.{length, getD}
 use lib.Dec.{ltb, leb, eqb}
-use borrow.Author.Tests.{ltb-false, le-ltb}
-use Rattle.rules.specs.Limits.{packetSlotCount, noSlot}
+use borrow.Author.Tests.{ltb-true, ltb-false, lt-ltb, le-ltb, not-false}
+use Rattle.rules.specs.Limits.{slotCount, packetSlotCount, noSlot}
 use Rattle.rules.specs.Class.{Sign, Range, Class, flagged, optional, count}
 use Rattle.rules.specs.Record.{Shape, bitField, lebField, signedLebField, zeroString, text, blob, textOf, blobOf, members, elements, elementsOf, option?, options, Says, Fragment, preamble, traceClass, clockClass, streamClass, eventClass, Record, unknown, fragment, root, class, range, option, recordOf, behind, size}
 use Rattle.rules.specs.Table.{StreamClass, EventClass, Table, asked, findStream, findEvent, Asked}
 use Rattle.rules.specs.Parse.{Parsed, bad, good, Parser, then, sound, missing, one, Ranges, rangeOf, countOf, parseRanges, parseMembers, parseOptions, selected, parseShape, parseBody, parseClass, isRoot, anyRoot, parseRoots, noTable, rootOf, rootNumbers, isTimed, hasUuid, add, parseFragment, parseOpened, parseFragments, parse}
 use Rattle.rules.specs.Faults.{pick, Seen, recordFault, Spot, top, inside, memberSpot, Under, out, badNumber, classFault, isTop, optionFault, rootFault, openFault, seen, firstFault, noneSeen, badSlot}
-use Rattle.facts.proofs.Truth.{or-false}
+use Rattle.facts.proofs.Truth.{or-false, or-true}
 use Rattle.facts.proofs.Faults.{pick-zero, pick-false}
 use Rattle.laws.proofs.Law.{Fits, FitMembers, FitOptions, FitRoot}
 use Rattle.laws.proofs.Sound.{no-fault}
@@ -32,12 +33,26 @@ class-bits : (u : Under) (z : Spot) (deep : Bool) (y : Says) → classFault u z 
 unfolding classFault
 class-bits u z deep y h = pick-false (badNumber y) 9 _ (pick-zero (isTop z && not (eqb (y .kind) 28)) 8 _ h)
 
--- the slot that it sets, under a root that is an event's, is no packet's
-slot-in : (r : ℕ) (y : Says) → badSlot (ltb r 2) y ≡ false → 2 ≤ r → packetSlotCount ≤ y .sets
-unfolding badSlot
-slot-in r y h g =
-    let k : badSlot false y ≡ false = subst (λ b. badSlot b y ≡ false) (le-ltb r 2 g) h in
-    ltb-false (y .sets) packetSlotCount (or-false (eqb (y .reads) noSlot) (ltb (y .sets) packetSlotCount) k .1)
+-- the slots that a root's fields may set: an event's none of the packet's, and a packet's none of an event's
+abbrev pub SetUnder : ℕ → ℕ → Type 0
+SetUnder r i = (2 ≤ r → packetSlotCount ≤ i) × (r < 2 → (i < packetSlotCount) ⊎ (slotCount ≤ i))
+
+slot-in : (r : ℕ) (y : Says) → badSlot (ltb r 2) y ≡ false → SetUnder r (y .sets)
+unfolding badSlot out
+slot-in r y h = (event, packet)
+  where
+    event : 2 ≤ r → packetSlotCount ≤ y .sets
+    event g =
+        let k : badSlot false y ≡ false = subst (λ b. badSlot b y ≡ false) (le-ltb r 2 g) h in
+        ltb-false (y .sets) packetSlotCount (or-false (eqb (y .reads) noSlot) (ltb (y .sets) packetSlotCount) k .1)
+
+    packet : r < 2 → (y .sets < packetSlotCount) ⊎ (slotCount ≤ y .sets)
+    packet g =
+        let k : badSlot true y ≡ false = subst (λ b. badSlot b y ≡ false) (lt-ltb r 2 g) h in
+        let o = not-false _ (or-false (ltb (packetSlotCount - 1) (y .reads)) (not (out packetSlotCount (noSlot - 1) (y .sets))) k .1) in
+        or-true (ltb (y .sets) packetSlotCount) (ltb (noSlot - 1) (y .sets)) o
+        (λ b. inl (ltb-true (y .sets) packetSlotCount b))
+        (λ b. inr (omega (arith, ltb-true (noSlot - 1) (y .sets) b)))
 
 class-slot : (u : Under) (z : Spot) (deep : Bool) (y : Says) → classFault u z deep (class y) ≡ 0 → badSlot (ltb (u .root) 2) y ≡ false
 unfolding classFault
@@ -53,7 +68,7 @@ pub record Fitting (N : ℕ → Type 0) (S : ℕ → ℕ → Type 0) (W : ℕ �
 -- what sound records tell of their numbers, where G is known of the bytes
 pub record Tells (N : ℕ → Type 0) (S : ℕ → ℕ → Type 0) (W : ℕ → Type 0) (G : List ℕ → Type 0) : Type 0 where
   pub bits : (n : ℕ) → 1 ≤ n → n ≤ 64 → N n
-  pub slots : (r i : ℕ) → (2 ≤ r → packetSlotCount ≤ i) → S r i
+  pub slots : (r i : ℕ) → SetUnder r i → S r i
   pub values : (x : List ℕ) (y : Says) → G x → recordOf x ≡ class y → (k : ℕ) → k ≤ y .count → W k
   pub on : (x : List ℕ) → G x → G (behind x)
 

@@ -40,7 +40,7 @@ use Rattle.class_layout.proofs.Lookups.{found-some, found-none, first-holds, si
 use Rattle.class_layout.proofs.Asked.{checked-accepts, asked-at}
 use Rattle.class_lookup.specs.Index.{places, indexed, Hints}
 use Rattle.class_lookup.proofs.Index.{accepted-hints, empty-hints}
-use Rattle.laws.specs.Kept.{KeepsEvents}
+use Rattle.laws.specs.Kept.{KeepsSlots}
 use Rattle.laws.proofs.Kept.{accepted-keeps}
 use Rattle.outcome.specs.declared.Ran.{Ran}
 use Rattle.event_turns.specs.Roots.{classOf, RootStands}
@@ -200,14 +200,14 @@ module _ (t b ws : List ℕ) where
       by (bad m y) e h = let z : _≡_ {A = ℕ} 0 1 = unfold checkedOf in cc in absurd (omega arith)
       by (good T y) e h = unfold readParsed in ap (λ a. readStream a b (length ws)) (asked-at t T y e)
 
--- the events of a table that the check accepts keep the packet's slots
-pub checked-keeps : (t : List ℕ) (n : ByteLength) → checked t ≡ Accepted n → KeepsEvents (askedAt t)
+-- the roots of a table that the check accepts keep to their slots
+pub checked-keeps : (t : List ℕ) (n : ByteLength) → checked t ≡ Accepted n → KeepsSlots (askedAt t)
 unfolding checked
 checked-keeps t n h = by (parse t) refl h
   where
-    by : (o : Parsed Table) → parse t ≡ o → checkedOf t o ≡ Accepted n → KeepsEvents (askedAt t)
+    by : (o : Parsed Table) → parse t ≡ o → checkedOf t o ≡ Accepted n → KeepsSlots (askedAt t)
     by (bad m y) e h = let z : _≡_ {A = ℕ} 0 1 = unfold checkedOf in cc in absurd (omega arith)
-    by (good T y) e h = subst KeepsEvents (asked-at t T y e) (accepted-keeps t T y e)
+    by (good T y) e h = subst KeepsSlots (asked-at t T y e) (accepted-keeps t T y e)
 
 -- The index
 
