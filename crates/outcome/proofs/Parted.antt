@@ -1,4 +1,4 @@
--- Roots within an event: the place stays in the frame; and what an event's loop keeps.
+-- A root's place stays in the frame, and a packet's root leaves slots 16 to 63 unset; and what an event's loop keeps.
 use mathlib.Core.Path.{_≡_, refl, _∙_}
 use Prim.Native.Nat.{ℕ, _-_, _≤_}
 use native.Mathlib.Omega.{arith}
@@ -11,6 +11,7 @@ use Rattle.rules.specs.Class.{Class}
 use Rattle.rules.specs.Step.{State as Full, go, Step, pass}
 use Rattle.rules.specs.Field.{Env}
 use Rattle.rules.specs.Packet.{readRoot}
+use Rattle.laws.specs.Kept.{LeavesUnset}
 use Rattle.laws.proofs.Between.{read-between}
 use Rattle.leaf_find_number.specs.declared.Frame.{Frame}
 use Rattle.listing.specs.declared.State.{State}
@@ -27,7 +28,7 @@ unfolding readRoot pass
 root-between e none s es s′ h k q = let p : s ≡ s′ = cc in rw (← p) (omega arith, k)
 root-between e (some c) s es s′ h k q = read-between e c s es s′ h k q
 
--- what stands behind a root that went on: the frame
+-- what stands behind a root that went on: the frame, and a packet's slots
 module _ (b u : List ℕ) (f : Frame) (c : Option Class) (l : Slots) {st st′ : State} {l′ : Slots} {n : ℕ} {ws ys : List ℕ} {went : Went}
     (on : went ≡ On) (did : Did (readRoot (envOf b u f) c (full st l (length ws))) st went n st′ l′ ws ys) where
   went-on : readRoot (envOf b u f) c (full st l (length ws)) ≡ go (did .listed) (full st′ l′ (length ws - n))
@@ -38,6 +39,9 @@ module _ (b u : List ℕ) (f : Frame) (c : Option Class) (l : Slots) {st st′ :
   root-framed h =
       let p = root-between (envOf b u f) c (full st l (length ws)) (did .listed) (full st′ l′ (length ws - n)) (h .begun) (h .within) went-on in
       record { whole = h .whole; begun = omega (arith, p .0, h .begun); within = p .1; ends = h .ends; small = h .small }
+
+  pub root-unset : LeavesUnset c → packetSlots l ≡ l → packetSlots l′ ≡ l′
+  root-unset keeps h = keeps (envOf b u f) (full st l (length ws)) (did .listed) (full st′ l′ (length ws - n)) went-on h
 
 -- m is what is left of M from `came` and l₀ on
 pub record Parted (b : List ℕ) (f : Frame) (M m : Step) (came : State) (l₀ : Slots) (ws₀ ws : List ℕ) (used : ℕ) (st : State)
