@@ -10,7 +10,7 @@ use Rattle.rules.specs.declared.Stop.{Stop}
 use Rattle.rules.specs.declared.Refusal.the-variants.{ListFull, LengthsContradict, ClocksContradict}
 use Rattle.rules.specs.Verdict.{stopAt}
 use Rattle.rules.specs.Place.{further}
-use Rattle.rules.specs.Slots.{Slots}
+use Rattle.rules.specs.Slots.{Slots, packetSlots}
 use Rattle.rules.specs.Entry.{entry, words, lengthsSettled}
 use Rattle.rules.specs.Step.{Out}
 use Rattle.rules.specs.Packet.{readRoot, readEvents, readContent, above, orElse}
@@ -22,13 +22,14 @@ use Rattle.leaf_find_number.specs.Framed.{Framed, envOf}
 use Rattle.listing.proofs.Parts.{Part}
 use Rattle.class_layout.specs.declared.Found.{Found}
 use Rattle.class_layout.specs.Fragments.{askedAt, streamClassAt}
+use Rattle.laws.specs.Kept.{LeavesUnset}
 use Rattle.field_read.specs.declared.Field.{Field}
 use Rattle.field_read.specs.Reads.{FieldReads}
 use Rattle.event_turns.specs.Roots.{classOf}
 use Rattle.outcome.specs.Ran.{RanDid, stoppedRan}
 use Rattle.contradictions.specs.Lengths.{contradicts}
 use Rattle.packet_content.specs.Pieces.{wholeFrame, packetEnv, behindFound}
-use Rattle.outcome.proofs.Parted.{root-framed}
+use Rattle.outcome.proofs.Parted.{root-framed, root-unset}
 use Rattle.outcome.proofs.Lists.{refused-ran, marked-part, part-same, part-first, first-stopped}
 use Rattle.packet_content.proofs.Lengths.{Lengths, lengths, content-full, content-lengths, content-clocks, content-marked}
 
@@ -97,6 +98,9 @@ module _ (t b : List ℕ) (p : BitPlace) (class : ℕ) (st : State) (l : Slots) 
 
   pub context-framed : Framed b (wholeFrame b p) (st .place) → r .went ≡ On → Framed b (wholeFrame b p) (r .state .place)
   context-framed h on = root-framed b ((askedAt t) .uuid) (wholeFrame b p) ((streamClassAt t class) .context) l on context h
+
+  pub context-unset : LeavesUnset ((streamClassAt t class) .context) → r .went ≡ On → packetSlots l ≡ l → packetSlots (r .slots) ≡ r .slots
+  context-unset keeps on h = root-unset b ((askedAt t) .uuid) (wholeFrame b p) ((streamClassAt t class) .context) l on context keeps h
 
   pub context-stopped : (w : Stop) → r .went ≡ Stopped w → RanDid Founded st (stoppedRan w (r .used) st) ws ys
   unfolding behindFound

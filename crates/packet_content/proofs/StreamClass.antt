@@ -37,6 +37,10 @@ module _ (t s : List ℕ) (id class : ℕ) (h : Sized t s) (e : foundOf (findStr
       let x = first-holds (SizedFragment t s) (isStream t id) (fragmentsOf t) class found-at (h .each) .0 in
       (eqb-true _ _ (and-left (eqb (u8 t class) 4) (eqb (u64 t (class + 1)) id) x), eqb-true _ _ (and-right (eqb (u8 t class) 4) (eqb (u64 t (class + 1)) id) x))
 
+  pub stream-found : (askedAt t) .stream id ≡ some (streamClassAt t class)
+  unfolding askedAt mapOption
+  stream-found = ap (mapOption (streamClassAt t)) found-at
+
   pub stream-there : class + 10 ≤ length t
   unfolding openingSize
   stream-there = rw (is-stream .0, openingSize) at (stream-sized .stands .there)
@@ -44,9 +48,9 @@ module _ (t s : List ℕ) (id class : ℕ) (h : Sized t s) (e : foundOf (findStr
   pub of-stream : (x y : Found) (timed : Bool) → timed ≡ not (eqb (u8 t (class + 9)) noClock) → x ≡ foundOf (rootPlace t class 1)
       → y ≡ foundOf (rootPlace t class 2)
       → OfStream t (record { class = class; id = id; timed = timed; header = x; common = y })
-  unfolding askedAt mapOption streamClassAt
+  unfolding streamClassAt
   of-stream x y timed w p q = record {
-    found = ap (mapOption (streamClassAt t)) found-at;
+    found = stream-found;
     id = sym (is-stream .1);
     timed = w;
     header = root-class t class 1 x p;

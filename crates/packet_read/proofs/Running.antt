@@ -1,5 +1,5 @@
 -- A packet's steps as the code takes them: each stop, and the part that is left behind entries 1 and 2.
-use mathlib.Core.Path.{_≡_, ap, sym, _∙_}
+use mathlib.Core.Path.{_≡_, refl, ap, sym, _∙_, subst}
 use mathlib.Core.List.{List, [], _∷_, _++_}
 use mathlib.Core.Bool.{Bool, true, false}
 use mathlib.Core.Option.{none}
@@ -12,7 +12,7 @@ use Rattle.rules.specs.declared.Stop.{Stop}
 use Rattle.rules.specs.declared.Refusal.the-variants.{ListFull, StreamClassChanged, StreamClassUnknown}
 use Rattle.rules.specs.Limits.{streamLimit}
 use Rattle.rules.specs.Verdict.{stopAt}
-use Rattle.rules.specs.Slots.{Slots, noSlots}
+use Rattle.rules.specs.Slots.{Slots, noSlots, packetSlots}
 use Rattle.rules.specs.Entry.{entry, words, packetStarts, streamClassFound}
 use Rattle.rules.specs.Step.{Out, _⨾_}
 use Rattle.rules.specs.Packet.{readRoot, readPacket, differs, startPacket}
@@ -28,13 +28,14 @@ use Rattle.class_layout.specs.Fragments.{askedAt, streamClassAt, findStreamAt, 
 use Rattle.class_layout.specs.Sizes.{foundOf}
 use Rattle.class_layout.specs.Notes.{Notes}
 use Rattle.class_layout.proofs.Lookups.{found-some, found-none}
+use Rattle.laws.specs.Kept.{LeavesUnset}
 use Rattle.field_read.specs.declared.Field.{Field}
 use Rattle.field_read.specs.Reads.{FieldReads}
 use Rattle.event_turns.specs.Roots.{classOf}
 use Rattle.outcome.specs.Ran.{RanDid, stoppedRan}
 use Rattle.packet_content.specs.Pieces.{wholeFrame, behindFound}
 use Rattle.packet_read.specs.Pieces.{behindHeader, freshState, Lent, Starts}
-use Rattle.outcome.proofs.Parted.{root-framed}
+use Rattle.outcome.proofs.Parted.{root-framed, root-unset}
 use Rattle.outcome.proofs.Lists.{refused-ran, marked-part}
 use Rattle.packet_read.proofs.Packeted.{header-differs, header-full, header-unknown, header-marked, packet-full, packet-marked}
 
@@ -72,6 +73,11 @@ module _ (t b : List ℕ) (p : BitPlace) (i : Stated) (st : State) (l : Slots) (
 
 -- The packet
 
+-- "All slots are unset when a packet starts", so 16 to 63 are
+none-unset : packetSlots noSlots ≡ noSlots
+unfolding packetSlots noSlots
+none-unset = refl
+
 module _ (t : List ℕ) (x : Notes) (u b : List ℕ) (h : Found) (given : Lent t x u h b) (k : ℕ) (i : Stated) (st : State) (ws : List ℕ) where
   pub packet-ran-full : (l : Slots) → length ws < 4
       → RanDid (readPacket (askedAt t) b k i (full st l (length ws))) st (stoppedRan (stopAt ListFull (st .place)) 0 st) ws ws
@@ -88,6 +94,11 @@ module _ (t : List ℕ) (x : Notes) (u b : List ℕ) (h : Found) (given : Lent t
       pub header-framed : Starts b (st .place) → r .went ≡ On → Framed b (wholeFrame b (st .place)) (r .state .place)
       unfolding freshState
       header-framed q on = rw (e) at (root-framed b u f (classOf t h) none on (d .did) (rw (e, j) (start-framed b (st .place) (given .small) q)))
+
+      pub header-unset : r .went ≡ On → packetSlots (r .slots) ≡ r .slots
+      header-unset on =
+          root-unset b u f (classOf t h) none on (d .did) (subst LeavesUnset (sym (given .header)) (given .ready .keeps .packet))
+          (subst (λ l. packetSlots l ≡ l) (sym n) none-unset)
 
       pub header-stopped : (l : Slots) (v : Stop) → r .went ≡ Stopped v
           → RanDid (readPacket (askedAt t) b k i (full st l (length ws))) st (stoppedRan v (4 + r .used) st) ws (merged 4 ws₁ ys)

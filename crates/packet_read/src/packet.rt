@@ -24,7 +24,7 @@ use rules::Slot;
 use rules::Stated;
 ghost use mathlib.Core.Path.{_≡_};
 ghost use lib.ListN.{length};
-ghost use Rattle.rules.specs.Slots.{noSlots};
+ghost use Rattle.rules.specs.Slots.{noSlots, packetSlots};
 ghost use Rattle.rules.specs.Packet.{readPacket, nothingSaid};
 ghost use Rattle.leaf_find_number.specs.Framed.{Framed};
 ghost use Rattle.listing.specs.Did.{full};
@@ -129,6 +129,7 @@ fn read_behind_header(
     requires { ⌜ Within (now table) (notes (now sizes) (now aligns)) (now uuid) (now stream) ⌝ }
     requires { ⌜ Framed (now stream) (wholeFrame (now stream) start) (st .place) ⌝ }
     requires { ⌜ Hints (now table) (now index) ⌝ }
+    requires { ⌜ packetSlots slots ≡ slots ⌝ }
     ensures { λ r. ⌜
         RanDid (behindHeader (askedAt (now (table .entry))) (now (stream .entry)) start first (full st slots (length (now (list .entry)))))
         st r (now (list .entry)) (now (list .exit))
