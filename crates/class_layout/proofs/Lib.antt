@@ -3,7 +3,8 @@ mod ClassRecords
 mod Sound
 mod Stands
 pub mod Standing
-mod One
+pub mod Fields
+pub mod One
 pub mod Depths
 pub mod Split
 pub mod InPlace

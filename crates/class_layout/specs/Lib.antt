@@ -2,3 +2,4 @@ pub mod Trees
 pub mod Fragments
 pub mod Sizes
 pub mod Notes
+pub mod Fields

@@ -33,7 +33,8 @@ use Rattle.listing.proofs.Parts.{Part, part-step, part-stop, part-length, lent-
 use Rattle.laws.specs.Kept.{KeepsSlots}
 use Rattle.class_layout.specs.Trees.{Stood, membersAt}
 use Rattle.class_layout.proofs.Standing.{First}
-use Rattle.field_read.proofs.Turns.{Call, call, env, outcome, CallReads, stoppedCall, Walked, Turn, members-end}
+use Rattle.field_read.proofs.Turns.{Call, call, env, outcome, CallReads, stoppedCall, Walked, Turn}
+use Rattle.class_layout.proofs.Fields.{members-end}
 use Rattle.outcome.specs.Ran.{EventDid, stoppedRan}
 use Rattle.event_turns.specs.Roots.{partsOf}
 use Rattle.outcome.proofs.Lists.{part-same}

@@ -1,9 +1,9 @@
 -- A walk, turn by turn: no room, or a leaf or a field that holds others, which stops the walk or goes on.
--- In order: calls of the cycle; what a walk keeps; its fields from the front; one turn; the walk's end; slots past the sixty-four.
+-- In order: calls of the cycle; what a walk keeps; one turn; the walk's end.
 use mathlib.Core.Path.{_≡_, refl, ap, _∙_}
 use mathlib.Core.List.{List, [], append-nil}
-use mathlib.Core.Bool.{Bool, true, false}
-use Prim.Native.Nat.{ℕ, zero, suc, _+_, _-_, _≤_, _<_}
+use mathlib.Core.Bool.{Bool}
+use Prim.Native.Nat.{ℕ, _+_, _-_, _≤_, _<_}
 use native.Mathlib.Omega.{arith}
 use borrow.Rule.Slice.PartMut.{same-len-mid}
 use lib.ListN.{length, length-set}
@@ -17,7 +17,7 @@ use Rattle.rules.specs.Class.{Class, fixed, leb128, signedLeb128, string, stati
 use Rattle.rules.specs.Class.{structure, staticArray, dynamicArray, flagged, optional, variant}
 use Rattle.rules.specs.Step.{State as Full, Out, stop, go, Step, onto, after, _⨾_, pass, refuse}
 use Rattle.rules.specs.Field.{Env, read, readFixed, readMembers, times}
-use Rattle.class_layout.specs.Trees.{Stood, stoodAt, classAt, nextAt, membersAt, whole}
+use Rattle.class_layout.specs.Trees.{stoodAt, classAt, nextAt, membersAt}
 use Rattle.leaf_find_number.specs.declared.Frame.{Frame}
 use Rattle.listing.specs.declared.State.{State}
 use Rattle.leaf_after.specs.declared.Leaf.{Leaf}
@@ -30,8 +30,8 @@ use Rattle.listing.proofs.Parts.{Part, part-start, part-step, part-stop, part-e
 use Rattle.field_read.specs.declared.Field.{Field}
 use Rattle.leaf_read.specs.Reads.{LeafReads}
 use Rattle.field_read.specs.Reads.{FieldReads, stoppedField}
-use Rattle.field_read.specs.Both.{readFields, wholeFields, onward}
-use Rattle.class_layout.proofs.Standing.{first, no-member}
+use Rattle.class_layout.specs.Fields.{readFields, onward}
+use Rattle.class_layout.proofs.Fields.{Foremost}
 use Rattle.laws.proofs.Between.{read-between}
 
 -- a call of the cycle: it reads `all`, from `came` and `given` on, and lists into `list`
@@ -128,26 +128,6 @@ still-framed b u f c l {st} {st′} {l′} {n} {ws} h on did =
     let between = read-between (envOf b u f) c before (did .listed) behind (h .begun) (h .within) (did .out ∙ rw (on) refl) in
     record { whole = h .whole; begun = omega (arith, between .0, h .begun); within = between .1; ends = h .ends; small = h .small }
 
--- the fields of a walk from the front: one, and then the others from the byte of the next
-
-more-times : (n : ℕ) (m : Step) → 0 < n → times n m ≡ (m ⨾ times (n - 1) m)
-unfolding times
-more-times zero m h = absurd (omega arith)
-more-times (suc n) m h = let e : suc n - 1 ≡ n = omega arith in rw e refl
-
-pub record Foremost (again : Bool) (d : ℕ) (t : List ℕ) (at n : ℕ) : Type 0 where
-  pub stands : whole d t at
-  pub rest : wholeFields again d t (onward again at (nextAt d t at)) (n - 1)
-  pub reads : (e : Env)
-      → readFields again d t at n e ≡ (read e (classAt d t at) ⨾ readFields again d t (onward again at (nextAt d t at)) (n - 1) e)
-
-pub foremost : (again : Bool) (d : ℕ) (t : List ℕ) (at n : ℕ) → 0 < n → wholeFields again d t at n → Foremost again d t at n
-unfolding readFields wholeFields onward readMembers
-foremost false d t at n h w =
-    let m = first (whole d t) (stoodAt d t) at n h w in
-    record { stands = m .whole; rest = m .rest; reads = λ e. ap (readMembers e) (m .classes) }
-foremost true d t at n h w = record { stands = w; rest = w; reads = λ e. more-times n (read e (classAt d t at)) h }
-
 -- one turn: c is its class, and g is left behind it
 pub record Turn (w : Call) (c : Class) (g : Step) (ws : List ℕ) (used : ℕ) (st : State) (l : Slots) : Type 0 where
   pub walked : Walked w (read (env w) c ⨾ g) ws used st l
@@ -210,18 +190,3 @@ walk-end {w} h e = record {
   kept = λ v off. let z : _≡_ {A = ℕ} 0 1 = cc in absurd (omega arith);
   many = h .many;
 }
-
--- a walk of no classes
-pub members-end : (e : Env) (h : ℕ → Stood) (at n : ℕ) → n ≤ 0 → (s : Full) → readMembers e (membersAt h at n) s ≡ go [] s
-unfolding readMembers pass
-members-end e h at n k s = rw (no-member h at n k) refl
-
-no-times : (n : ℕ) (m : Step) → n ≤ 0 → (s : Full) → times n m s ≡ go [] s
-unfolding times pass
-no-times zero m h s = refl
-no-times (suc n) m h s = absurd (omega arith)
-
-pub fields-end : (again : Bool) (d : ℕ) (t : List ℕ) (at n : ℕ) (e : Env) → n ≤ 0 → (s : Full) → readFields again d t at n e s ≡ go [] s
-unfolding readFields
-fields-end false d t at n e h s = members-end e (stoodAt d t) at n h s
-fields-end true d t at n e h s = no-times n (read e (classAt d t at)) h s

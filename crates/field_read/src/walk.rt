@@ -30,8 +30,8 @@ ghost use Rattle.rules.specs.Field.{read, readMembers, times};
 ghost use Rattle.leaf_find_number.specs.Framed.{Framed, envOf};
 ghost use Rattle.class_layout.specs.Trees.{whole, wholeMembers, stoodAt, classAt, membersAt};
 ghost use Rattle.class_layout.specs.Notes.{notes, Prepared};
+ghost use Rattle.class_layout.specs.Fields.{readFields, wholeFields, onward};
 ghost use Rattle.field_read.specs.Reads.{FieldReads, stoppedField, entered};
-ghost use Rattle.field_read.specs.Both.{readFields, wholeFields, onward};
 
 // The field of the class at a byte, which holds fields, where there is room for its entry. `left` depths are left, its own among them.
 pub fn read_field(

@@ -42,17 +42,17 @@ use Rattle.rules.specs.Step.{Step}
 use Rattle.listing.specs.declared.State.{State}
 use Rattle.listing.specs.declared.Went.{Went}
 use Rattle.leaf_find_number.specs.Framed.{envOf}
-use Rattle.field_read.specs.Both.{readFields, wholeFields, onward}
+use Rattle.class_layout.specs.Fields.{readFields, wholeFields, onward}
 use Rattle.listing.proofs.Parts.{part-length, lent-room}
 use Rattle.class_layout.specs.Trees.{classAt, nextAt}
 use Rattle.class_layout.specs.Notes.{notes, Prepared}
 use Rattle.class_layout.proofs.Standing.{depth-some, kind-high, leaf-whole, leaf-class}
+use Rattle.class_layout.proofs.Fields.{Foremost, foremost, fields-end}
 use Rattle.class_layout.proofs.Turns.{whole-inside}
-use Rattle.field_read.proofs.Turns.{Call, call, env, classRead, Walked, walk-start, walk-end, Foremost, foremost}
+use Rattle.field_read.proofs.Turns.{Call, call, env, classRead, Walked, walk-start, walk-end}
 use Rattle.field_read.proofs.Turns.{Turn, Turned, fields-turn, turn-full, leaf-turned, field-turned}
 use Rattle.field_inside.proofs.Slots.{content-met, past-unset}
 use Rattle.facts.proofs.Slots.{no-slot}
-use Rattle.field_read.proofs.Turns.{fields-end}
 use Rattle.field_read.proofs.Holds.{Holder, Closed, slot-within, can-look, members-held, elements-held}
 use Rattle.field_read.proofs.Holds.{refusal-reads, members-closed, elements-closed, closed-reads}
 

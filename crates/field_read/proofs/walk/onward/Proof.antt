@@ -3,7 +3,7 @@ use borrow.Author.Needs.{needs}
 use Rattle.field_read.proofs.walk.onward.Statement.{statement}
 use Rattle.field_read.proofs.walk.onward.Tie as tie
 use mathlib.Core.Path.{refl}
-use Rattle.field_read.specs.Both.{onward}
+use Rattle.class_layout.specs.Fields.{onward}
 
 returns : tie.Need-returns
 unfolding onward

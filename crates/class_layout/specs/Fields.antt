@@ -1,11 +1,11 @@
--- Both walks as one: n fields from a byte of the table on, of classes that stand one behind the other, or again and again of the class there.
+-- Fields in a row: n of them from a byte of the table on, of classes that stand one behind the other, or again and again of the class there.
 -- They may have d depths.
 use Prim.Native.Nat.{ℕ}
 use mathlib.Core.List.{List}
 use mathlib.Core.Bool.{Bool, true, false}
 use Rattle.rules.specs.Step.{Step}
 use Rattle.rules.specs.Field.{Env, read, readMembers, times}
 use Rattle.class_layout.specs.Trees.{stoodAt, classAt, membersAt, whole, wholeMembers}
 
 unfoldable pub readFields : Bool → ℕ → List ℕ → ℕ → ℕ → Env → Step
 readFields false d t at n e = readMembers e (membersAt (stoodAt d t) at n)
