@@ -62,12 +62,37 @@ back W U ws₀ ws ys u n k e w y h =
     let z : drop k (drop u ws) ≡ [] = drop-of-length-le (drop u ws) {i = k} (omega (arith, length-drop u ws)) in
     rw (z, t, y, d, drop-drop, append-nil, append-assoc)
 
+-- entries stand in ws, which was ws₀, and take `used` words
+pub record Listed (es : List Entry) (ws₀ ws : List ℕ) (used : ℕ) : Type 0 where
+  pub list : ws ≡ words es ++ drop used ws₀
+  pub counted : used ≡ 4 * length es
+  pub room : used ≤ length ws₀
+
+pub none-listed : (ws : List ℕ) → Listed [] ws ws 0
+unfolding words
+none-listed ws = record { list = refl; counted = refl; room = omega arith }
+
+module _ {es : List Entry} {ws₀ ws : List ℕ} {used : ℕ} (h : Listed es ws₀ ws used) where
+  pub listed-length : length ws ≡ length ws₀
+  listed-length =
+      omega (arith, ap length (h .list), length-append (words es) (drop used ws₀), length-drop used ws₀, words-length es, h .counted, h .room)
+
+  -- one more was written into what is lent behind them
+  pub one-more : (e : Entry) {ys : List ℕ} → used + 4 ≤ length ws₀ → ys ≡ words (e ∷ []) ++ drop 4 (lent used ws)
+      → Listed (es ++ (e ∷ [])) ws₀ (merged used ws ys) (used + 4)
+  one-more e room is = record {
+    list = rw (words-append)
+        (back (words es) (words (e ∷ [])) ws₀ ws _ used 4 (length ws - used) (h .list) (h .counted ∙ sym (words-length es)) (rw (lent-is used ws) at is) (omega arith));
+    counted = omega (arith, h .counted, length-append es (e ∷ []));
+    room = room;
+  }
+
 module _ {o : Out} {m : Step} {ws₀ ws : List ℕ} {used : ℕ} {st : State} {l : Slots} (p : Part o m ws₀ ws used st l) where
   size : used ≡ length (words (p .listed))
   size = p .counted ∙ sym (words-length (p .listed))
 
   pub part-length : length ws ≡ length ws₀
-  part-length = omega (arith, ap length (p .list), length-append (words (p .listed)) (drop used ws₀), length-drop used ws₀, p .room, size)
+  part-length = listed-length record { list = p .list; counted = p .counted; room = p .room }
 
   pub part-room : length (drop used ws) ≡ length ws₀ - used
   part-room = omega (arith, length-drop used ws, part-length)
