@@ -1,5 +1,5 @@
--- Fields in a row: n of them from a byte of the table on, of classes that stand one behind the other, or again and again of the class there.
--- They may have d depths.
+-- Fields in a row: n of them from a byte of the table on, of classes that stand one behind the other, or again and again of the class
+-- there. They may have d depths.
 use Prim.Native.Nat.{ℕ}
 use mathlib.Core.List.{List}
 use mathlib.Core.Bool.{Bool, true, false}

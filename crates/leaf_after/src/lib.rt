@@ -3,6 +3,7 @@
 // leaf_see_bytes, 23 to 27.
 use listing::State;
 use listing::Went;
+use rules::BitPlace;
 use rules::Content;
 use rules::Entry;
 use rules::LastOrder;
@@ -36,4 +37,21 @@ pub struct Leaf {
     pub state: State,
     pub slot: u8,
     pub content: Content,
+}
+
+// What some leaves did: whether it went on, or why not; the class of the last one that was begun, and how many are left behind it, or with
+// it where it stopped; the place and the order behind the last one, or where it stopped; the words that they listed; and what is still due
+// of the last one, its slot and its role. No enum is joined here that holds a stop: numbers alone are cheap to hand back.
+pub struct Leaves {
+    pub on: bool,
+    pub why: Refusal,
+    pub at: usize,
+    pub todo: usize,
+    pub place: BitPlace,
+    pub order: LastOrder,
+    pub used: usize,
+    pub slot: u8,
+    pub role: u8,
+    pub width: u64,
+    pub value: u64,
 }

@@ -1,5 +1,5 @@
--- The leaf of the class at a byte: what is seen of it by the numbers of its record is what the rules' reading of the class that stands there
--- does.
+-- The leaf of the class at a byte: what is seen of it by the numbers of its record is what the rules' reading of the class that stands
+-- there does.
 use mathlib.Core.Path.{_≡_, refl, sym, ap, subst, _∙_}
 use Prim.Native.Nat.{ℕ, zero, suc, _+_, _-_, _^_, _≤_, _<_}
 use native.Mathlib.Omega.{arith}
@@ -18,9 +18,8 @@ use Rattle.rules.specs.declared.Order.the-variants.{Big}
 use Rattle.rules.specs.declared.Content.{Content}
 use Rattle.rules.specs.declared.Content.the-variants.{Unsigned, Signed}
 use Rattle.rules.specs.Limits.{noSlot, slotCount}
-use Rattle.rules.specs.Class.{Sort, bitArray, boolean, unsignedInt, signedInt, float, Class, fixed}
+use Rattle.rules.specs.Class.{Sort, bitArray, boolean, unsignedInt, signedInt, float, Class}
 use Rattle.rules.specs.Record.{bitField, u8, u16}
-use Rattle.rules.specs.Faults.{roleOf}
 use Rattle.rules.specs.Parse.{orderOf}
 use Rattle.rules.specs.Slots.{Slots, slotAt}
 use Rattle.rules.specs.Step.{State as Whole, Step}
@@ -53,9 +52,9 @@ use Rattle.leaf_after.proofs.Seeing.{dynamic-string-read, dynamic-blob-read}
 use Rattle.leaf_after.proofs.Fits.{fixed-fits, unsigned-fits, signed-fits, plain-fits, blob-fits}
 use Rattle.leaf_see_number.specs.Extends.{Extends}
 use Rattle.leaf_see_bytes.specs.Within.{Within}
-use Rattle.class_layout.specs.Trees.{shapes, shapeOf, recordSize, stoodAt, classIn, classAt, whole, wholeIn}
+use Rattle.class_layout.specs.Trees.{shapes, shapeOf, recordSize, stoodAt, fixedAt, classIn, classAt, whole, wholeIn}
 use Rattle.leaf_read.specs.Reads.{LeafReads, leafSlot}
-use Rattle.leaf_read.specs.Seen.{Apart, LeafSeen, dynamicSeen}
+use Rattle.leaf_read.specs.Seen.{Apart, LeafSeen, bitsSeenAt, dynamicSeen, seenIn, seenAt}
 
 -- a kind that is none of the n kinds from a on, as `match` says it
 abbrev pub NoneOf : ℕ → ℕ → ℕ → Type 0
@@ -158,12 +157,12 @@ unfolding leafSlot
 none-read t at {k} e h y small d is = absurd (omega (arith, rw (e, lt-ltb k 26 h, leafSlot) at small))
 
 -- what names no slot sets none
-plain-apart : (k : ℕ) (o : LastOrder) (x : Found) (d : Due) → seen x (plainSeen k o) ≡ Field d → slotCount ≤ d .slot
+pub plain-apart : (k : ℕ) (o : LastOrder) (x : Found) (d : Due) → seen x (plainSeen k o) ≡ Field d → slotCount ≤ d .slot
 unfolding seen plainSeen
 plain-apart k o (At p n v) d e = let same : noSlot ≡ d .slot = cc in omega (arith, same)
 plain-apart k o (Refused r) d e = let z : _≡_ {A = ℕ} 0 1 = cc in absurd (omega arith)
 
-dynamic-apart : (b : List ℕ) (f : Frame) (p : BitPlace) (o : LastOrder) (k : ℕ) (l : Length) (d : Due)
+pub dynamic-apart : (b : List ℕ) (f : Frame) (p : BitPlace) (o : LastOrder) (k : ℕ) (l : Length) (d : Due)
     → forLength l (dynamicSeen b f p o k) ≡ Field d → slotCount ≤ d .slot
 unfolding forLength dynamicSeen
 dynamic-apart b f p o k (Of n) d e = by (eqb k 26) refl e
@@ -174,100 +173,120 @@ dynamic-apart b f p o k (Of n) d e = by (eqb k 26) refl e
 dynamic-apart b f p o k (NotOf r) d e = let z : _≡_ {A = ℕ} 0 1 = cc in absurd (omega arith)
 
 -- to do what is seen is to read the class that stands there
-abbrev SeesAt : List ℕ → List ℕ → Frame → List ℕ → ℕ → Content → BitPlace → LastOrder → Seen → Type 0
+abbrev pub SeesAt : List ℕ → List ℕ → Frame → List ℕ → ℕ → Content → BitPlace → LastOrder → Seen → Type 0
 SeesAt b u f t at = LeafSeen (read (envOf b u f) (classAt 1 t at)) (leafSlot t at)
 
 -- kinds 26 and 27, by what the slot holds
 abbrev dynamically : List ℕ → Frame → Content → ℕ → BitPlace → LastOrder → Seen
 dynamically b f x k p o = forLength (lengthOf x) (dynamicSeen b f p o k)
 
-module _ (b u : List ℕ) (f : Frame) (t : List ℕ) (at : ℕ) {x : Content} {p : BitPlace} {o : LastOrder} {r : Seen} (framed : Framed b f p) where
+module _ (t b u : List ℕ) (f : Frame) (at : ℕ) (p : BitPlace) (o : LastOrder) (x : Content) where
+  -- what is seen of the leaf at a byte, by its kind
+  pub seen-of : (k : ℕ) → u8 t at ≡ k → seenAt t b u f at p o x ≡ seenIn t b u f at p o x (shapeOf k)
+  unfolding seenAt
+  seen-of k e = rw (e) refl
+
+  -- what the code finds of kinds 16 to 20, by the numbers that it reads
+  pub bits-of : {w e : ℕ} {d : Order} {r : Seen} → BitsSay t at w d e → (k : Sort) (i ro : ℕ)
+      → r ≡ seen (foundBits b f p o w d (2 ^ e)) (fixedSeen k d i ro) → seenAt t b u f at p o x ≡ bitsSeenAt t b f at p o k i ro
+      → r ≡ seenAt t b u f at p o x
+  unfolding bitsSeenAt
+  bits-of n k i ro is sees = rw (n .width, n .order, n .exponent) at is ∙ sym sees
+
+  pub dynamic-of : 26 ≤ u8 t at → u8 t at < 28 → seenAt t b u f at p o x ≡ dynamically b f x (u8 t at) p o
+  unfolding shapeOf shapes seenIn
+  dynamic-of low high = ⊎-elim
+      (λ (h : u8 t at < 27). let k : u8 t at ≡ 26 = omega arith in rw (k) (seen-of 26 k))
+      (λ (h : 27 ≤ u8 t at). let k : u8 t at ≡ 27 = omega arith in rw (k) (seen-of 27 k))
+      (lt-or-ge (u8 t at) 27)
+
+no-role : {A : Type 0} → _≡_ {A = ℕ} 0 7 → A
+no-role e = absurd (omega arith)
+
+module _ (b u : List ℕ) (f : Frame) (t : List ℕ) (at : ℕ) (p : BitPlace) (o : LastOrder) (x : Content) (framed : Framed b f p) where
+  abbrev this : Seen
+  this = seenAt t b u f at p o x
+
   -- y is what is seen from a place on, with an order as the last
-  by-class : (c : Class) (y : BitPlace → LastOrder → Seen) → classAt 1 t at ≡ c → Fits (y p o) → Apart (leafSlot t at) (y p o) → r ≡ y p o
+  by-class : (c : Class) (y : BitPlace → LastOrder → Seen) → classAt 1 t at ≡ c → this ≡ y p o → Fits (y p o)
+      → Apart (leafSlot t at) (y p o)
       → ((s : Whole) → 4 ≤ s .room → length (s .slots) ≡ slotCount → slotAt (s .slots) (leafSlot t at) ≡ x
       → read (envOf b u f) c s ≡ done (y (s .place) (s .order)) s)
-      → SeesAt b u f t at x p o r
-  by-class c y e fits apart is law = record {
+      → SeesAt b u f t at x p o this
+  by-class c y e is fits apart law = record {
     same = λ s room long slot place order.
-        rw (e) (law s room long slot ∙ ap (λ q. done (y q (s .order)) s) place ∙ ap (λ l. done (y p l) s) order ∙ ap (λ z. done z s) (sym is));
+        rw (e) (law s room long slot ∙ ap (λ q. done (y q (s .order)) s) place ∙ ap (λ l. done (y p l) s) order
+        ∙ ap (λ z. done z s) (sym is));
     fits = rw (is) fits;
     apart = rw (is) apart;
   }
 
-  module _ {w e : ℕ} {d : Order} (n : BitsSay t at w d e) where
-    bits-sees : (k : Sort) (i ro : ℕ)
-        → classAt 1 t at ≡ fixed k (u8 t (at + 1)) (orderOf (u8 t (at + 2))) (u8 t (at + 3)) i (roleOf ro)
-        → (ro ≡ 7 → (m v : ℕ) → valueOf k m v ≡ v) → u8 t at < 21 → r ≡ seen (foundBits b f p o w d (2 ^ e)) (fixedSeen k d i ro)
-        → SeesAt b u f t at x p o r
-    unfolding read
-    bits-sees k i ro c same low is =
-        by-class (fixed k w d e i (roleOf ro)) (λ q l. seen (foundBits b f q l w d (2 ^ e)) (fixedSeen k d i ro))
-        (rw (n .width, n .order, n .exponent) c) (fixed-fits framed o w d (2 ^ e) k i ro same) (none-read t at refl (omega arith) _) is
-        (λ s room long slot. fixed-read b u f s room k w d (2 ^ e) i ro)
+  bits-sees : (k : Sort) (i ro : ℕ) → classAt 1 t at ≡ fixedAt k t at i ro → this ≡ bitsSeenAt t b f at p o k i ro
+      → (ro ≡ 7 → (m v : ℕ) → valueOf k m v ≡ v) → u8 t at < 21 → SeesAt b u f t at x p o this
+  unfolding read bitsSeenAt
+  bits-sees k i ro c is same low =
+      let d = orderOf (u8 t (at + 2)) in
+      let w = u8 t (at + 1) in
+      let a = 2 ^ u8 t (at + 3) in
+      by-class _ (λ q l. seen (foundBits b f q l w d a) (fixedSeen k d i ro)) c is
+      (fixed-fits framed o w d a k i ro same) (none-read t at refl (omega arith) _)
+      (λ s room long slot. fixed-read b u f s room k w d a i ro)
 
-    pub bit-array-sees : u8 t at ≡ 16 → r ≡ seen (foundBits b f p o w d (2 ^ e)) (fixedSeen bitArray d noSlot 0) → SeesAt b u f t at x p o r
-    unfolding shapeOf shapes classIn
-    bit-array-sees k = bits-sees bitArray noSlot 0 (class-of t at 16 k) (λ z. absurd (omega arith)) (omega (arith, k))
+  -- kinds 26 and 27
+  dynamic-fits : (k : ℕ) → Fits (dynamically b f x k p o)
+  unfolding forLength dynamicSeen Fits
+  dynamic-fits k = by (lengthOf x)
+    where
+      by-kind : (n : ℕ) (t : Bool) → eqb k 26 ≡ t → Fits (dynamicSeen b f p o k n)
+      by-kind n true e = rw (e, dynamicSeen) (plain-fits k o _ (text-ends framed n refl))
+      by-kind n false e = rw (e, dynamicSeen) (plain-fits k o _ (blob-ends framed n refl))
 
-    pub boolean-sees : u8 t at ≡ 17 → r ≡ seen (foundBits b f p o w d (2 ^ e)) (fixedSeen boolean d (u8 t (at + 4)) 0) → SeesAt b u f t at x p o r
-    unfolding shapeOf shapes classIn
-    boolean-sees k = bits-sees boolean (u8 t (at + 4)) 0 (class-of t at 17 k) (λ z. absurd (omega arith)) (omega (arith, k))
+      by : (l : Length) → Fits (forLength l (dynamicSeen b f p o k))
+      by (Of n) = by-kind (n .0) (eqb k 26) refl
+      by (NotOf r) = tt
 
-    pub unsigned-sees : u8 t at ≡ 18 → r ≡ seen (foundBits b f p o w d (2 ^ e)) (fixedSeen unsignedInt d (u8 t (at + 4)) (u8 t (at + 5))) → SeesAt b u f t at x p o r
-    unfolding shapeOf shapes classIn valueOf
-    unsigned-sees k = bits-sees unsignedInt (u8 t (at + 4)) (u8 t (at + 5)) (class-of t at 18 k) (λ z m v. refl) (omega (arith, k))
+  module _ (bytes : Bytes b) where
+    abbrev Sees : ℕ → Type 0
+    Sees i = u8 t at ≡ 16 + i → SeesAt b u f t at x p o this
 
-    pub signed-sees : u8 t at ≡ 19 → r ≡ seen (foundBits b f p o w d (2 ^ e)) (fixedSeen signedInt d (u8 t (at + 4)) 0) → SeesAt b u f t at x p o r
-    unfolding shapeOf shapes classIn
-    signed-sees k = bits-sees signedInt (u8 t (at + 4)) 0 (class-of t at 19 k) (λ z. absurd (omega arith)) (omega (arith, k))
+    is : (k : ℕ) → u8 t at ≡ k → this ≡ seenIn t b u f at p o x (shapeOf k)
+    is k e = seen-of t b u f at p o x k e
 
-    pub float-sees : u8 t at ≡ 20 → r ≡ seen (foundBits b f p o w d (2 ^ e)) (fixedSeen float d noSlot 0) → SeesAt b u f t at x p o r
-    unfolding shapeOf shapes classIn
-    float-sees k = bits-sees float noSlot 0 (class-of t at 20 k) (λ z. absurd (omega arith)) (omega (arith, k))
+    sees : (i : ℕ) → i < 12 → Sees i
+    unfolding shapeOf shapes classIn seenIn valueOf dynamicSeen
+    sees = below Sees 12
+        ((λ k. bits-sees bitArray noSlot 0 (class-of t at 16 k) (is 16 k) (λ z. no-role z) (omega (arith, k)))
+        ▷ (λ k. bits-sees boolean (u8 t (at + 4)) 0 (class-of t at 17 k) (is 17 k) (λ z. no-role z) (omega (arith, k)))
+        ▷ (λ k. bits-sees unsignedInt (u8 t (at + 4)) (u8 t (at + 5)) (class-of t at 18 k) (is 18 k) (λ z m v. refl) (omega (arith, k)))
+        ▷ (λ k. bits-sees signedInt (u8 t (at + 4)) 0 (class-of t at 19 k) (is 19 k) (λ z. no-role z) (omega (arith, k)))
+        ▷ (λ k. bits-sees float noSlot 0 (class-of t at 20 k) (is 20 k) (λ z. no-role z) (omega (arith, k)))
+        ▷ (λ k. by-class _ (λ q l. seen (foundUnsigned b f q) (lebSeen 21 Unsigned l (u8 t (at + 1)) (u8 t (at + 2))))
+        (class-of t at 21 k) (is 21 k) (unsigned-fits framed bytes o _ _) (none-read t at k (omega arith) _)
+        (λ s room long slot. unsigned-read b u f s room _ _))
+        ▷ (λ k. by-class _ (λ q l. seen (foundSigned b f q) (lebSeen 22 Signed l (u8 t (at + 1)) 0))
+        (class-of t at 22 k) (is 22 k) (signed-fits framed o _) (none-read t at k (omega arith) _)
+        (λ s room long slot. signed-read b u f s room _))
+        ▷ (λ k. by-class _ (λ q l. seen (foundString b f q) (plainSeen 23 l))
+        (class-of t at 23 k) (is 23 k) (plain-fits 23 o _ (string-ends framed refl)) (none-read t at k (omega arith) _)
+        (λ s room long slot. string-read b u f s room long))
+        ▷ (λ k. by-class _ (λ q l. seen (foundText b f q (u16 t (at + 1))) (plainSeen 24 l))
+        (class-of t at 24 k) (is 24 k) (plain-fits 24 o _ (text-ends framed _ refl)) (none-read t at k (omega arith) _)
+        (λ s room long slot. static-string-read b u f s room long _))
+        ▷ (λ k. by-class _ (λ q l. seen (foundBlob f q (u16 t (at + 1))) (blobSeen b u (u8 t (at + 3)) l))
+        (class-of t at 25 k) (is 25 k) (blob-fits b u o _ _ (blob-ends framed _ refl)) (none-read t at k (omega arith) _)
+        (λ s room long slot. static-blob-read b u f s room long _ _))
+        ▷ (λ k. by-class _ (dynamically b f x 26)
+        (class-of t at 26 k) (is 26 k) (dynamic-fits 26) (λ h d. dynamic-apart b f p o 26 (lengthOf x) d)
+        (λ s room long slot. dynamic-string-read b u f s room long _ ∙ rw (slot-of t at 26 k (omega arith) (s .slots) slot) refl))
+        ▷ (λ k. by-class _ (dynamically b f x 27)
+        (class-of t at 27 k) (is 27 k) (dynamic-fits 27) (λ h d. dynamic-apart b f p o 27 (lengthOf x) d)
+        (λ s room long slot. dynamic-blob-read b u f s room long _ ∙ rw (slot-of t at 27 k (omega arith) (s .slots) slot) refl))
+        ▷ tt)
 
-  pub unsigned-leb-sees : Bytes b → u8 t at ≡ 21
-      → r ≡ seen (foundUnsigned b f p) (lebSeen 21 Unsigned o (u8 t (at + 1)) (u8 t (at + 2))) → SeesAt b u f t at x p o r
-  unfolding shapeOf shapes classIn
-  unsigned-leb-sees h k is =
-      by-class _ (λ q l. seen (foundUnsigned b f q) (lebSeen 21 Unsigned l (u8 t (at + 1)) (u8 t (at + 2))))
-      (class-of t at 21 k) (unsigned-fits framed h o _ _) (none-read t at k (omega arith) _) is (λ s room long slot. unsigned-read b u f s room _ _)
-
-  pub signed-leb-sees : u8 t at ≡ 22 → r ≡ seen (foundSigned b f p) (lebSeen 22 Signed o (u8 t (at + 1)) 0) → SeesAt b u f t at x p o r
-  unfolding shapeOf shapes classIn
-  signed-leb-sees k is =
-      by-class _ (λ q l. seen (foundSigned b f q) (lebSeen 22 Signed l (u8 t (at + 1)) 0))
-      (class-of t at 22 k) (signed-fits framed o _) (none-read t at k (omega arith) _) is (λ s room long slot. signed-read b u f s room _)
-
-  pub string-sees : u8 t at ≡ 23 → r ≡ seen (foundString b f p) (plainSeen 23 o) → SeesAt b u f t at x p o r
-  unfolding shapeOf shapes classIn
-  string-sees k is =
-      by-class _ (λ q l. seen (foundString b f q) (plainSeen 23 l))
-      (class-of t at 23 k) (plain-fits 23 o _ (string-ends framed refl)) (none-read t at k (omega arith) _) is (λ s room long slot. string-read b u f s room long)
-
-  pub static-string-sees : u8 t at ≡ 24 → r ≡ seen (foundText b f p (u16 t (at + 1))) (plainSeen 24 o) → SeesAt b u f t at x p o r
-  unfolding shapeOf shapes classIn
-  static-string-sees k is =
-      by-class _ (λ q l. seen (foundText b f q (u16 t (at + 1))) (plainSeen 24 l))
-      (class-of t at 24 k) (plain-fits 24 o _ (text-ends framed _ refl)) (none-read t at k (omega arith) _) is (λ s room long slot. static-string-read b u f s room long _)
-
-  pub static-blob-sees : u8 t at ≡ 25 → r ≡ seen (foundBlob f p (u16 t (at + 1))) (blobSeen b u (u8 t (at + 3)) o) → SeesAt b u f t at x p o r
-  unfolding shapeOf shapes classIn
-  static-blob-sees k is =
-      by-class _ (λ q l. seen (foundBlob f q (u16 t (at + 1))) (blobSeen b u (u8 t (at + 3)) l))
-      (class-of t at 25 k) (blob-fits b u o _ _ (blob-ends framed _ refl)) (none-read t at k (omega arith) _) is (λ s room long slot. static-blob-read b u f s room long _ _)
-
-  pub dynamic-sees : 26 ≤ u8 t at → u8 t at < 28 → Fits (dynamically b f x (u8 t at) p o) → r ≡ dynamically b f x (u8 t at) p o → SeesAt b u f t at x p o r
-  unfolding shapeOf shapes classIn dynamicSeen
-  dynamic-sees low high fits is = ⊎-elim
-      (λ (h : u8 t at < 27).
-      let k : u8 t at ≡ 26 = omega arith in
-      by-class _ (dynamically b f x 26) (class-of t at 26 k) (rw (k) at fits) (λ h d. dynamic-apart b f p o 26 (lengthOf x) d) (rw (k) at is)
-      (λ s room long slot. dynamic-string-read b u f s room long _ ∙ rw (slot-of t at 26 k (omega arith) (s .slots) slot) refl))
-      (λ (h : 27 ≤ u8 t at).
-      let k : u8 t at ≡ 27 = omega arith in
-      by-class _ (dynamically b f x 27) (class-of t at 27 k) (rw (k) at fits) (λ h d. dynamic-apart b f p o 27 (lengthOf x) d) (rw (k) at is)
-      (λ s room long slot. dynamic-blob-read b u f s room long _ ∙ rw (slot-of t at 27 k (omega arith) (s .slots) slot) refl))
-      (lt-or-ge (u8 t at) 27)
+    -- to do what is seen of the leaf at a byte is to read its class
+    pub leaf-sees : whole 1 t at → u8 t at < 28 → SeesAt b u f t at x p o this
+    unfolding whole
+    leaf-sees w h = sees (u8 t at - 16) (omega (arith, w .low)) (omega (arith, w .low))
 
 -- what the code rests on: a number in bits can be extended, and a BLOB's bytes lie in the stream
 module _ {b : List ℕ} {f : Frame} {p : BitPlace} (framed : Framed b f p) where

@@ -1,1 +1,4 @@
 mod ByKind
+mod Due
+pub mod Leaves
+mod Reading

@@ -1,2 +1,3 @@
 pub mod Reads
 pub mod Seen
+pub mod Leaves

@@ -1,6 +1,7 @@
 // The leaf of the class at a byte of the table: it is found by the numbers of its record, and what is seen of it is told by its kind. Each
 // number is read where it is needed; what the check of the table has shown of it is not tested again.
 use leaf_after::Leaf;
+use leaf_after::Leaves;
 use leaf_after::Seen;
 use leaf_after::after::finish;
 use leaf_find_bytes::find_blob;
@@ -20,28 +21,36 @@ use leaf_see_number::fixed::unsigned;
 use leaf_see_number::leb::signed_leb;
 use leaf_see_number::leb::unsigned_leb;
 use listing::State;
+use listing::entry::write;
 use rules::BitPlace;
 use rules::ByteLength;
 use rules::Content;
 use rules::LastOrder;
 use rules::Order;
+use rules::Refusal;
 use slots::Length;
 use slots::length_of;
+use table_bytes::size_at;
 use table_bytes::u16_at;
 use table_bytes::wide;
 use table_bytes::wide64;
 ghost use mathlib.Core.Path.{_≡_};
-ghost use Prim.Native.Nat.{_≤_, _<_};
-ghost use lib.ListN.{length};
+ghost use mathlib.Core.List.{_++_};
+ghost use Prim.Native.Nat.{_+_, _≤_, _<_};
+ghost use lib.ListN.{length, drop, getD};
 ghost use Rattle.rules.specs.Record.{u8};
+ghost use Rattle.rules.specs.Entry.{words};
 ghost use Rattle.rules.specs.Parse.{orderOf};
 ghost use Rattle.rules.specs.Field.{read};
 ghost use Rattle.leaf_find_number.specs.Framed.{Framed, envOf};
 ghost use Rattle.slots.specs.Taken.{lengthOf};
-ghost use Rattle.leaf_after.specs.Seeing.{Fits, forLength};
+ghost use Rattle.leaf_after.specs.Seeing.{forLength};
 ghost use Rattle.class_layout.specs.Trees.{whole, classAt};
+ghost use Rattle.class_layout.specs.Fields.{onward};
+ghost use Rattle.class_layout.specs.Notes.{SizedClasses};
 ghost use Rattle.leaf_read.specs.Reads.{Held, LeafReads, leafSlot};
-ghost use Rattle.leaf_read.specs.Seen.{LeafSeen, BitsSeen, dynamicSeen};
+ghost use Rattle.leaf_read.specs.Seen.{seenAt, BitsSeen, dynamicSeen};
+ghost use Rattle.leaf_read.specs.Leaves.{contentOf, stoppedLeaves, leavesEnd, leavesRead, Standing};
 
 const BIT_ARRAY: u8 = 16;
 
@@ -110,7 +119,157 @@ pub fn read_leaf(
     )
 }
 
-// What is seen of it, from a place on; `last` is the order of the packet's last field of kind 16 to 20.
+// Leaves that stand one behind the other, or the one at a byte `again` and again: of `count` as many as there is room for, up to and with
+// the first that sets a slot or has a role, or in front of one that reads a slot or holds fields. The first is a leaf, with room for its
+// entry; `content` is what the slot holds that it reads, unset where it reads none. Entries and places are done; slot and role are not.
+pub fn read_leaves(
+    table: &[u8],
+    sizes: &[u16],
+    uuid: &[u8],
+    stream: &[u8],
+    frame: Frame,
+    from: usize,
+    count: usize,
+    again: bool,
+    begun: BitPlace,
+    last: LastOrder,
+    content: Content,
+    list: &mut [u64],
+) -> Leaves
+    requires { ⌜ Standing again (now table) from count ⌝ }
+    requires { ⌜ (u8 (now table) from < 28) × (1 ≤ count) × (4 ≤ length (now list)) ⌝ }
+    requires { ⌜ (length (now table) ≤ length (now sizes)) × SizedClasses (now table) (now sizes) ⌝ }
+    requires { ⌜ Framed (now stream) frame begun ⌝ }
+    requires { ⌜ Held (leafSlot (now table) from) content ⌝ }
+    ensures { λ r. ⌜
+        r ≡ (leavesRead again (now (table .entry)) (now (stream .entry)) (now (uuid .entry)) frame content from count begun last
+        (length (now (list .entry)))) .leaves
+        ⌝ }
+    ensures { λ r. ⌜
+        now (list .exit) ≡ words ((leavesRead again (now (table .entry)) (now (stream .entry)) (now (uuid .entry)) frame content from count
+        begun last (length (now (list .entry)))) .entries) ++ drop (r .used) (now (list .entry))
+        ⌝ }
+{
+    let mut at = from;
+    let mut todo = count;
+    let mut place = begun;
+    let mut order = last;
+    let mut used: usize = 0;
+    loop {
+        match see_leaf(table, at, uuid, stream, frame, place, order, content) {
+            Seen::Stops(why) => {
+                return stopped(why, at, todo, place, order, used);
+            }
+            Seen::OtherUuid(entry) => {
+                write(&mut list[used..], entry);
+                return stopped(
+                    Refusal::WrongUuid,
+                    at,
+                    todo,
+                    places::further(entry.place, entry.bits),
+                    order,
+                    used + 4,
+                );
+            }
+            Seen::Field(due) => {
+                let entry = due.entry;
+                write(&mut list[used..], entry);
+                used = used + 4;
+                todo = todo - 1;
+                place = places::further(entry.place, entry.bits);
+                order = due.order;
+                let next = onward(sizes, at, again);
+                if ends(table, next, todo, list.len() - used, due.slot, due.role) {
+                    return Leaves {
+                        on: true,
+                        why: Refusal::PastBound,
+                        at,
+                        todo,
+                        place,
+                        order,
+                        used,
+                        slot: due.slot,
+                        role: due.role,
+                        width: due.width,
+                        value: entry.value,
+                    };
+                }
+                at = next;
+            }
+        }
+    }
+}
+
+// Leaves before one that stopped.
+fn stopped(
+    why: Refusal,
+    at: usize,
+    todo: usize,
+    place: BitPlace,
+    order: LastOrder,
+    used: usize,
+) -> Leaves
+    ensures { λ r. ⌜ r ≡ stoppedLeaves why at todo place order used ⌝ }
+{
+    Leaves {
+        on: false,
+        why,
+        at,
+        todo,
+        place,
+        order,
+        used,
+        slot: 255,
+        role: 0,
+        width: 0,
+        value: 0,
+    }
+}
+
+// What the slot of a leaf of a kind becomes.
+pub fn content_of(kind: u8, value: u64) -> Content
+    ensures { λ r. ⌜ r ≡ contentOf kind value ⌝ }
+{
+    match kind {
+        BOOLEAN => Content::Flag(value != 0),
+        SIGNED => Content::Signed(value),
+        SIGNED_LEB => Content::Signed(value),
+        _ => Content::Unsigned(value),
+    }
+}
+
+// The byte at which the class of the next field stands: the same `again`, or behind the one at a byte.
+pub fn onward(sizes: &[u16], at: usize, again: bool) -> usize
+    requires { ⌜ at < length (now sizes) ⌝ }
+    ensures { λ r. ⌜ r ≡ onward again at (at + getD (now (sizes .entry)) at 0) ⌝ }
+{
+    if again {
+        return at;
+    }
+    at + size_at(sizes, at)
+}
+
+// Whether the leaves end behind one with such a slot and role.
+fn ends(table: &[u8], next: usize, todo: usize, room: usize, slot: u8, role: u8) -> bool
+    requires { ⌜ (0 < todo → next < length (now table)) ⌝ }
+    ensures { λ r. ⌜ r ≡ leavesEnd (now (table .entry)) next todo room slot role ⌝ }
+{
+    if todo == 0 {
+        return true;
+    }
+    if room < 4 {
+        return true;
+    }
+    if DYNAMIC_STRING <= table[next] {
+        return true;
+    }
+    if slot < 64 {
+        return true;
+    }
+    role != 0
+}
+
+// What is seen of the leaf at a byte, from a place on; `last` is the order of the packet's last field of kind 16 to 20.
 fn see_leaf(
     table: &[u8],
     at: usize,
@@ -124,10 +283,7 @@ fn see_leaf(
     requires { ⌜ whole 1 (now table) at ⌝ }
     requires { ⌜ u8 (now table) at < 28 ⌝ }
     requires { ⌜ Framed (now stream) frame from ⌝ }
-    ensures { λ r. ⌜
-        LeafSeen (read (envOf (now (stream .entry)) (now (uuid .entry)) frame) (classAt 1 (now (table .entry)) at))
-        (leafSlot (now (table .entry)) at) content from last r
-        ⌝ }
+    ensures { λ r. ⌜ r ≡ seenAt (now (table .entry)) (now (stream .entry)) (now (uuid .entry)) frame at from last content ⌝ }
 {
     if table[at] < UNSIGNED_LEB {
         return see_bits(table, at, stream, frame, from, last);
@@ -170,7 +326,6 @@ fn see_dynamic(
 ) -> Seen
     requires { ⌜ Framed (now stream) frame from ⌝ }
     ensures { λ r. ⌜ r ≡ forLength (lengthOf content) (dynamicSeen (now (stream .entry)) frame from last kind) ⌝ }
-    ensures { λ r. ⌜ Fits r ⌝ }
 {
     match length_of(content) {
         Length::NotOf(why) => Seen::Stops(why),
@@ -195,7 +350,7 @@ fn see_bits(
     requires { ⌜ whole 1 (now table) at ⌝ }
     requires { ⌜ u8 (now table) at < 21 ⌝ }
     requires { ⌜ Framed (now stream) frame from ⌝ }
-    ensures { λ r. ⌜ BitsSeen (now (stream .entry)) frame (now (table .entry)) at from last r ⌝ }
+    ensures { λ r. ⌜ BitsSeen (now (table .entry)) (now (stream .entry)) frame at from last r ⌝ }
 {
     let width = wide64(table[at + 1]);
     let order = order_of(table[at + 2]);

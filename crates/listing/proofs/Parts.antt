@@ -75,14 +75,17 @@ none-listed ws = record { list = refl; counted = refl; room = omega arith }
 module _ {es : List Entry} {ws₀ ws : List ℕ} {used : ℕ} (h : Listed es ws₀ ws used) where
   pub listed-length : length ws ≡ length ws₀
   listed-length =
-      omega (arith, ap length (h .list), length-append (words es) (drop used ws₀), length-drop used ws₀, words-length es, h .counted, h .room)
+      let long = length-append (words es) (drop used ws₀) in
+      omega (arith, ap length (h .list), long, length-drop used ws₀, words-length es, h .counted, h .room)
 
   -- one more was written into what is lent behind them
   pub one-more : (e : Entry) {ys : List ℕ} → used + 4 ≤ length ws₀ → ys ≡ words (e ∷ []) ++ drop 4 (lent used ws)
       → Listed (es ++ (e ∷ [])) ws₀ (merged used ws ys) (used + 4)
   one-more e room is = record {
-    list = rw (words-append)
-        (back (words es) (words (e ∷ [])) ws₀ ws _ used 4 (length ws - used) (h .list) (h .counted ∙ sym (words-length es)) (rw (lent-is used ws) at is) (omega arith));
+    list =
+        let size = h .counted ∙ sym (words-length es) in
+        let here = rw (lent-is used ws) at is in
+        rw (words-append) (back (words es) (words (e ∷ [])) ws₀ ws _ used 4 (length ws - used) (h .list) size here (omega arith));
     counted = omega (arith, h .counted, length-append es (e ∷ []));
     room = room;
   }

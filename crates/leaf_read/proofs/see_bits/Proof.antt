@@ -17,8 +17,10 @@ use lib.ListN.{length}
 use native.Mathlib.Omega.{arith}
 use Rattle.rules.specs.Record.{u8}
 use Rattle.class_layout.specs.Trees.{recordSize, shapeOf, shapes}
-use Rattle.leaf_read.proofs.ByKind.{bits-there, bits-say, record-there, is-float, bits-extend}
-use Rattle.leaf_read.proofs.ByKind.{bit-array-sees, boolean-sees, unsigned-sees, signed-sees, float-sees}
+use Rattle.rules.specs.Limits.{noSlot}
+use Rattle.rules.specs.Class.{bitArray, boolean, unsignedInt, signedInt, float}
+use Rattle.leaf_read.specs.Seen.{seenIn}
+use Rattle.leaf_read.proofs.ByKind.{bits-there, bits-say, record-there, is-float, bits-extend, seen-of, bits-of}
 
 there : (c : tie.Start) → c .args .at + 4 ≤ length (c .args .table .now)
 there c = bits-there _ _ (c .pre .0) (c .pre .1 .0)
@@ -115,25 +117,60 @@ float-requires : tie.Need-float-requires
 float-requires c κs = search needs
 
 returns : tie.Need-returns
-unfolding u8
-returns c = λ u x. bit-array-sees _ u _ _ _ (c .before .before .before .before .before .before .before .before .before .before .before .before .pre .1 .1) (bits-say _ _ (c .before .before .before .before .before .before .before .before .before .before .before .before .pre .0) (c .before .before .before .before .before .before .before .before .before .before .before .before .pre .1 .0) (c .before .before .before .before .before .before .before .before .wide64 .ensures .0) (c .before .before .before .before .before .before .order-of .ensures) (c .before .before .before .before .wide642 .ensures .0)) (c .before .match .keys1) (rw (c .before .before .before .find-bits .ensures) at (c .bit-array .ensures))
+unfolding u8 shapeOf shapes seenIn
+returns c =
+    let f = c .before .before .before in
+    let s = f .before .before .before .before .before .before .before .before .before in
+    let said =
+    bits-say _ _ (s .pre .0) (s .pre .1 .0) (f .before .before .before .before .before .wide64 .ensures .0)
+    (f .before .before .before .order-of .ensures) (f .before .wide642 .ensures .0) in
+    let is = rw (f .find-bits .ensures) at (c .bit-array .ensures) in
+    λ u x. bits-of _ _ u _ _ _ _ x said bitArray noSlot 0 is (seen-of _ _ u _ _ _ _ x 16 (c .before .match .keys1))
 
 returns-2 : tie.Need-returns-2
-unfolding u8
-returns-2 c = λ u x. boolean-sees _ u _ _ _ (c .before .before .before .before .before .before .before .before .before .before .before .before .before .pre .1 .1) (bits-say _ _ (c .before .before .before .before .before .before .before .before .before .before .before .before .before .pre .0) (c .before .before .before .before .before .before .before .before .before .before .before .before .before .pre .1 .0) (c .before .before .before .before .before .before .before .before .before .wide64 .ensures .0) (c .before .before .before .before .before .before .before .order-of .ensures) (c .before .before .before .before .before .wide642 .ensures .0)) (c .before .before .match .keys2) (rw (c .before .before .before .before .find-bits .ensures) at (c .boolean .ensures))
+unfolding u8 shapeOf shapes seenIn
+returns-2 c =
+    let f = c .before .before .before .before in
+    let s = f .before .before .before .before .before .before .before .before .before in
+    let said =
+    bits-say _ _ (s .pre .0) (s .pre .1 .0) (f .before .before .before .before .before .wide64 .ensures .0)
+    (f .before .before .before .order-of .ensures) (f .before .wide642 .ensures .0) in
+    let is = rw (f .find-bits .ensures) at (c .boolean .ensures) in
+    λ u x. bits-of _ _ u _ _ _ _ x said boolean _ 0 is (seen-of _ _ u _ _ _ _ x 17 (c .before .before .match .keys2))
 
 returns-3 : tie.Need-returns-3
-unfolding u8
-returns-3 c = λ u x. unsigned-sees _ u _ _ _ (c .before .before .before .before .before .before .before .before .before .before .before .before .before .before .pre .1 .1) (bits-say _ _ (c .before .before .before .before .before .before .before .before .before .before .before .before .before .before .pre .0) (c .before .before .before .before .before .before .before .before .before .before .before .before .before .before .pre .1 .0) (c .before .before .before .before .before .before .before .before .before .before .wide64 .ensures .0) (c .before .before .before .before .before .before .before .before .order-of .ensures) (c .before .before .before .before .before .before .wide642 .ensures .0)) (c .before .before .before .match .keys3) (rw (c .before .before .before .before .before .find-bits .ensures) at (c .unsigned .ensures))
+unfolding u8 shapeOf shapes seenIn
+returns-3 c =
+    let f = c .before .before .before .before .before in
+    let s = f .before .before .before .before .before .before .before .before .before in
+    let said =
+    bits-say _ _ (s .pre .0) (s .pre .1 .0) (f .before .before .before .before .before .wide64 .ensures .0)
+    (f .before .before .before .order-of .ensures) (f .before .wide642 .ensures .0) in
+    let is = rw (f .find-bits .ensures) at (c .unsigned .ensures) in
+    λ u x. bits-of _ _ u _ _ _ _ x said unsignedInt _ _ is (seen-of _ _ u _ _ _ _ x 18 (c .before .before .before .match .keys3))
 
 returns-4 : tie.Need-returns-4
-unfolding u8
-returns-4 c = λ u x. signed-sees _ u _ _ _ (c .before .before .before .before .before .before .before .before .before .before .before .before .before .pre .1 .1) (bits-say _ _ (c .before .before .before .before .before .before .before .before .before .before .before .before .before .pre .0) (c .before .before .before .before .before .before .before .before .before .before .before .before .before .pre .1 .0) (c .before .before .before .before .before .before .before .before .before .wide64 .ensures .0) (c .before .before .before .before .before .before .before .order-of .ensures) (c .before .before .before .before .before .wide642 .ensures .0)) (c .before .before .match .keys4) (rw (c .before .before .before .before .find-bits .ensures) at (c .signed .ensures))
+unfolding u8 shapeOf shapes seenIn
+returns-4 c =
+    let f = c .before .before .before .before in
+    let s = f .before .before .before .before .before .before .before .before .before in
+    let said =
+    bits-say _ _ (s .pre .0) (s .pre .1 .0) (f .before .before .before .before .before .wide64 .ensures .0)
+    (f .before .before .before .order-of .ensures) (f .before .wide642 .ensures .0) in
+    let is = rw (f .find-bits .ensures) at (c .signed .ensures) in
+    λ u x. bits-of _ _ u _ _ _ _ x said signedInt _ 0 is (seen-of _ _ u _ _ _ _ x 19 (c .before .before .match .keys4))
 
 returns-5 : tie.Need-returns-5
-unfolding u8
-returns-5 c = let kind = is-float _ _ (c .before .before .before .before .before .before .before .before .before .before .before .before .pre .0) (c .before .before .before .before .before .before .before .before .before .before .before .before .pre .1 .0) (c .before .match .rest) in
-    λ u x. float-sees _ u _ _ _ (c .before .before .before .before .before .before .before .before .before .before .before .before .pre .1 .1) (bits-say _ _ (c .before .before .before .before .before .before .before .before .before .before .before .before .pre .0) (c .before .before .before .before .before .before .before .before .before .before .before .before .pre .1 .0) (c .before .before .before .before .before .before .before .before .wide64 .ensures .0) (c .before .before .before .before .before .before .order-of .ensures) (c .before .before .before .before .wide642 .ensures .0)) kind (rw (c .before .before .before .find-bits .ensures) at (c .float .ensures))
+unfolding u8 shapeOf shapes seenIn
+returns-5 c =
+    let f = c .before .before .before in
+    let s = f .before .before .before .before .before .before .before .before .before in
+    let said =
+    bits-say _ _ (s .pre .0) (s .pre .1 .0) (f .before .before .before .before .before .wide64 .ensures .0)
+    (f .before .before .before .order-of .ensures) (f .before .wide642 .ensures .0) in
+    let is = rw (f .find-bits .ensures) at (c .float .ensures) in
+    let kind = is-float _ _ (s .pre .0) (s .pre .1 .0) (c .before .match .rest) in
+    λ u x. bits-of _ _ u _ _ _ _ x said float noSlot 0 is (seen-of _ _ u _ _ _ _ x 20 kind)
 
 pub see-bits-spec : {M : Type 1} → statement M
 see-bits-spec =

@@ -9,9 +9,7 @@ use Rattle.leaf_find_bytes.proofs.find_blob.Reads as find-blob-reads
 use Rattle.leaf_find_bytes.proofs.find_text.Reads as find-text-reads
 use Rattle.leaf_see_bytes.proofs.plain.Reads as plain-reads
 use mathlib.Core.Path.{_∙_}
-use Rattle.leaf_after.specs.Seeing.{Fits}
-use Rattle.leaf_after.proofs.Fits.{plain-fits, length-small}
-use Rattle.leaf_find_bytes.proofs.Lies.{text-ends, blob-ends}
+use Rattle.leaf_after.proofs.Fits.{length-small}
 use Rattle.leaf_read.proofs.ByKind.{no-length-seen, text-seen, blob-seen}
 
 length-of-requires : tie.Need-length-of-requires
@@ -30,10 +28,10 @@ plain-requires : tie.Need-plain-requires
 plain-requires c κs = search needs
 
 returns : tie.Need-returns
-returns c = (
-  rw (c .before .find-text .ensures) at (c .plain .ensures) ∙ text-seen _ _ _ _ (c .before .before .before .before .before .before .length-of .ensures) (c .before .before .before .before .bytes .given .1) _ (c .before .before .if1 .taken),
-  rw (c .plain .ensures) (plain-fits _ _ _ (text-ends (c .before .before .before .before .before .before .before .before .pre) _ (c .before .find-text .ensures))),
-)
+returns c =
+    rw (c .before .find-text .ensures) at (c .plain .ensures)
+    ∙ text-seen _ _ _ _ (c .before .before .before .before .before .before .length-of .ensures)
+    (c .before .before .before .before .bytes .given .1) _ (c .before .before .if1 .taken)
 
 find-blob-requires : tie.Need-find-blob-requires
 find-blob-requires c κs = (c .before .before .before .before .before .before .pre, length-small _ (c .before .before .before .before .length-of .ensures) (c .before .before .bytes .given .1))
@@ -42,14 +40,13 @@ plain-requires-2 : tie.Need-plain-requires-2
 plain-requires-2 c κs = search needs
 
 returns-2 : tie.Need-returns-2
-unfolding Fits
-returns-2 c = (no-length-seen _ _ _ _ (c .before .before .before .length-of .ensures) (c .before .why .given .1) _, tt)
+returns-2 c = no-length-seen _ _ _ _ (c .before .before .before .length-of .ensures) (c .before .why .given .1) _
 
 returns-3 : tie.Need-returns-3
-returns-3 c = (
-  rw (c .before .find-blob .ensures) at (c .plain2 .ensures) ∙ blob-seen _ _ _ _ (c .before .before .before .before .before .before .length-of .ensures) (c .before .before .before .before .bytes .given .1) _ (c .before .before .if1 .left),
-  rw (c .plain2 .ensures) (plain-fits _ _ _ (blob-ends (c .before .before .before .before .before .before .before .before .pre) _ (c .before .find-blob .ensures))),
-)
+returns-3 c =
+    rw (c .before .find-blob .ensures) at (c .plain2 .ensures)
+    ∙ blob-seen _ _ _ _ (c .before .before .before .before .before .before .length-of .ensures)
+    (c .before .before .before .before .bytes .given .1) _ (c .before .before .if1 .left)
 
 pub see-dynamic-spec : {M : Type 1} → statement M
 see-dynamic-spec =

@@ -16,12 +16,13 @@ use Rattle.leaf_find_bytes.proofs.find_string.Reads as find-string-reads
 use Rattle.leaf_find_bytes.proofs.find_text.Reads as find-text-reads
 use Rattle.leaf_see_bytes.proofs.plain.Reads as plain-reads
 use Rattle.leaf_see_bytes.proofs.static_blob.Reads as static-blob-reads
+use mathlib.Core.Path.{sym, _∙_}
 use native.Mathlib.Omega.{arith}
 use Rattle.rules.specs.Record.{u8}
 use Rattle.class_layout.specs.Trees.{recordSize, shapeOf, shapes}
 use Rattle.class_layout.proofs.Turns.{whole-inside}
-use Rattle.leaf_read.proofs.ByKind.{record-there, is-dynamic, blob-within, unsigned-leb-sees, signed-leb-sees, string-sees}
-use Rattle.leaf_read.proofs.ByKind.{static-string-sees, static-blob-sees, dynamic-sees}
+use Rattle.leaf_read.specs.Seen.{seenIn}
+use Rattle.leaf_read.proofs.ByKind.{record-there, is-dynamic, blob-within, seen-of, dynamic-of}
 
 shared-slice-read-if1 : tie.Need-shared-slice-read-if1
 shared-slice-read-if1 c = whole-inside _ _ _ (c .before .before .before .before .pre .0)
@@ -121,28 +122,42 @@ see-dynamic-requires : tie.Need-see-dynamic-requires
 see-dynamic-requires c κs = search needs
 
 returns-2 : tie.Need-returns-2
-unfolding u8
-returns-2 c = unsigned-leb-sees _ _ _ _ _ (c .before .before .before .before .before .before .before .before .before .before .before .pre .1 .1) (λ i. omega (arith, c .before .before .before .before .before .before .before .before .shared-slice-known3 .given i)) (c .before .before .before .before .match .keys1) (rw (c .before .before .before .find-unsigned .ensures) at (c .unsigned-leb .ensures))
+unfolding u8 shapeOf shapes seenIn
+returns-2 c =
+    rw (c .before .before .before .find-unsigned .ensures) at (c .unsigned-leb .ensures)
+    ∙ sym (seen-of _ _ _ _ _ _ _ _ 21 (c .before .before .before .before .match .keys1))
 
 returns-3 : tie.Need-returns-3
-unfolding u8
-returns-3 c = signed-leb-sees _ _ _ _ _ (c .before .before .before .before .before .before .before .before .before .before .pre .1 .1) (c .before .before .before .match .keys2) (rw (c .before .before .find-signed .ensures) at (c .signed-leb .ensures))
+unfolding u8 shapeOf shapes seenIn
+returns-3 c =
+    rw (c .before .before .find-signed .ensures) at (c .signed-leb .ensures)
+    ∙ sym (seen-of _ _ _ _ _ _ _ _ 22 (c .before .before .before .match .keys2))
 
 returns-4 : tie.Need-returns-4
-unfolding u8
-returns-4 c = string-sees _ _ _ _ _ (c .before .before .before .before .before .before .before .before .before .pre .1 .1) (c .before .before .match .keys3) (rw (c .before .find-string .ensures) at (c .plain .ensures))
+unfolding u8 shapeOf shapes seenIn
+returns-4 c =
+    rw (c .before .find-string .ensures) at (c .plain .ensures)
+    ∙ sym (seen-of _ _ _ _ _ _ _ _ 23 (c .before .before .match .keys3))
 
 returns-5 : tie.Need-returns-5
-unfolding u8
-returns-5 c = static-string-sees _ _ _ _ _ (c .before .before .before .before .before .before .before .before .before .before .pre .1 .1) (c .before .before .before .match .keys4) (rw (c .before .find-text .ensures, c .before .before .u16-at .ensures .0) at (c .plain2 .ensures))
+unfolding u8 shapeOf shapes seenIn
+returns-5 c =
+    rw (c .before .find-text .ensures, c .before .before .u16-at .ensures .0) at (c .plain2 .ensures)
+    ∙ sym (seen-of _ _ _ _ _ _ _ _ 24 (c .before .before .before .match .keys4))
 
 returns-6 : tie.Need-returns-6
-unfolding u8
-returns-6 c = static-blob-sees _ _ _ _ _ (c .before .before .before .before .before .before .before .before .before .before .before .pre .1 .1) (c .before .before .before .before .match .keys5) (rw (c .before .before .find-blob .ensures, c .before .before .before .u16-at2 .ensures .0) at (c .static-blob .ensures))
+unfolding u8 shapeOf shapes seenIn
+returns-6 c =
+    rw (c .before .before .find-blob .ensures, c .before .before .before .u16-at2 .ensures .0) at (c .static-blob .ensures)
+    ∙ sym (seen-of _ _ _ _ _ _ _ _ 25 (c .before .before .before .before .match .keys5))
 
 returns-7 : tie.Need-returns-7
 unfolding u8
-returns-7 c = dynamic-sees _ _ _ _ _ (c .before .before .before .before .before .before .before .before .before .pre .1 .1) (is-dynamic (c .before .before .before .before .before .before .before .before .before .args .table .now) (c .before .before .before .before .before .before .before .before .before .args .at) (c .before .before .before .before .if1 .left) (c .before .before .match .rest)) (c .before .before .before .before .before .before .before .before .before .pre .1 .0) (rw (c .see-dynamic .ensures .0) at (c .see-dynamic .ensures .1)) (c .see-dynamic .ensures .0)
+returns-7 c =
+    let s = c .before .before .before .before .before .before .before .before .before in
+    let low =
+    is-dynamic (s .args .table .now) (s .args .at) (c .before .before .before .before .if1 .left) (c .before .before .match .rest) in
+    c .see-dynamic .ensures ∙ sym (dynamic-of _ _ _ _ _ _ _ _ low (s .pre .1 .0))
 
 pub see-leaf-spec : {M : Type 1} → statement M
 see-leaf-spec =

@@ -1,7 +1,10 @@
 -- The same class again, or the one behind it.
 use borrow.Author.Needs.{needs}
-use Rattle.field_read.proofs.walk.onward.Statement.{statement}
-use Rattle.field_read.proofs.walk.onward.Tie as tie
+use Rattle.leaf_read.proofs.onward.Statement.{statement}
+use Rattle.leaf_read.proofs.onward.Tie as tie
+use Rattle.leaf_read.proofs.onward.Reads as reads
+use Rattle.leaf_read.proofs.onward.Lts as lts
+use Rattle.table_bytes.proofs.size_at.Reads as size-at-reads
 use mathlib.Core.Path.{refl}
 use Rattle.class_layout.specs.Fields.{onward}
 
