@@ -6,7 +6,7 @@ use native.Mathlib.Omega.{arith}
 use mathlib.Core.List.{List, [], _∷_, _++_, append-nil, append-assoc}
 use mathlib.Core.Bool.{Bool, true, false}
 use mathlib.Core.Logic.{⊎-elim}
-use lib.ListN.{length, drop, getD, length-append, length-set, length-replicate}
+use lib.ListN.{length, getD, length-append, length-set, length-replicate}
 use lib.Seq.{getD-set-same}
 use Rattle.rules.specs.declared.BitPlace.{BitPlace}
 use Rattle.rules.specs.declared.Entry.{Entry}
@@ -19,7 +19,6 @@ use Rattle.rules.specs.declared.Refusal.the-variants.{PastBound, WrongUuid}
 use Rattle.rules.specs.declared.Stated.the-variants.{Missing}
 use Rattle.rules.specs.Limits.{slotCount}
 use Rattle.rules.specs.Record.{u8}
-use Rattle.rules.specs.Entry.{words}
 use Rattle.rules.specs.Slots.{noSlots, slot, slotAt, setSlot}
 use Rattle.rules.specs.Step.{State}
 use Rattle.facts.specs.Bytes.{Bytes}
@@ -41,7 +40,7 @@ use Rattle.class_layout.proofs.Turns.{whole-inside}
 use Rattle.leaf_read.specs.Reads.{Held, leafSlot}
 use Rattle.leaf_read.specs.Seen.{seenAt}
 use Rattle.leaf_read.specs.Leaves.{behindEntry, LeavesListed, stoppedLeaves, stopsAt, lastLeaf, behindEntries, leavesEnd, leafThen}
-use Rattle.leaf_read.specs.Leaves.{leavesRead, Standing}
+use Rattle.leaf_read.specs.Leaves.{listBehind, leavesRead, Standing}
 use Rattle.leaf_read.proofs.ByKind.{SeesAt, leaf-sees}
 use Rattle.leaf_read.proofs.Due.{seen-alike}
 use Rattle.leaf_read.proofs.Leaves.{LeafFirst, leaf-first, goes-on, due-framed}
@@ -126,7 +125,7 @@ all w = readFrom w (w .from) (w .count) (w .begun) (w .last) (length (w .list))
 
 -- what the code hands back
 abbrev pub Answered : Asked → Leaves → List ℕ → Type 0
-Answered w r ws = (r ≡ (all w) .leaves) × (ws ≡ words ((all w) .entries) ++ drop (r .used) (w .list))
+Answered w r ws = (r ≡ (all w) .leaves) × (ws ≡ listBehind (all w) (w .list))
 
 -- the leaf at a byte is the last, with what is due of it
 abbrev pub lastly : Due → ℕ → ℕ → ℕ → Leaves
@@ -263,7 +262,7 @@ module _ {w : Asked} {ws : List ℕ} {at n : ℕ} {p : BitPlace} {o : LastOrder}
   answer-stops {why = why} is e =
       let d : all w ≡ behindEntries (h .listed) (stopsAt why at n p o []) = reading-all (sym e ∙ is) in
       let u : used ≡ 4 * length (h .listed) + 4 * 0 = omega (arith, h .list .counted) in
-      rw (d, append-nil (h .listed)) (rw (← u) refl, h .list .list)
+      rw (d, append-nil (h .listed)) (rw (← u) refl, rw (← u) (h .list .list))
 
   pub answer-other : {y : Seen} {x : Entry} {ws′ : List ℕ} → y ≡ this → y ≡ OtherUuid x
       → Listed (h .listed ++ (x ∷ [])) (w .list) ws′ (used + 4)
@@ -272,7 +271,7 @@ module _ {w : Asked} {ws : List ℕ} {at n : ℕ} {p : BitPlace} {o : LastOrder}
   answer-other {x = x} is e list =
       let d : all w ≡ behindEntries (h .listed) (stopsAt WrongUuid at n (behindEntry x) o (x ∷ [])) = reading-all (sym e ∙ is) in
       let u : used + 4 ≡ 4 * length (h .listed) + 4 * length (x ∷ []) = omega (arith, h .list .counted) in
-      rw (d) (rw (← u) refl, list .list)
+      rw (d) (rw (← u) refl, rw (← u) (list .list))
 
   module _ {y : Seen} (q : Due) (is : y ≡ this) (e : y ≡ Field q) {ws′ : List ℕ}
       (list : Listed (h .listed ++ (q .entry ∷ [])) (w .list) ws′ (used + 4)) where
@@ -291,7 +290,7 @@ module _ {w : Asked} {ws : List ℕ} {at n : ℕ} {p : BitPlace} {o : LastOrder}
           let d : all w ≡ behindEntries (h .listed) (lastLeaf q at (n - 1))
           = reading-all (sym e ∙ is) ∙ ap (behindEntries (h .listed)) (leaf-last q at n p o ends others (same-test last)) in
           let u : used + 4 ≡ 4 * length (h .listed) + 4 = omega (arith, h .list .counted) in
-          rw (d) (rw (← u) refl, list .list)
+          rw (d) (rw (← u) refl, rw (← u) (list .list))
 
       -- it is not
       pub reading-next : Bytes (w .stream) → r ≡ false

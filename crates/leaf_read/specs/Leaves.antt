@@ -3,7 +3,7 @@
 use Prim.Native.Nat.{ℕ, zero, suc, _+_, _-_, _*_}
 use mathlib.Core.List.{List, [], _∷_, _++_}
 use mathlib.Core.Bool.{Bool, true, false, not, _||_}
-use lib.ListN.{length}
+use lib.ListN.{length, drop}
 use lib.Dec.{eqb, ltb, leb}
 use Rattle.rules.specs.declared.BitPlace.{BitPlace}
 use Rattle.rules.specs.declared.Entry.{Entry}
@@ -15,6 +15,7 @@ use Rattle.rules.specs.declared.Refusal.the-variants.{PastBound, WrongUuid}
 use Rattle.rules.specs.Limits.{wordsPerEntry, slotCount, noSlot}
 use Rattle.rules.specs.Place.{further}
 use Rattle.rules.specs.Record.{u8}
+use Rattle.rules.specs.Entry.{words}
 use Rattle.leaf_find_number.specs.declared.Frame.{Frame}
 use Rattle.leaf_after.specs.declared.Due.{Due}
 use Rattle.leaf_after.specs.declared.Seen.{Seen}
@@ -39,6 +40,10 @@ behindEntry e = further (e .place) (e .bits)
 pub record LeavesListed : Type 0 where
   pub leaves : Leaves
   pub entries : List Entry
+
+-- a list behind them
+abbrev pub listBehind : LeavesListed → List ℕ → List ℕ
+listBehind y ws = words (y .entries) ++ drop (y .leaves .used) ws
 
 -- the leaf at a byte stopped, n being left with it: neither slot nor role is due
 unfoldable pub stoppedLeaves : Refusal → ℕ → ℕ → BitPlace → LastOrder → ℕ → Leaves

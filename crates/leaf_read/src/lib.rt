@@ -35,11 +35,9 @@ use table_bytes::u16_at;
 use table_bytes::wide;
 use table_bytes::wide64;
 ghost use mathlib.Core.Path.{_≡_};
-ghost use mathlib.Core.List.{_++_};
 ghost use Prim.Native.Nat.{_+_, _≤_, _<_};
-ghost use lib.ListN.{length, drop, getD};
+ghost use lib.ListN.{length, getD};
 ghost use Rattle.rules.specs.Record.{u8};
-ghost use Rattle.rules.specs.Entry.{words};
 ghost use Rattle.rules.specs.Parse.{orderOf};
 ghost use Rattle.rules.specs.Field.{read};
 ghost use Rattle.leaf_find_number.specs.Framed.{Framed, envOf};
@@ -50,7 +48,7 @@ ghost use Rattle.class_layout.specs.Fields.{onward};
 ghost use Rattle.class_layout.specs.Notes.{SizedClasses};
 ghost use Rattle.leaf_read.specs.Reads.{Held, LeafReads, leafSlot};
 ghost use Rattle.leaf_read.specs.Seen.{seenAt, BitsSeen, dynamicSeen};
-ghost use Rattle.leaf_read.specs.Leaves.{contentOf, stoppedLeaves, leavesEnd, leavesRead, Standing};
+ghost use Rattle.leaf_read.specs.Leaves.{contentOf, stoppedLeaves, listBehind, leavesEnd, leavesRead, Standing};
 
 const BIT_ARRAY: u8 = 16;
 
@@ -145,9 +143,9 @@ pub fn read_leaves(
         r ≡ (leavesRead again (now (table .entry)) (now (stream .entry)) (now (uuid .entry)) frame content from count begun last
         (length (now (list .entry)))) .leaves
         ⌝ }
-    ensures { λ r. ⌜
-        now (list .exit) ≡ words ((leavesRead again (now (table .entry)) (now (stream .entry)) (now (uuid .entry)) frame content from count
-        begun last (length (now (list .entry)))) .entries) ++ drop (r .used) (now (list .entry))
+    ensures { λ _. ⌜
+        now (list .exit) ≡ listBehind (leavesRead again (now (table .entry)) (now (stream .entry)) (now (uuid .entry)) frame content from count
+        begun last (length (now (list .entry)))) (now (list .entry))
         ⌝ }
 {
     let mut at = from;
