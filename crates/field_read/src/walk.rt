@@ -11,6 +11,7 @@ use field_inside::look::slot_read;
 use leaf_find_number::Frame;
 use leaf_read::FIRST_THAT_HOLDS;
 use leaf_read::leaf_slot;
+use leaf_read::onward;
 use leaf_read::read_leaf;
 use listing::State;
 use listing::Went;
@@ -19,18 +20,17 @@ use rules::Content;
 use rules::Refusal;
 use rules::Slot;
 use rules::Stop;
-use table_bytes::size_at;
 use table_bytes::wide64;
 ghost use mathlib.Core.Path.{_≡_};
 ghost use Prim.Native.Nat.{_+_, _^_, _≤_, _<_};
-ghost use lib.ListN.{length, getD};
+ghost use lib.ListN.{length};
 ghost use Rattle.rules.specs.Record.{u8};
 ghost use Rattle.rules.specs.Verdict.{stopAt};
 ghost use Rattle.rules.specs.Field.{read, readMembers, times};
 ghost use Rattle.leaf_find_number.specs.Framed.{Framed, envOf};
 ghost use Rattle.class_layout.specs.Trees.{whole, wholeMembers, stoodAt, classAt, membersAt};
 ghost use Rattle.class_layout.specs.Notes.{notes, Prepared};
-ghost use Rattle.class_layout.specs.Fields.{readFields, wholeFields, onward};
+ghost use Rattle.class_layout.specs.Fields.{readFields, wholeFields};
 ghost use Rattle.field_read.specs.Reads.{FieldReads, stoppedField, entered};
 
 // The field of the class at a byte, which holds fields, where there is room for its entry. `left` depths are left, its own among them.
@@ -318,17 +318,6 @@ fn walk(
         state,
         slots,
     }
-}
-
-// The byte at which the class of the next field stands.
-fn onward(sizes: &[u16], at: usize, again: bool) -> usize
-    requires { ⌜ at < length (now sizes) ⌝ }
-    ensures { λ r. ⌜ r ≡ onward again at (at + getD (now (sizes .entry)) at 0) ⌝ }
-{
-    if again {
-        return at;
-    }
-    at + size_at(sizes, at)
 }
 
 // What stopped at a place.

@@ -20,7 +20,7 @@ use Rattle.table_bytes.proofs.wide64.Reads as wide64-reads
 use Rattle.leaf_read.proofs.leaf_slot.Reads as leaf-slot-reads
 use Rattle.leaf_read.proofs.read_leaf.Reads as read-leaf-reads
 use Rattle.field_read.proofs.walk.behind_entry.Reads as behind-entry-reads
-use Rattle.field_read.proofs.walk.onward.Reads as onward-reads
+use Rattle.leaf_read.proofs.onward.Reads as onward-reads
 use Rattle.field_read.proofs.walk.refused.Reads as refused-reads
 use Rattle.field_read.proofs.walk.stopped.Reads as stopped-reads
 use Rattle.field_inside.proofs.enter.Reads as enter-reads
