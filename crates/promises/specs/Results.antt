@@ -8,6 +8,7 @@ use Rattle.rules.specs.declared.ByteLength.{ByteLength}
 use Rattle.rules.specs.declared.Leb.{Leb}
 use Rattle.rules.specs.declared.Ended.{Ended}
 use Rattle.rules.specs.declared.Said.{Said}
+use Rattle.rules.specs.declared.Content.{Content}
 use Rattle.rules.specs.declared.Checked.{Checked}
 use Rattle.rules.specs.declared.Result.{Result}
 use Rattle.clock.specs.declared.Ticked.{Ticked}
@@ -21,6 +22,7 @@ use Rattle.class_layout.specs.declared.Found.{Found as TablePlace}
 use Rattle.leaf_find_number.specs.declared.Frame.{Frame}
 use Rattle.leaf_find_number.specs.declared.find.Found.{Found}
 use Rattle.leaf_after.specs.declared.Seen.{Seen}
+use Rattle.leaf_after.specs.declared.Leaves.{Leaves}
 use Rattle.field_choice.specs.declared.Choice.{Choice}
 use Rattle.field_inside.specs.declared.look.Inside.{Inside}
 use Rattle.field_runs.specs.declared.Run.{Run}
@@ -28,10 +30,10 @@ use Rattle.outcome.specs.declared.Ran.{Ran}
 
 pub data Answer : Type 0 where
   number test list : Answer
-  bitPlace byteLength leb ended said checked result : Answer
+  bitPlace byteLength leb ended content said checked result : Answer
   ticked length slotNumber state : Answer
   body walk says tablePlace : Answer
-  frame found seen choice inside run ran : Answer
+  frame found seen leaves choice inside run ran : Answer
 
 unfoldable pub Of : Answer → Type 0
 Of number = ℕ
@@ -41,6 +43,7 @@ Of bitPlace = BitPlace
 Of byteLength = ByteLength
 Of leb = Leb
 Of ended = Ended
+Of content = Content
 Of said = Said
 Of checked = Checked
 Of result = Result
@@ -55,6 +58,7 @@ Of tablePlace = TablePlace
 Of frame = Frame
 Of found = Found
 Of seen = Seen
+Of leaves = Leaves
 Of choice = Choice
 Of inside = Inside
 Of run = Run
