@@ -2,5 +2,5 @@ pub mod Laws
 mod Bytes
 mod Parts
 pub mod Signed
-mod Cut
+pub mod Cut
 pub mod Standard

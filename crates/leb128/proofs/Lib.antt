@@ -1,4 +1,4 @@
 mod FirstNine
 mod Tenth
-mod Settled
+pub mod Settled
 pub mod ValueSays

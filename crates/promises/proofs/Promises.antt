@@ -13,7 +13,7 @@ use Rattle.promises.proofs.Cases.{cases}
 use Rattle.promises.proofs.Rejected.{rejected}
 use Rattle.promises.proofs.Standard.{as-standard}
 use Rattle.promises.proofs.Numbers.{numbers}
-use Rattle.promises.proofs.Parts.{check-tied, table-stands}
+use Rattle.promises.proofs.Parts.{bits-cut, leb-settled, check-tied, table-stands}
 
 pub all-promises : Promises
 all-promises = record {
@@ -30,6 +30,8 @@ all-promises = record {
   figures = figures;
   cases = cases;
   the-laws = the-laws;
+  bits-cut = bits-cut;
+  leb-settled = leb-settled;
   check-tied = check-tied;
   table-stands = table-stands;
 }

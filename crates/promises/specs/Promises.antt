@@ -12,7 +12,7 @@ use Rattle.promises.specs.OnlyRan.{NoSlackRan}
 use Rattle.promises.specs.Figures.{Figures}
 use Rattle.promises.specs.Cases.{Cases}
 use Rattle.promises.specs.Laws.{TheLaws}
-use Rattle.promises.specs.Parts.{CheckTied, TableStands}
+use Rattle.promises.specs.Parts.{BitsCut, LebSettled, CheckTied, TableStands}
 
 pub record Promises : Type 0 where
   -- the three demands, of every call that meets the contract of `read`
@@ -34,5 +34,7 @@ pub record Promises : Type 0 where
   pub cases : Cases
   pub the-laws : TheLaws
   -- of the code
+  pub bits-cut : BitsCut
+  pub leb-settled : LebSettled
   pub check-tied : CheckTied
   pub table-stands : TableStands
