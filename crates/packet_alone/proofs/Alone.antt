@@ -14,9 +14,10 @@ use Rattle.rules.specs.Step.{State, Out, stop, go}
 use Rattle.rules.specs.Table.{Asked}
 use Rattle.rules.specs.Field.{Env}
 use Rattle.laws.specs.Between.{Between}
+use Rattle.packet_alone.specs.Behind.{packet}
 use Rattle.packet_alone.proofs.Far.{away, farAll, farStop, far, farOut, Short, Cut, Rel}
 use Rattle.packet_alone.proofs.Pair.{Like}
-use Rattle.packet_alone.proofs.Beside.{same, e₀, e₁, packet, tail-packet}
+use Rattle.packet_alone.proofs.Beside.{same, e₀, e₁, tail-packet}
 
 module _ (t : Asked) (b b′ : List ℕ) (p p′ : BitPlace) (y : Like (e₀ t b b′ p p′) (e₁ t b b′ p p′)) (rest : ℕ) (i : Stated) where
   abbrev pub E₀ : Env
@@ -26,10 +27,10 @@ module _ (t : Asked) (b b′ : List ℕ) (p p′ : BitPlace) (y : Like (e₀ t b
   E₁ = e₁ t b b′ p p′
 
   abbrev pub here : State → Out
-  here s = packet t b b′ p p′ y E₀ b p rest i s
+  here s = packet t b p rest i s
 
   abbrev pub there : State → Out
-  there s = packet t b b′ p p′ y E₁ b′ p′ rest i s
+  there s = packet t b′ p′ rest i s
 
   -- a packet that went through
   pub record Went (o : Out) (fs : List Entry) (x : State) : Type 0 where

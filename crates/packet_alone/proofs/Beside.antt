@@ -29,6 +29,7 @@ use Rattle.laws.specs.Between.{Between}
 use Rattle.laws.proofs.Law.{Any, Law}
 use Rattle.laws.proofs.Triple.{Ok, Triple, ok-after, changing, checks, refusing, dued, passing}
 use Rattle.laws.proofs.Between.{Held, In, At, NoMore, Holding}
+use Rattle.packet_alone.specs.Behind.{upTo, toEnd, less, contradict, eventsOf, contentStep, ofClass, ofStream, packet}
 use Rattle.packet_alone.proofs.Far.{away, farEntry, farAll, far, farOut, far-append, far-onto, Exact, exact-seq, exact-refuse, exact-pass, Cut, Rel, rel-check, rel-due}
 use Rattle.packet_alone.proofs.Pair.{Like, Pair, pairs, pair-root, R, F, onto-go, through, exact-check, exact-change, exact-due, from, there-between, rel-onto, seq-pair}
 
@@ -277,20 +278,14 @@ third true b d = refl
 
 -- A packet's content. In order: the stream, from the packet's place P; and another, from P there
 module _ (t : Asked) (b b′ : List ℕ) (p p′ : BitPlace) where
-  abbrev pub near : ℕ → Env
-  near bound = record { bytes = b; start = p; bound = bitPlace bound; uuid = t .uuid }
-
-  abbrev pub there : ℕ → Env
-  there bound = record { bytes = b′; start = p′; bound = bitPlace bound; uuid = t .uuid }
-
   abbrev pub e₀ : Env
-  e₀ = near (8 * length b)
+  e₀ = toEnd t b p
 
   abbrev pub e₁ : Env
-  e₁ = there (8 * length b′)
+  e₁ = toEnd t b′ p′
 
   module _ (y : Like e₀ e₁) where
-    like : (content : ℕ) → p .0 + content ≤ 8 * length b → Like (near (p .0 + content)) (there (p′ .0 + content))
+    like : (content : ℕ) → p .0 + content ≤ 8 * length b → Like (upTo t b p (p .0 + content)) (upTo t b′ p′ (p′ .0 + content))
     like content h = record {
       w = y .w;
       post = y .post;
@@ -307,12 +302,12 @@ module _ (t : Asked) (b b′ : List ℕ) (p p′ : BitPlace) where
     }
 
     -- what is moved does not ask where the bounds are
-    entries-same : (x x′ z z′ : ℕ) (es : List Entry) → farAll (near x) (there x′) es ≡ farAll (near z) (there z′) es
+    entries-same : (x x′ z z′ : ℕ) (es : List Entry) → farAll (upTo t b p x) (upTo t b′ p′ x′) es ≡ farAll (upTo t b p z) (upTo t b′ p′ z′) es
     unfolding farAll farEntry
     entries-same x x′ z z′ [] = refl
     entries-same x x′ z z′ (e ∷ es) = ap (λ l. entry (e .kind) (bitPlace (p′ .0 + (e .place .0 - p .0))) (e .bits) (e .value) ∷ l) (entries-same x x′ z z′ es)
 
-    out-same : (x x′ z z′ : ℕ) (o : Out) → farOut (near x) (there x′) same o ≡ farOut (near z) (there z′) same o
+    out-same : (x x′ z z′ : ℕ) (o : Out) → farOut (upTo t b p x) (upTo t b′ p′ x′) same o ≡ farOut (upTo t b p z) (upTo t b′ p′ z′) same o
     unfolding farOut far
     out-same x x′ z z′ (stop es v) = ap (λ l. stop l (stopAt (v .why) (bitPlace (p′ .0 + (v .place .0 - p .0))))) (entries-same x x′ z z′ es)
     out-same x x′ z z′ (go es s) = ap (λ l. go l (record {
@@ -330,10 +325,10 @@ module _ (t : Asked) (b b′ : List ℕ) (p p′ : BitPlace) where
 
     module _ (c : StreamClass) (total content : ℕ) where
       abbrev events : Step
-      events s = readEvents t c (near (p .0 + content)) (further p total) 0 (p .0 + content - s .place .0) s
+      events = eventsOf t c b p total content
 
       abbrev events′ : Step
-      events′ s = readEvents t c (there (p′ .0 + content)) (further p′ total) 0 (p′ .0 + content - s .place .0) s
+      events′ = eventsOf t c b′ p′ total content
 
       events-same : (s : State) → p .0 ≤ s .place .0 → s .place .0 ≤ p .0 + content → p .0 + content ≤ 8 * length b → events′ (F₀ s) ≡ farOut e₀ e₁ same (events s)
       unfolding far
@@ -343,9 +338,9 @@ module _ (t : Asked) (b b′ : List ℕ) (p p′ : BitPlace) where
           let q : p′ .0 + (p .0 + total - p .0) ≡ p′ .0 + total = omega arith in
           let k : p′ .0 + content - (p′ .0 + (s .place .0 - p .0)) ≡ p .0 + content - s .place .0 = omega arith in
           let eq : m′ - p′ .0 ≤ m - p .0 = omega arith in
-          ap (λ n. readEvents t c (there m′) (further p′ total) 0 n (far (near m) (there m′) same s)) k
-          ∙ ap (λ z. readEvents t c (there m′) (bitPlace z) 0 (p .0 + content - s .place .0) (far (near m) (there m′) same s)) (sym q)
-          ∙ loops (near m) (there m′) (like content h) eq t c (p .0 + total) 0 (p .0 + content - s .place .0) s (f, g) (omega arith)
+          ap (λ n. readEvents t c (upTo t b′ p′ m′) (further p′ total) 0 n (far (upTo t b p m) (upTo t b′ p′ m′) same s)) k
+          ∙ ap (λ z. readEvents t c (upTo t b′ p′ m′) (bitPlace z) 0 (p .0 + content - s .place .0) (far (upTo t b p m) (upTo t b′ p′ m′) same s)) (sym q)
+          ∙ loops (upTo t b p m) (upTo t b′ p′ m′) (like content h) eq t c (p .0 + total) 0 (p .0 + content - s .place .0) s (f, g) (omega arith)
           ∙ out-same m m′ (8 * length b) (8 * length b′) (events s)
 
       -- behind the lengths: 35, entry 3, the events
@@ -376,14 +371,14 @@ module _ (t : Asked) (b b′ : List ℕ) (p p′ : BitPlace) where
       behind-end s fs x q =
           let g : (mark lengthsSettled total content ⨾ events′) s ≡ go fs x = through (λ s. above (s .clock) (s .said .ending)) ClocksContradict (mark lengthsSettled total content ⨾ events′) s fs x q in
           let k = onto-go (entry lengthsSettled (s .place) total content ∷ []) _ fs x g in
-          let z : x .place ≡ further p′ total = events-end t c (there (p′ .0 + content)) (further p′ total) 0 _ _ (k .0) x (k .1) in
+          let z : x .place ≡ further p′ total = events-end t c (upTo t b′ p′ (p′ .0 + content)) (further p′ total) 0 _ _ (k .0) x (k .1) in
           ap (λ w. w .0) z
 
       abbrev bad : State → Bool
-      bad s = not (eqb (total % 8) 0) || ltb total content || ltb (8 * length b) (p .0 + total) || ltb (p .0 + content) (s .place .0)
+      bad = contradict b p total content
 
       abbrev bad′ : State → Bool
-      bad′ s = not (eqb (total % 8) 0) || ltb total content || ltb (8 * length b′) (p′ .0 + total) || ltb (p′ .0 + content) (s .place .0)
+      bad′ = contradict b′ p′ total content
 
       -- the fourth test comes out the same; the third one too where the total fits here
       short-same : (s : State) → p .0 ≤ s .place .0 → ltb (p′ .0 + content) ((F₀ s) .place .0) ≡ ltb (p .0 + content) (s .place .0)
@@ -531,27 +526,16 @@ module _ (t : Asked) (b b′ : List ℕ) (p p′ : BitPlace) where
       onward = λ s d fs x r. onward-after (s .place .0) (m′ s) n n′ k (h .held′ (s .place .0) .at s (record { from = d .0; to = d .1; kept = le-refl (s .place .0) })) fs x r;
     }
 
-    -- a packet behind its entry 1, where `rest` bits stand for a length that is not stated
-    abbrev pub content : List ℕ → BitPlace → ℕ → StreamClass → Step
-    content x q rest c s = readContent t c x q (orElse (s .said .total) (s .said .content) rest) (orElse (s .said .content) (s .said .total) rest) s
+    -- A packet behind its entry 1
 
-    abbrev pub ofClass : Env → ℕ → List ℕ → BitPlace → ℕ → StreamClass → Step
-    ofClass e i x q rest c = mark streamClassFound 0 i ⨾ readRoot e (c .context) ⨾ content x q rest c
-
-    abbrev pub ofStream : Env → List ℕ → BitPlace → ℕ → State → Step
-    ofStream e x q rest s = withStream (s .said .stream) (t .stream (s .said .stream)) (ofClass e (s .said .stream) x q rest)
-
-    abbrev pub packet : Env → List ℕ → BitPlace → ℕ → Stated → Step
-    packet e x q rest i = change startPacket ⨾ readRoot e (t .header) ⨾ check (λ s. differs (s .said .stream) i) StreamClassChanged ⨾ due ⨾ λ s. ofStream e x q rest s s
-
-    tail-content : (rest : ℕ) (c : StreamClass) → Tail (content b p rest c) (content b′ p′ rest c)
+    tail-content : (rest : ℕ) (c : StreamClass) → Tail (contentStep t b p rest c) (contentStep t b′ p′ rest c)
     tail-content rest c = record {
       rel = λ s d. by s (rel-content c (orElse (s .said .total) (s .said .content) rest) (orElse (s .said .content) (s .said .total) rest) s d);
       onward = λ s d fs x r. content-onward c (orElse (s .said .total) (s .said .content) rest) (orElse (s .said .content) (s .said .total) rest) s fs x r;
     }
       where
-        by : (s : State) → Rel e₀ e₁ same (content b p rest c s) (readContent t c b′ p′ (orElse (s .said .total) (s .said .content) rest) (orElse (s .said .content) (s .said .total) rest) (F₀ s))
-            → Rel e₀ e₁ same (content b p rest c s) (content b′ p′ rest c (F₀ s))
+        by : (s : State) → Rel e₀ e₁ same (contentStep t b p rest c s) (readContent t c b′ p′ (orElse (s .said .total) (s .said .content) rest) (orElse (s .said .content) (s .said .total) rest) (F₀ s))
+            → Rel e₀ e₁ same (contentStep t b p rest c s) (contentStep t b′ p′ rest c (F₀ s))
         by s h = unfold far in h
 
     tail-refuse : (r : Refusal) → Tail (refuse r) (refuse r)
@@ -560,18 +544,18 @@ module _ (t : Asked) (b b′ : List ℕ) (p p′ : BitPlace) where
       onward = λ s d fs x q. unfold refuse in let z : _≡_ {A = ℕ} 0 1 = cc in absurd (omega arith);
     }
 
-    by-stream : (rest i j : ℕ) (o : Option StreamClass) → Tail (withStream i o (ofClass e₀ j b p rest)) (withStream i o (ofClass e₁ j b′ p′ rest))
+    by-stream : (rest i j : ℕ) (o : Option StreamClass) → Tail (withStream i o (ofClass t b p rest j)) (withStream i o (ofClass t b′ p′ rest j))
     unfolding withStream
     by-stream rest i j none = tail-refuse (StreamClassUnknown i)
     by-stream rest i j (some c) = pair-mark e₀ e₁ y streamClassFound 0 j ⨾ᵗ root e₀ e₁ y (c .context) ⨾ᵗ tail-content rest c
 
-    tail-stream : (rest : ℕ) → Tail (λ s. ofStream e₀ b p rest s s) (λ s. ofStream e₁ b′ p′ rest s s)
+    tail-stream : (rest : ℕ) → Tail (λ s. ofStream t b p rest s s) (λ s. ofStream t b′ p′ rest s s)
     tail-stream rest = record {
       rel = λ s d. by s (by-stream rest (s .said .stream) (s .said .stream) (t .stream (s .said .stream)) .rel s d);
       onward = λ s d fs x r. by-stream rest (s .said .stream) (s .said .stream) (t .stream (s .said .stream)) .onward s d fs x r;
     }
       where
-        by : (s : State) → Rel e₀ e₁ same (ofStream e₀ b p rest s s) (ofStream e₁ b′ p′ rest s (F₀ s)) → Rel e₀ e₁ same (ofStream e₀ b p rest s s) (ofStream e₁ b′ p′ rest (F₀ s) (F₀ s))
+        by : (s : State) → Rel e₀ e₁ same (ofStream t b p rest s s) (ofStream t b′ p′ rest s (F₀ s)) → Rel e₀ e₁ same (ofStream t b p rest s s) (ofStream t b′ p′ rest (F₀ s) (F₀ s))
         by s h = unfold far in h
 
     pair-begin : P₀ (change startPacket) (change startPacket)
@@ -583,11 +567,11 @@ module _ (t : Asked) (b b′ : List ℕ) (p p′ : BitPlace) where
     pair-class i = pair-check e₀ e₁ y _ _ StreamClassChanged (λ s d. refl)
 
     -- THE LAW: a packet in one stream beside the same bytes in another
-    pub tail-packet : (rest : ℕ) (i : Stated) → Tail (packet e₀ b p rest i) (packet e₁ b′ p′ rest i)
+    pub tail-packet : (rest : ℕ) (i : Stated) → Tail (packet t b p rest i) (packet t b′ p′ rest i)
     tail-packet rest i = pair-begin ⨾ᵗ root e₀ e₁ y (t .header) ⨾ᵗ pair-class i ⨾ᵗ pair-due e₀ e₁ y ⨾ᵗ tail-stream rest
 
 -- `readPacket` is entry 1, and then the law's step
-pub packet-is : (t : Asked) (b : List ℕ) (k : ℕ) (i : Stated) (s : State) (y : Like (e₀ t b b (s .place) (s .place)) (e₁ t b b (s .place) (s .place)))
-    → readPacket t b k i s ≡ (due ⨾ mark packetStarts 0 k ⨾ packet t b b (s .place) (s .place) y (e₀ t b b (s .place) (s .place)) b (s .place) (8 * length b - s .place .0) i) s
+pub packet-is : (t : Asked) (b : List ℕ) (k : ℕ) (i : Stated) (s : State)
+    → readPacket t b k i s ≡ (due ⨾ mark packetStarts 0 k ⨾ packet t b (s .place) (8 * length b - s .place .0) i) s
 unfolding readPacket
-packet-is t b k i s y = refl
+packet-is t b k i s = refl
