@@ -5,4 +5,5 @@ pub mod Pair
 pub mod Through
 pub mod Beside
 pub mod Alone
+pub mod Ran
 pub mod Lower
