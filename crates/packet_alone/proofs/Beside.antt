@@ -168,10 +168,10 @@ module _ (e e′ : Env) (y : Like e e′) where
     pair-event = pair-look (body e) (body e′) (λ s b. whole s b) (λ s q. holds e (λ o q. root o .held q) (pair-found .held) s q) (λ s q. holds e′ (λ o q. root o .held′ q) (pair-found .held′) s q)
 
   -- the packet's end: "Entry 7; the place becomes P plus total"
-  end-same : (to n : ℕ) (s : State) → Between e (s .place .0) → e .start .0 ≤ to
-      → endPacket (bitPlace (away e e′ to)) n (far′ s) ≡ farOut e e′ same (endPacket (bitPlace to) n s)
+  pub end-same : (l : ℕ → ℕ) (to n : ℕ) (s : State) → Between e (s .place .0) → e .start .0 ≤ to
+      → endPacket (bitPlace (away e e′ to)) n (far e e′ l s) ≡ farOut e e′ l (endPacket (bitPlace to) n s)
   unfolding endPacket due _⨾_ check farOut after far
-  end-same to n s b h = exact-after (ltb (s .room) wordsPerEntry) _ _ last
+  end-same l to n s b h = exact-after (ltb (s .room) wordsPerEntry) _ _ last
     where
       out : ℕ → Out
       out d = go (entry packetEnds (bitPlace (away e e′ to)) d n ∷ []) (record {
@@ -180,18 +180,18 @@ module _ (e e′ : Env) (y : Like e e′) where
         slots = s .slots;
         order = s .order;
         clock = s .clock;
-        last = s .last;
+        last = l (s .last);
         said = s .said;
       })
 
-      last : listed (entry packetEnds (bitPlace (away e e′ to)) (away e e′ to - (far′ s) .place .0) n) (bitPlace (away e e′ to)) (far′ s)
-          ≡ farOut e e′ same (listed (entry packetEnds (bitPlace to) (to - s .place .0) n) (bitPlace to) s)
+      last : listed (entry packetEnds (bitPlace (away e e′ to)) (away e e′ to - (far e e′ l s) .place .0) n) (bitPlace (away e e′ to)) (far e e′ l s)
+          ≡ farOut e e′ l (listed (entry packetEnds (bitPlace to) (to - s .place .0) n) (bitPlace to) s)
       last = unfold listed farOut farAll farEntry far in
           let p : away e e′ to - away e e′ (s .place .0) ≡ to - s .place .0 = omega (arith, b .0) in ap out p
 
-      exact-after : (x : Bool) (m′ m : Step) → m′ (far′ s) ≡ farOut e e′ same (m s) → (check (λ u. x) ListFull ⨾ m′) (far′ s) ≡ farOut e e′ same ((check (λ u. x) ListFull ⨾ m) s)
+      exact-after : (x : Bool) (m′ m : Step) → m′ (far e e′ l s) ≡ farOut e e′ l (m s) → (check (λ u. x) ListFull ⨾ m′) (far e e′ l s) ≡ farOut e e′ l ((check (λ u. x) ListFull ⨾ m) s)
       exact-after true m′ m h = unfold check _⨾_ refuse after farOut farAll far in refl
-      exact-after false m′ m h = unfold check _⨾_ pass after in onto-nil (m′ (far′ s)) ∙ h ∙ ap (farOut e e′ same) (sym (onto-nil (m s)))
+      exact-after false m′ m h = unfold check _⨾_ pass after in onto-nil (m′ (far e e′ l s)) ∙ h ∙ ap (farOut e e′ l) (sym (onto-nil (m s)))
 
   after-same : (o : Out) (n n′ : Step) → Ok (In e) (At e) (NoMore e) (Held e (λ p d. 0 ≤ p)) o
       → ((u : State) → Between e (u .place .0) → n′ (far′ u) ≡ farOut e e′ same (n u)) → after (farOut e e′ same o) n′ ≡ farOut e e′ same (after o n)
@@ -208,7 +208,7 @@ module _ (e e′ : Env) (y : Like e e′) where
         by (inl p) = p
         by (inr c) = absurd (omega (arith, c .wider))
 
-    before-bound : (s : State) → Between e (s .place .0) → ltb ((far′ s) .place .0) (e′ .bound .0) ≡ ltb (s .place .0) (e .bound .0)
+    pub before-bound : (s : State) → Between e (s .place .0) → ltb ((far′ s) .place .0) (e′ .bound .0) ≡ ltb (s .place .0) (e .bound .0)
     unfolding far
     before-bound s b = by (ltb (s .place .0) (e .bound .0)) refl
       where
@@ -225,7 +225,7 @@ module _ (e e′ : Env) (y : Like e e′) where
     pub loops : (t : Asked) (c : StreamClass) (to n left : ℕ) (s : State) → Between e (s .place .0) → e .start .0 ≤ to
         → readEvents t c e′ (bitPlace (away e e′ to)) n left (far′ s) ≡ farOut e e′ same (readEvents t c e (bitPlace to) n left s)
     unfolding readEvents
-    loops t c to n zero s b h = end-same to n s b h
+    loops t c to n zero s b h = end-same same to n s b h
     loops t c to n (suc left) s b h =
         ap (λ x. elim x [ true ↦ (readEvent t c e′ n ⨾ readEvents t c e′ (bitPlace (away e e′ to)) (n + 1) left) (far′ s) | false ↦ endPacket (bitPlace (away e e′ to)) n (far′ s) ]) (before-bound s b)
         ∙ by (ltb (s .place .0) (e .bound .0)) (λ u d. loops t c to (n + 1) left u d h)
@@ -236,7 +236,7 @@ module _ (e e′ : Env) (y : Like e e′) where
         by true k = unfold _⨾_ in
             ap (λ o. after o (readEvents t c e′ (bitPlace (away e e′ to)) (n + 1) left)) (exactly (pair-event t c n) s b)
             ∙ after-same (readEvent t c e n s) _ _ (pair-event t c n .held 0 .at s (record { from = b .0; to = b .1; kept = omega arith })) k
-        by false k = end-same to n s b h
+        by false k = end-same same to n s b h
 
 -- a packet that goes through ends behind its total length
 end-place : (to : BitPlace) (n : ℕ) (s : State) (fs : List Entry) (u : State) → endPacket to n s ≡ go fs u → u .place ≡ to
@@ -246,7 +246,7 @@ end-place to n s fs u q =
     let z : record { place = to; room = s .room - wordsPerEntry; slots = s .slots; order = s .order; clock = s .clock; last = s .last; said = s .said } ≡ u = cc in
     sym (ap (λ x. x .place) z)
 
-events-end : (t : Asked) (c : StreamClass) (x : Env) (to : BitPlace) (n left : ℕ) (s : State) (fs : List Entry) (u : State)
+pub events-end : (t : Asked) (c : StreamClass) (x : Env) (to : BitPlace) (n left : ℕ) (s : State) (fs : List Entry) (u : State)
     → readEvents t c x to n left s ≡ go fs u → u .place ≡ to
 unfolding readEvents
 events-end t c x to n zero s fs u q = end-place to n s fs u q
@@ -264,7 +264,7 @@ events-end t c x to n (suc left) s fs u q = by (ltb (s .place .0) (x .bound .0))
 true-false : true ≡ false → ⊥
 true-false q = let z : _≡_ {A = ℕ} 0 1 = cc in omega arith
 
-four : (a b c d : Bool) → a || b || c || d ≡ false → (b ≡ false) × (c ≡ false) × (d ≡ false)
+pub four : (a b c d : Bool) → a || b || c || d ≡ false → (b ≡ false) × (c ≡ false) × (d ≡ false)
 four false false false false q = (refl, refl, refl)
 four false false false true q = absurd (true-false q)
 four false false true d q = absurd (true-false q)
@@ -285,7 +285,7 @@ module _ (t : Asked) (b b′ : List ℕ) (p p′ : BitPlace) where
   e₁ = toEnd t b′ p′
 
   module _ (y : Like e₀ e₁) where
-    like : (content : ℕ) → p .0 + content ≤ 8 * length b → Like (upTo t b p (p .0 + content)) (upTo t b′ p′ (p′ .0 + content))
+    pub like : (content : ℕ) → p .0 + content ≤ 8 * length b → Like (upTo t b p (p .0 + content)) (upTo t b′ p′ (p′ .0 + content))
     like content h = record {
       w = y .w;
       post = y .post;
@@ -395,7 +395,7 @@ module _ (t : Asked) (b b′ : List ℕ) (p p′ : BitPlace) where
               let v′ : p′ .0 + (s .place .0 - p .0) ≤ p′ .0 + content = omega arith in
               le-ltb _ _ v′
 
-      bad-same : (s : State) → p .0 ≤ s .place .0 → ltb (8 * length b) (p .0 + total) ≡ false → bad′ (F₀ s) ≡ bad s
+      pub bad-same : (s : State) → p .0 ≤ s .place .0 → ltb (8 * length b) (p .0 + total) ≡ false → bad′ (F₀ s) ≡ bad s
       bad-same s f q =
           let v : p .0 + total ≤ 8 * length b = ltb-false _ _ q in
           let v′ : p′ .0 + total ≤ 8 * length b′ = omega (arith, y .narrower, y .inside, y .inside′) in
