@@ -7,3 +7,4 @@ pub mod Beside
 pub mod Alone
 pub mod Ran
 pub mod Lower
+pub mod Roles
