@@ -8,3 +8,4 @@ pub mod Alone
 pub mod Ran
 pub mod Lower
 pub mod Roles
+pub mod Ends
