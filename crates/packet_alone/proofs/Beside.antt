@@ -302,7 +302,7 @@ module _ (t : Asked) (b b′ : List ℕ) (p p′ : BitPlace) where
     }
 
     -- what is moved does not ask where the bounds are
-    entries-same : (x x′ z z′ : ℕ) (es : List Entry) → farAll (upTo t b p x) (upTo t b′ p′ x′) es ≡ farAll (upTo t b p z) (upTo t b′ p′ z′) es
+    pub entries-same : (x x′ z z′ : ℕ) (es : List Entry) → farAll (upTo t b p x) (upTo t b′ p′ x′) es ≡ farAll (upTo t b p z) (upTo t b′ p′ z′) es
     unfolding farAll farEntry
     entries-same x x′ z z′ [] = refl
     entries-same x x′ z z′ (e ∷ es) = ap (λ l. entry (e .kind) (bitPlace (p′ .0 + (e .place .0 - p .0))) (e .bits) (e .value) ∷ l) (entries-same x x′ z z′ es)

@@ -9,3 +9,4 @@ pub mod Ran
 pub mod Lower
 pub mod Roles
 pub mod Ends
+pub mod There
