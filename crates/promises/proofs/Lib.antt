@@ -31,4 +31,5 @@ mod Rejected
 mod Standard
 mod Numbers
 mod Parts
+mod Whole
 pub mod Promises

@@ -13,4 +13,5 @@ pub mod Rejected
 pub mod Standard
 pub mod Numbers
 pub mod Parts
+pub mod Apart
 pub mod Promises

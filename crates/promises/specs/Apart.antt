@@ -1,0 +1,72 @@
+-- Packets stand on their own: from an accepted stream of two or more packets one whole packet is removed, and the rest reads as it did. In order:
+-- a packet in a list, by its number; the list and the stream without it; the statement.
+use mathlib.Core.Path.{_≡_}
+use Prim.Native.Nat.{ℕ, zero, suc, _+_, _-_, _*_, _/_, _<_}
+use mathlib.Core.List.{List, [], _∷_, _++_, map}
+use mathlib.Core.Bool.{Bool, true, false, _&&_}
+use lib.ListN.{length, take, drop}
+use lib.Dec.{eqb}
+use Rattle.rules.specs.declared.Entry.{Entry}
+use Rattle.rules.specs.declared.Verdict.the-variants.{Accepted}
+use Rattle.rules.specs.Place.{bitPlace}
+use Rattle.rules.specs.Entry.{entry, packetStarts, lengthsSettled}
+use Rattle.rules.specs.Verdict.{numberOf}
+use Rattle.rules.specs.Read.{Reading, readAll}
+
+-- A packet in a list
+
+-- the entry 1 of packet k: "packet, P, 0, its number from 0"
+unfoldable pub startsPacket : ℕ → Entry → Bool
+startsPacket k e = eqb (e .kind) packetStarts && eqb (e .value) k
+
+-- the entries before packet k, and those from it on
+unfoldable pub beforePacket : ℕ → List Entry → List Entry
+beforePacket k [] = []
+beforePacket k (e ∷ es) = elim (startsPacket k e) [ true ↦ [] | false ↦ e ∷ beforePacket k es ]
+
+unfoldable pub fromPacket : ℕ → List Entry → List Entry
+fromPacket k [] = []
+fromPacket k (e ∷ es) = elim (startsPacket k e) [ true ↦ e ∷ es | false ↦ fromPacket k es ]
+
+-- its place P, which its entry 1 shows, and its total length, which its entry 3 shows: "3: place, total, content"
+unfoldable pub placeIn : List Entry → ℕ
+placeIn [] = 0
+placeIn (e ∷ es) = e .place .0
+
+unfoldable pub totalIn : List Entry → ℕ
+totalIn [] = 0
+totalIn (e ∷ es) = elim (eqb (e .kind) lengthsSettled) [ true ↦ e .bits | false ↦ totalIn es ]
+
+unfoldable pub packetsIn : List Entry → ℕ
+packetsIn [] = 0
+packetsIn (e ∷ es) = elim (eqb (e .kind) packetStarts) [ true ↦ suc (packetsIn es) | false ↦ packetsIn es ]
+
+-- Without it
+
+-- "later places lower by the packet's total length and later packet numbers lower by one"
+unfoldable pub numberLower : Entry → ℕ
+numberLower e = elim (eqb (e .kind) packetStarts) [ true ↦ e .value - 1 | false ↦ e .value ]
+
+unfoldable pub lower : ℕ → Entry → Entry
+lower total e = entry (e .kind) (bitPlace (e .place .0 - total)) (e .bits) (numberLower e)
+
+-- "its list is the old one without that packet's entries"
+unfoldable pub listWithout : ℕ → List Entry → List Entry
+listWithout k es = beforePacket k es ++ map (lower (totalIn (fromPacket k es))) (fromPacket (suc k) es)
+
+-- the stream without that packet's bytes, as its list shows them
+unfoldable pub bytesWithout : ℕ → List Entry → List ℕ → List ℕ
+bytesWithout k es b =
+    take (placeIn (fromPacket k es) / 8) b ++ drop ((placeIn (fromPacket k es) + totalIn (fromPacket k es)) / 8) b
+
+-- "From an accepted stream of two or more packets remove one whole packet. The remaining stream is accepted with the same room": a table x, a
+-- stream b, a room, and the number k of any of its packets
+
+abbrev pub Apart : Type 0
+Apart = (x b : List ℕ) (room k : ℕ) → numberOf ((readAll x b room) .verdict) ≡ 0
+    → 1 < packetsIn ((readAll x b room) .entries) → k < packetsIn ((readAll x b room) .entries)
+    → readAll x (bytesWithout k ((readAll x b room) .entries) b) room
+    ≡ record {
+      entries = listWithout k ((readAll x b room) .entries);
+      verdict = Accepted (bitPlace (8 * length b - totalIn (fromPacket k ((readAll x b room) .entries))));
+    }
