@@ -99,7 +99,7 @@ module _ (t : Asked) (b : List ℕ) (p : BitPlace) where
     abbrev compared : Step
     compared = check differing StreamClassChanged ⨾ due ⨾ streamed
 
-    abbrev headed : Step
+    abbrev pub headed : Step
     headed = readRoot (toEnd t b p) (t .header) ⨾ compared
 
     abbrev behind : StreamClass → Step

@@ -32,4 +32,5 @@ mod Standard
 mod Numbers
 mod Parts
 mod Whole
+mod Onwards
 pub mod Promises
