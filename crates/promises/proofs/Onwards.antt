@@ -8,7 +8,7 @@ use mathlib.Core.Bool.{Bool, true, false, not}
 use mathlib.Core.Option.{Option, none, some}
 use lib.ListN.{length, drop, length-drop}
 use lib.Dec.{ltb, eqb}
-use borrow.Author.Tests.{eqb-true, eq-eqb, ne-eqb, not-false}
+use borrow.Author.Tests.{eqb-true, eq-eqb, ne-eqb, not-false, ltb-true, ltb-false, lt-ltb, le-ltb}
 use Rattle.rules.specs.declared.BitPlace.{BitPlace}
 use Rattle.rules.specs.declared.LastOrder.the-variants.{Nothing}
 use Rattle.rules.specs.declared.Stated.{Stated}
@@ -18,10 +18,10 @@ use Rattle.rules.specs.Limits.{wordsPerEntry}
 use Rattle.rules.specs.Place.{bitPlace}
 use Rattle.rules.specs.Slots.{noSlots}
 use Rattle.rules.specs.Entry.{entry, packetStarts}
-use Rattle.rules.specs.Step.{State, go}
+use Rattle.rules.specs.Step.{State, Out, go, Step, _⨾_, pass}
 use Rattle.rules.specs.Table.{StreamClass, Asked}
 use Rattle.rules.specs.Field.{Env}
-use Rattle.rules.specs.Packet.{differs, nothingSaid, startPacket, readPacket}
+use Rattle.rules.specs.Packet.{differs, nothingSaid, startPacket, readPacket, readPackets}
 use Rattle.laws.specs.All.{All}
 use Rattle.laws.specs.Between.{Between}
 use Rattle.laws.proofs.Law.{Any}
@@ -29,7 +29,7 @@ use Rattle.laws.proofs.Accepted.{Fitting}
 use Rattle.packet_alone.specs.Behind.{toEnd, less, packet}
 use Rattle.packet_alone.proofs.Far.{farEntry, farAll, far}
 use Rattle.packet_alone.proofs.Pair.{Like}
-use Rattle.packet_alone.proofs.Through.{do-change}
+use Rattle.packet_alone.proofs.Through.{Split, split, join, do-change}
 use Rattle.packet_alone.proofs.Ran.{Ran, RanWhole, run, run-whole, headed}
 use Rattle.packet_alone.proofs.Lower.{Low}
 use Rattle.packet_alone.proofs.Roles.{HeaderOnly}
@@ -100,6 +100,10 @@ tail-like t b b′ p p′ h z z′ l l′ n = record {
 
 -- Entries lowered are entries moved
 
+pub map-append : (f : Entry → Entry) (es fs : List Entry) → map f (es ++ fs) ≡ map f es ++ map f fs
+map-append f [] fs = refl
+map-append f (x ∷ es) fs = ap (λ l. f x ∷ l) (map-append f es fs)
+
 lower-one : (e e′ : Env) (total : ℕ) → e′ .start .0 + total ≡ e .start .0 → (x : Entry) → NotOf packetStarts x → e .start .0 ≤ x .place .0 → lower total x ≡ farEntry e e′ x
 unfolding lower numberLower farEntry
 lower-one e e′ total h x n l =
@@ -124,7 +128,7 @@ module _ (t : Asked) (w : Fitting Positive (λ r. Any) Any t) (only : HeaderOnly
     -- there is as much room, or more
     pub room : s .room ≤ s′ .room
     -- the number is lower by one
-    pub number : k ≡ suc k′
+    pub number : k ≡ k′ + 1
     -- the first packet's class, if one is known, is that of the packets before
     pub class : ℕ
     pub first : i ≡ As class
@@ -136,7 +140,7 @@ module _ (t : Asked) (w : Fitting Positive (λ r. Any) Any t) (only : HeaderOnly
   pub record Next (k k′ : ℕ) (i′ : Stated) (s′ : State) (es : List Entry) (u : State) : Type 0 where
     pub u′ : State
     pub goes : readPacket t b′ k′ i′ s′ ≡ go (map (lower total) es) u′
-    pub onwards : Onwards (suc k) (suc k′) (As (u .said .stream)) (As (u′ .said .stream)) u u′
+    pub onwards : Onwards (k + 1) (k′ + 1) (As (u .said .stream)) (As (u′ .said .stream)) u u′
 
   module _ (k k′ : ℕ) (i i′ : Stated) (s s′ : State) (es : List Entry) (u : State) (o : Onwards k k′ i i′ s s′) (l : s .place .0 < 8 * length b) (q : readPacket t b k i s ≡ go es u) where
     abbrev e : Env
@@ -234,14 +238,14 @@ module _ (t : Asked) (w : Fitting Positive (λ r. Any) Any t) (only : HeaderOnly
         let r : s .room + (s′ .room - s .room) ≡ s′ .room = omega (arith, o .room) in
         ap (λ z. record { place = s′ .place; room = z; slots = s′ .slots; order = s′ .order; clock = s′ .clock; last = s′ .last; said = s′ .said }) r
 
-    on : Onwards (suc k) (suc k′) (As (u .said .stream)) (As ((more d u″) .said .stream)) u (more d u″)
+    on : Onwards (k + 1) (k′ + 1) (As (u .said .stream)) (As ((more d u″) .said .stream)) u (more d u″)
     unfolding more far
     on = record {
       place = omega (arith, o .place, x .takes);
       whole = x .whole;
       behind = omega (arith, o .behind, x .takes);
       room = omega arith;
-      number = ap suc (o .number);
+      number = ap (λ n. n + 1) (o .number);
       class = u .said .stream;
       first = refl;
       same = no-other (u .said .stream);
@@ -257,3 +261,59 @@ module _ (t : Asked) (w : Fitting Positive (λ r. Any) Any t) (only : HeaderOnly
       goes = ap (readPacket t b′ k′ i′) (sym with-room) ∙ room-packet t b′ k′ i′ d s″ (map (lower total) es) u″ goes-there-too;
       onwards = on;
     }
+
+  -- all packets from there on
+  pub record Rest (k′ : ℕ) (i′ : Stated) (left : ℕ) (s′ : State) (es : List Entry) (u : State) : Type 0 where
+    pub u′ : State
+    pub goes : readPackets t b′ k′ i′ left s′ ≡ go (map (lower total) es) u′
+    pub place : u′ .place .0 + total ≡ u .place .0
+
+  over : (k′ : ℕ) (i′ : Stated) (left : ℕ) (s s′ : State) (es : List Entry) (u : State) → s′ .place .0 + total ≡ s .place .0
+      → readPackets t b′ k′ i′ left s′ ≡ pass s′ → pass s ≡ go es u → Rest k′ i′ left s′ es u
+  unfolding pass
+  over k′ i′ left s s′ es u p r q =
+      let f : [] ≡ es = cc in
+      let g : s ≡ u = cc in
+      record { u′ = s′; goes = r ∙ ap (λ l. go l s′) (ap (map (lower total)) f); place = p ∙ ap (λ z. z .place .0) g }
+
+  pub onward-packets : (left k k′ : ℕ) (i i′ : Stated) (s s′ : State) (es : List Entry) (u : State) → Onwards k k′ i i′ s s′
+      → readPackets t b k i left s ≡ go es u → Rest k′ i′ left s′ es u
+  unfolding readPackets
+  onward-packets zero k k′ i i′ s s′ es u o q = over k′ i′ zero s s′ es u (o .place) refl q
+  onward-packets (suc left) k k′ i i′ s s′ es u o q = by (ltb (s .place .0) (8 * length b)) refl q
+      (λ m m′ o′ fs r. onward-packets left (k + 1) (k′ + 1) (As (m .said .stream)) (As (m′ .said .stream)) m m′ fs u o′ r)
+    where
+      next : Step
+      next s = readPackets t b (k + 1) (As (s .said .stream)) left s
+
+      next′ : Step
+      next′ s = readPackets t b′ (k′ + 1) (As (s .said .stream)) left s
+
+      whole : Bool → Out
+      whole z = elim z [ true ↦ (readPacket t b′ k′ i′ ⨾ next′) s′ | false ↦ pass s′ ]
+
+      ended : (x : Bool) → ltb (s .place .0) (8 * length b) ≡ x → ltb (s′ .place .0) (8 * length b′) ≡ x
+      ended true h = let a : s .place .0 < 8 * length b = ltb-true _ _ h in
+          let c : s′ .place .0 < 8 * length b′ = omega (arith, o .place, gap .lengths) in lt-ltb _ _ c
+      ended false h = let a : 8 * length b ≤ s .place .0 = ltb-false _ _ h in
+          let c : 8 * length b′ ≤ s′ .place .0 = omega (arith, o .place, gap .lengths) in le-ltb _ _ c
+
+      by : (x : Bool) → ltb (s .place .0) (8 * length b) ≡ x → elim x [ true ↦ (readPacket t b k i ⨾ next) s | false ↦ pass s ] ≡ go es u
+          → ((m m′ : State) → Onwards (k + 1) (k′ + 1) (As (m .said .stream)) (As (m′ .said .stream)) m m′
+          → (fs : List Entry) → next m ≡ go fs u → Rest (k′ + 1) (As (m′ .said .stream)) left m′ fs u)
+          → Rest k′ i′ (suc left) s′ es u
+      by false h q rec = over k′ i′ (suc left) s s′ es u (o .place) (ap whole (ended false h)) q
+      by true h q rec = record { u′ = r .u′; goes = ap whole (ended true h) ∙ both; place = r .place }
+        where
+          g : Split (readPacket t b k i) next s es u
+          g = split (readPacket t b k i) next s es u q
+
+          p : Next k k′ i′ s′ (g .first) (g .middle)
+          p = onward-packet k k′ i i′ s s′ (g .first) (g .middle) o (ltb-true _ _ h) (g .goes)
+
+          r : Rest (k′ + 1) (As (p .u′ .said .stream)) left (p .u′) (g .second) u
+          r = rec (g .middle) (p .u′) (p .onwards) (g .second) (g .goes-on)
+
+          both : (readPacket t b′ k′ i′ ⨾ next′) s′ ≡ go (map (lower total) es) (r .u′)
+          both = join (readPacket t b′ k′ i′) next′ s′ (map (lower total) (g .first)) (p .u′) (map (lower total) (g .second)) (r .u′) (p .goes) (r .goes)
+              ∙ ap (λ l. go l (r .u′)) (sym (map-append (lower total) (g .first) (g .second)) ∙ ap (map (lower total)) (sym (g .list)))
