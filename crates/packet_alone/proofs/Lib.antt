@@ -10,3 +10,4 @@ pub mod Lower
 pub mod Roles
 pub mod Ends
 pub mod There
+pub mod Before
