@@ -33,4 +33,6 @@ mod Numbers
 mod Parts
 mod Whole
 mod Onwards
+mod Cut
+mod Apart
 pub mod Promises
