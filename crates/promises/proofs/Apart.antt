@@ -39,6 +39,7 @@ use Rattle.packet_alone.proofs.Before.{same-packet}
 use Rattle.promises.specs.Apart.{beforePacket, fromPacket, placeIn, totalIn, packetsIn, lower, listWithout, bytesWithout, Apart}
 use Rattle.promises.proofs.Packets.{Positive, packet-rounds, go-packets}
 use Rattle.promises.proofs.Rising.{Onward}
+use Rattle.promises.proofs.Laws.{accepted-positive}
 use Rattle.promises.proofs.Spent.{packet-spent}
 use Rattle.promises.proofs.Whole.{Whole, whole-packet}
 use Rattle.promises.proofs.Onwards.{Gap, Onwards, Rest, onward-packets, no-other}
@@ -365,3 +366,115 @@ module _ (t : Asked) (w : Fitting Positive (λ r. Any) Any t) (only : HeaderOnly
                 let e : k ≡ n = omega arith in
                 subst (λ m. Removed m k i (suc left) s es u) e
                 (removed-here k i left s es u z f r (ap (λ m. placeIn (fromPacket m es)) e ∙ p) (ap (λ m. totalIn (fromPacket m es)) e ∙ c))
+
+  -- The reading
+
+  module _ (room n : ℕ) where
+    abbrev Without : Reading → Type 0
+    Without r = numberOf (r .verdict) ≡ 0 → 1 < packetsIn (r .entries) → n < packetsIn (r .entries)
+        → readStream t (bytesWithout n (r .entries) b) room
+        ≡ record { entries = listWithout n (r .entries); verdict = Accepted (bitPlace (8 * length b - totalIn (fromPacket n (r .entries)))) }
+
+    module _ (es : List Entry) (u : State) (q : readPackets t b 0 Missing (length b) (begin room) ≡ go es u)
+        (size : eqb (length b) 0 || ltb streamLimit (length b) ≡ false) (two : 1 < packetsIn es) (one : n < packetsIn es) where
+      abbrev place : ℕ
+      place = placeIn (fromPacket n es)
+
+      abbrev total : ℕ
+      total = totalIn (fromPacket n es)
+
+      at-zero : (begin room) .place .0 ≡ 0
+      unfolding begin
+      at-zero = refl
+
+      whole-start : (begin room) .place .0 % 8 ≡ 0
+      unfolding begin
+      whole-start = refl
+
+      f : Found n (begin room) es
+      f = found (length b) n 0 Missing (begin room) es u whole-start q (omega arith) (omega arith)
+
+      abbrev left : List ℕ
+      left = take (place / 8) b ++ drop ((place + total) / 8) b
+
+      x : Removed place total (f .whole) (f .whole-total) (f .takes) (f .inStream) n 0 Missing (length b) (begin room) es u
+      x = removed place total (f .whole) (f .whole-total) (f .takes) (f .inStream) (length b) n 0 Missing (begin room) es u whole-start (omega arith) q
+          (omega arith) (omega arith) refl refl
+
+      left-length : 8 * length b ≡ 8 * length left + total
+      left-length = b′-length place total (f .whole) (f .whole-total) (f .takes) (f .inStream)
+
+      -- the rest is not empty, and no longer than the whole
+      left-size : eqb (length left) 0 || ltb streamLimit (length left) ≡ false
+      left-size =
+          let s = or-false (eqb (length b) 0) (ltb streamLimit (length b)) size in
+          let m : length b ≤ streamLimit = ltb-false _ _ (s .1) in
+          let h : (begin room) .place .0 + total + 8 * packetsIn es ≤ 8 * length b + 8 = f .leaves in
+          let a : length left ≡ 0 → ⊥ = λ e. omega (arith, left-length, at-zero) in
+          let c : length left ≤ streamLimit = omega (arith, left-length) in
+          ap (λ y. y || ltb streamLimit (length left)) (ne-eqb (length left) 0 a) ∙ le-ltb _ _ c
+
+      ends : u .place .0 ≡ 8 * length b
+      ends = subst (Onward (λ s. s .place .0 ≡ 8 * length b)) q
+          (go-packets t w b 0 Missing (length b) (begin room) whole-start (omega (arith, at-zero)) (omega arith) .1)
+
+      -- as many rounds as it has bytes
+      rounds : readPackets t left 0 Missing (length left) (begin room) ≡ readPackets t left 0 Missing (length b) (begin room)
+      rounds =
+          let e : length b ≡ length left + total / 8 = omega (arith, left-length, f .whole-total) in
+          sym (ap (λ m. readPackets t left 0 Missing m (begin room)) e ∙ packet-rounds t w left 0 Missing (length left) (total / 8) (begin room) whole-start (omega arith))
+
+      end-place : x .u′ .place ≡ bitPlace (8 * length b - total)
+      end-place =
+          let e : x .u′ .place .0 + total ≡ 8 * length b = x .end ∙ ends in
+          let p : x .u′ .place .0 ≡ 8 * length b - total = omega arith in
+          ap bitPlace p
+
+      without : readStream t (bytesWithout n es b) room ≡ record { entries = listWithout n es; verdict = Accepted (bitPlace (8 * length b - total)) }
+      unfolding readStream bytesWithout listWithout ended
+      without =
+          ap (λ y. elim y [
+            | true ↦ record { entries = []; verdict = Refused (stopAt StreamSize (bitPlace 0)) }
+            | false ↦ ended (readPackets t left 0 Missing (length left) (begin room))
+          ]) left-size
+          ∙ ap ended (rounds ∙ x .goes)
+          ∙ ap (λ p. record { entries = beforePacket n es ++ map (lower total) (fromPacket (suc n) es); verdict = Accepted p }) end-place
+
+    stream-without : Without (readStream t b room)
+    stream-without = by (eqb (length b) 0 || ltb streamLimit (length b)) refl
+      where
+        of : (o : Out) → readPackets t b 0 Missing (length b) (begin room) ≡ o → eqb (length b) 0 || ltb streamLimit (length b) ≡ false → Without (ended o)
+        of (stop es v) q h z = unfold ended numberOf in absurd (omega (arith, refusalNumber-bounds (v .why) .0))
+        of (go es u) q h z = unfold ended in λ two one. without es u q h two one
+
+        reading : Bool → Reading
+        reading y = elim y [
+          | true ↦ record { entries = []; verdict = Refused (stopAt StreamSize (bitPlace 0)) }
+          | false ↦ ended (readPackets t b 0 Missing (length b) (begin room))
+        ]
+
+        is : readStream t b room ≡ reading (eqb (length b) 0 || ltb streamLimit (length b))
+        is = unfold readStream in refl
+
+        by : (y : Bool) → eqb (length b) 0 || ltb streamLimit (length b) ≡ y → Without (readStream t b room)
+        by true h = subst Without (sym (is ∙ ap reading h)) (unfold numberOf refusalNumber in λ z. absurd (omega arith))
+        by false h = subst Without (sym (is ∙ ap reading h)) (of (readPackets t b 0 Missing (length b) (begin room)) refl h)
+
+-- All of it
+
+abbrev OfParsed : List ℕ → List ℕ → ℕ → ℕ → Parsed Table → Type 0
+OfParsed x b room k p =
+    numberOf ((readParsed x p b room) .verdict) ≡ 0 → 1 < packetsIn ((readParsed x p b room) .entries) → k < packetsIn ((readParsed x p b room) .entries)
+    → readParsed x p (bytesWithout k ((readParsed x p b room) .entries) b) room
+    ≡ record {
+      entries = listWithout k ((readParsed x p b room) .entries);
+      verdict = Accepted (bitPlace (8 * length b - totalIn (fromPacket k ((readParsed x p b room) .entries))));
+    }
+
+pub apart : Apart
+unfolding readAll
+apart x b room k = by (parse x) refl
+  where
+    by : (p : Parsed Table) → parse x ≡ p → OfParsed x b room k p
+    by (bad n y) e = unfold readParsed numberOf in λ z. absurd (omega arith)
+    by (good t y) e = unfold readParsed in stream-without (asked t) (accepted-positive x t y e) (header-only x t y e) b room k
