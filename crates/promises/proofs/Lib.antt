@@ -35,4 +35,5 @@ mod Whole
 mod Onwards
 mod Cut
 mod Apart
+pub mod ApartCalls
 pub mod Promises

@@ -1,5 +1,5 @@
 -- Packets stand on their own: from an accepted stream of two or more packets one whole packet is removed, and the rest reads as it did. In order:
--- a packet in a list, by its number; the list and the stream without it; the statement.
+-- a packet in a list, by its number; the list and the stream without it; the statement, of the rules; and of two calls of the reader.
 use mathlib.Core.Path.{_≡_}
 use Prim.Native.Nat.{ℕ, zero, suc, _+_, _-_, _*_, _/_, _<_}
 use mathlib.Core.List.{List, [], _∷_, _++_, map}
@@ -9,9 +9,11 @@ use lib.Dec.{eqb}
 use Rattle.rules.specs.declared.Entry.{Entry}
 use Rattle.rules.specs.declared.Verdict.the-variants.{Accepted}
 use Rattle.rules.specs.Place.{bitPlace}
-use Rattle.rules.specs.Entry.{entry, packetStarts, lengthsSettled}
+use Rattle.rules.specs.declared.Result.{Result}
+use Rattle.rules.specs.Entry.{entry, words, packetStarts, lengthsSettled}
 use Rattle.rules.specs.Verdict.{numberOf}
-use Rattle.rules.specs.Read.{Reading, readAll}
+use Rattle.rules.specs.Read.{readAll}
+use Rattle.promises.specs.Demands.{Call, listedBy, cameBehind, Contract}
 
 -- A packet in a list
 
@@ -70,3 +72,34 @@ Apart = (x b : List ℕ) (room k : ℕ) → numberOf ((readAll x b room) .verdic
       entries = listWithout k ((readAll x b room) .entries);
       verdict = Accepted (bitPlace (8 * length b - totalIn (fromPacket k ((readAll x b room) .entries))));
     }
+
+-- The same of two calls, by one table: of a stream b, and of a stream b′ that is b without the packet k of the first call's list, with lists of one
+-- length. The first was accepted, with two packets or more
+
+abbrev pub resultWithout : ℕ → List ℕ → List Entry → Result
+resultWithout k b es = record {
+  number = 0;
+  entries = length (listWithout k es);
+  place = 8 * length b - totalIn (fromPacket k es);
+  first = 0;
+  second = 0;
+}
+
+pub record PacketRemoved (k : ℕ) (b : List ℕ) (c d : Call) : Type 0 where
+  pub result : d .result ≡ resultWithout k b (listedBy c)
+  pub list : d .after ≡ words (listWithout k (listedBy c)) ++ cameBehind (length (listWithout k (listedBy c))) d
+
+abbrev pub ApartCalls : List ℕ → List ℕ → Call → Call → Type 0
+ApartCalls b b′ c d =
+    (k : ℕ) → c .result .number ≡ 0 → 1 < packetsIn (listedBy c) → k < packetsIn (listedBy c)
+    → b′ ≡ bytesWithout k (listedBy c) b → length (d .before) ≡ length (c .before) → PacketRemoved k b c d
+
+-- of every two calls that meet the contract
+abbrev pub ApartOfCalls : Type 0
+ApartOfCalls = (x b b′ : List ℕ) (c d : Call) → Contract x b c → Contract x b′ d → ApartCalls b b′ c d
+
+-- and of two, as `promises_calls::read_without` ensures it
+pub record TwoStreams (x b b′ : List ℕ) (c d : Call) : Type 0 where
+  pub first : Contract x b c
+  pub second : Contract x b′ d
+  pub apart : ApartCalls b b′ c d
