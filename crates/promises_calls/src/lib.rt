@@ -49,7 +49,7 @@ pub fn read_without(
         (call (r .second) (now (other .entry)) (now (other .exit)))
         ⌝ }
 {
-    let first = read(table, stream, list);
-    let second = read(table, shorter, other);
-    Both { first, second }
+    let whole = read(table, stream, list);
+    let rest = read(table, shorter, other);
+    Both { first: whole, second: rest }
 }
