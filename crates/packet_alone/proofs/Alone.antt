@@ -66,7 +66,8 @@ module _ (t : Asked) (b b′ : List ℕ) (p p′ : BitPlace) (y : Like (e₀ t b
       by (inl r) = unfold farOut in (r ∙ ap (farOut E₀ E₁ same) q)
       by (inr c) = let z : stop (c .es) (c .v) ≡ go es u = sym (c .stops) ∙ q in let n : _≡_ {A = ℕ} 0 1 = cc in absurd (omega arith)
 
-  pub settled-there : (s : State) → Between E₀ (s .place .0) → (es : List Entry) (v : Stop) → here s ≡ stop es v → (Short E₀ E₁ (v .why) → ⊥)
+  pub settled-there : (s : State) → Between E₀ (s .place .0) → (es : List Entry) (v : Stop) → here s ≡ stop es v
+      → (Short E₀ E₁ (v .why) → ⊥)
       → there (far E₀ E₁ same s) ≡ stop (farAll E₀ E₁ es) (farStop E₀ E₁ v)
   settled-there s d es v q h = by (tail-packet t b b′ p p′ y rest i .rel s d)
     where

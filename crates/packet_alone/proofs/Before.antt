@@ -1,4 +1,5 @@
--- A packet that ends where two streams still agree, or before, reads the same in both: it reads among the bytes that they share, and from there
+-- A packet that ends where two streams still agree, or before, reads the same in both: it reads among the bytes that they share, and from
+-- there
 -- in the other. What stands for its lengths, were none stated, is the whole rest of its stream, which it does not take.
 use mathlib.Core.Path.{_≡_, refl, sym, ap, _∙_, subst}
 use Prim.Native.Nat.{ℕ, _+_, _-_, _*_, _/_, _%_, _≤_, _<_}
@@ -41,12 +42,14 @@ prefix-like t w v p z l = record {
 }
 
 -- what is moved asks for the starts alone
-moved-same : (t : Asked) (w v v′ : List ℕ) (p : BitPlace) (es : List Entry) → farAll (toEnd t w p) (toEnd t v p) es ≡ farAll (toEnd t w p) (toEnd t v′ p) es
+moved-same : (t : Asked) (w v v′ : List ℕ) (p : BitPlace) (es : List Entry)
+    → farAll (toEnd t w p) (toEnd t v p) es ≡ farAll (toEnd t w p) (toEnd t v′ p) es
 unfolding farAll farEntry
 moved-same t w v v′ p [] = refl
 moved-same t w v v′ p (x ∷ es) = ap (λ l. farEntry (toEnd t w p) (toEnd t v p) x ∷ l) (moved-same t w v v′ p es)
 
-module _ (t : Asked) (w r v : List ℕ) (k : ℕ) (i : Stated) (s : State) (es : List Entry) (u : State) (z : s .place .0 % 8 ≡ 0) (l : s .place .0 ≤ 8 * length w)
+module _ (t : Asked) (w r v : List ℕ) (k : ℕ) (i : Stated) (s : State) (es : List Entry) (u : State) (z : s .place .0 % 8 ≡ 0)
+    (l : s .place .0 ≤ 8 * length w)
     (h : u .place .0 ≤ 8 * length w) (more : 0 < length r) (q : readPacket t (w ++ r) k i s ≡ go es u) where
   abbrev shared : Env
   shared = toEnd t w (s .place)
@@ -61,7 +64,8 @@ module _ (t : Asked) (w r v : List ℕ) (k : ℕ) (i : Stated) (s : State) (es :
   other-rest : packet t (w ++ r) (s .place) rest i (less s) ≡ go (a .others) u
   other-rest = run t (w ++ r) (s .place) rest i (less s) (a .others) u
       (any-rest t (w ++ r) (s .place) (8 * length (w ++ r) - s .place .0) i (less s) (a .others) u
-      (ran t (w ++ r) (s .place) (8 * length (w ++ r) - s .place .0) i (less s) (a .others) u (a .behind)) rest (λ e. omega (arith, length-append w r)))
+      (ran t (w ++ r) (s .place) (8 * length (w ++ r) - s .place .0) i (less s) (a .others) u (a .behind)) rest
+      (λ e. omega (arith, length-append w r)))
 
   here : (b : List ℕ) → far shared (toEnd t b (s .place)) same (less s) ≡ less s
   unfolding far
@@ -80,14 +84,16 @@ module _ (t : Asked) (w r v : List ℕ) (k : ℕ) (i : Stated) (s : State) (es :
   between : Between shared (s .place .0)
   between = (omega arith, l)
 
-  alone : Went t w (w ++ r) (s .place) (s .place) (prefix-like t w r (s .place) z l) rest i (packet t w (s .place) rest i (less s)) (a .others) u
+  alone : Went t w (w ++ r) (s .place) (s .place) (prefix-like t w r (s .place) z l) rest i (packet t w (s .place) rest i (less s))
+      (a .others) u
   alone = reads-alone t w (w ++ r) (s .place) (s .place) (prefix-like t w r (s .place) z l) rest i (less s) between (a .others) u
       (ap (packet t (w ++ r) (s .place) rest i) (here (w ++ r)) ∙ other-rest) (omega arith)
 
   there : packet t (w ++ v) (s .place) rest i (less s) ≡ go (a .others) u
   there =
       ap (packet t (w ++ v) (s .place) rest i) (sym (here (w ++ v)))
-      ∙ reads-there t w (w ++ v) (s .place) (s .place) (prefix-like t w v (s .place) z l) rest i (less s) between (alone .es) (alone .u) (alone .goes)
+      ∙ reads-there t w (w ++ v) (s .place) (s .place) (prefix-like t w v (s .place) z l) rest i (less s) between (alone .es) (alone .u)
+      (alone .goes)
       ∙ (λ j. go (entries j) (state j))
     where
       entries : farAll shared (toEnd t (w ++ v) (s .place)) (alone .es) ≡ a .others

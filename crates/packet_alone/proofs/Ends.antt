@@ -1,5 +1,7 @@
--- How a packet that goes through ends: behind its total length; with the stream class id that its header said; and, where there is a clock, with
--- a last clock that is no lower than the one it began with (39). So it does not matter what stands for lengths that are not stated, unless the
+-- How a packet that goes through ends: behind its total length; with the stream class id that its header said; and, where there is a
+-- clock, with
+-- a last clock that is no lower than the one it began with (39). So it does not matter what stands for lengths that are not stated,
+-- unless the
 -- packet ends just there; nor which packet was the first, as long as it is of that class.
 use mathlib.Core.Path.{_≡_, refl, sym, ap, _∙_, subst}
 use mathlib.Core.Logic.{_⊎_, inl, inr}
@@ -21,7 +23,8 @@ use Rattle.rules.specs.declared.Stop.{Stop}
 use Rattle.rules.specs.Verdict.{stopAt}
 use Rattle.rules.specs.Slots.{slotAt}
 use Rattle.rules.specs.Entry.{entry, eventStarts, eventClassFound, packetEnds}
-use Rattle.rules.specs.Step.{State, Out, stop, go, Step, _⨾_, refuse, check, due, listed, change, pass, withSlots, withOrder, withClock, withLast, withSaid}
+use Rattle.rules.specs.Step.{State, Out, stop, go, Step, _⨾_, refuse, check, due, listed, change, pass, withSlots, withOrder, withClock}
+use Rattle.rules.specs.Step.{withLast, withSaid}
 use Rattle.rules.specs.Class.{Class}
 use Rattle.rules.specs.Table.{StreamClass, EventClass, Asked}
 use Rattle.rules.specs.Field.{Env, field, store, say, fromSlot}
@@ -50,7 +53,8 @@ Stays A m = Triple AnyEntry AnyStop AnyRefusal A m A
 stays-both : {A B : State → Type 0} {m : Step} → Stays A m → Stays B m → Stays (λ s. A s × B s) m
 stays-both {A} {B} {m} h k = record { at = λ s x. by (m s) (h .at s (x .0)) (k .at s (x .1)) }
   where
-    by : (o : Out) → Ok AnyEntry AnyStop AnyRefusal A o → Ok AnyEntry AnyStop AnyRefusal B o → Ok AnyEntry AnyStop AnyRefusal (λ s. A s × B s) o
+    by : (o : Out) → Ok AnyEntry AnyStop AnyRefusal A o → Ok AnyEntry AnyStop AnyRefusal B o
+        → Ok AnyEntry AnyStop AnyRefusal (λ s. A s × B s) o
     by (stop es v) x y = x
     by (go es s) x y = (x .0, (x .1, y .1))
 
@@ -132,14 +136,17 @@ module _ (t : Asked) (only : HeaderOnly t) (c : StreamClass) (i : ℕ) (found : 
   back-fine : {m : Step} → Keeps m → Keeps (check back ClockWentBack ⨾ change (λ s. withLast (s .clock) s) ⨾ m)
   unfolding withLast
   back-fine {m} h = tested AnyEntry AnyStop AnyRefusal stops back ClockWentBack tt
-      (then AnyEntry AnyStop AnyRefusal (changing AnyEntry AnyStop AnyRefusal _ (λ s x. (x .0 .0, above (c .timed) (s .clock) (s .last) (x .1) (x .0 .1)))) h)
+      (then AnyEntry AnyStop AnyRefusal
+      (changing AnyEntry AnyStop AnyRefusal _ (λ s x. (x .0 .0, above (c .timed) (s .clock) (s .last) (x .1) (x .0 .1)))) h)
 
   class-fine : (e : Env) (k l : ℕ) (x : Option EventClass) → t .event k l ≡ x
-      → Keeps (withEvent k l x (λ d. mark eventClassFound 0 l ⨾ readRoot e (c .common) ⨾ readRoot e (d .specific) ⨾ readRoot e (d .payload)))
+      → Keeps (withEvent k l x (λ d. mark eventClassFound 0 l ⨾ readRoot e (c .common) ⨾ readRoot e (d .specific)
+      ⨾ readRoot e (d .payload)))
   unfolding withEvent
   class-fine e k l none q = refusing AnyEntry AnyStop AnyRefusal stops (EventClassUnknown k l) tt
   class-fine e k l (some d) q =
-      mark-fine eventClassFound 0 l ⨾ᶠ root-fine e (c .common) (only .common i c found) ⨾ᶠ root-fine e (d .specific) (only .specific k l d q)
+      mark-fine eventClassFound 0 l ⨾ᶠ root-fine e (c .common) (only .common i c found)
+      ⨾ᶠ root-fine e (d .specific) (only .specific k l d q)
       ⨾ᶠ root-fine e (d .payload) (only .payload k l d q)
 
   start-fine : Keeps (change startEvent)
@@ -150,7 +157,8 @@ module _ (t : Asked) (only : HeaderOnly t) (c : StreamClass) (i : ℕ) (found : 
   unfolding readEvent
   event-fine e n = record {
     at = λ s₀ h.
-        due-fine (mark-fine eventStarts 0 n ⨾ᶠ start-fine ⨾ᶠ root-fine e (c .header) (only .header i c found) ⨾ᶠ back-fine (due-fine (record {
+        due-fine (mark-fine eventStarts 0 n ⨾ᶠ start-fine ⨾ᶠ root-fine e (c .header) (only .header i c found)
+        ⨾ᶠ back-fine (due-fine (record {
           at = λ s h. class-fine e (c .id) (s .said .event) (t .event (c .id) (s .said .event)) refl .at s h;
         } ⨾ᶠ checks AnyEntry AnyStop AnyRefusal stops (λ s. eqb (s .place .0) (s₀ .place .0)) EventTookNoBits tt))) .at s₀ h;
   }
@@ -159,7 +167,8 @@ module _ (t : Asked) (only : HeaderOnly t) (c : StreamClass) (i : ℕ) (found : 
   unfolding endPacket
   end-fine to n = due-fine (unfold listed in record { at = λ s h. ((tt, tt), h) })
 
-  fine-if : (b : Bool) {m n : Step} → Keeps m → Keeps n → (s : State) → Fine s → Ok AnyEntry AnyStop AnyRefusal Fine (elim b [ true ↦ m s | false ↦ n s ])
+  fine-if : (b : Bool) {m n : Step} → Keeps m → Keeps n → (s : State) → Fine s
+      → Ok AnyEntry AnyStop AnyRefusal Fine (elim b [ true ↦ m s | false ↦ n s ])
   fine-if true h k s a = h .at s a
   fine-if false h k s a = k .at s a
 
@@ -172,9 +181,11 @@ module _ (t : Asked) (only : HeaderOnly t) (c : StreamClass) (i : ℕ) (found : 
 
 -- Packets
 
-module _ (t : Asked) (b : List ℕ) (p : BitPlace) (rest : ℕ) (i : Stated) (s : State) (es : List Entry) (u : State) (r : Ran t b p rest i s es u) where
+module _ (t : Asked) (b : List ℕ) (p : BitPlace) (rest : ℕ) (i : Stated) (s : State) (es : List Entry) (u : State)
+    (r : Ran t b p rest i s es u) where
   pub ends-behind : u .place .0 ≡ p .0 + totalOf rest (r .s₂)
-  ends-behind = ap (λ x. x .0) (events-end t (r .c) (upTo t b p (p .0 + contentOf rest (r .s₂))) _ 0 _ (less (r .s₂)) (r .content .rest) u (r .content .events))
+  ends-behind = ap (λ x. x .0)
+      (events-end t (r .c) (upTo t b p (p .0 + contentOf rest (r .s₂))) _ 0 _ (less (r .s₂)) (r .content .rest) u (r .content .events))
 
   module _ (only : HeaderOnly t) where
     abbrev NoEarlier : ℕ → Type 0
@@ -182,14 +193,17 @@ module _ (t : Asked) (b : List ℕ) (p : BitPlace) (rest : ℕ) (i : Stated) (s 
 
     header-last : NoEarlier (r .s₁ .last)
     unfolding startPacket
-    header-last = at-end (root-last NoEarlier (toEnd t b p) (t .header)) (startPacket s) (r .es₁) (r .s₁) (r .header) (λ q. le-refl (s .last))
+    header-last = at-end (root-last NoEarlier (toEnd t b p) (t .header)) (startPacket s) (r .es₁) (r .s₁) (r .header)
+        (λ q. le-refl (s .last))
 
     context-fine : Fine t only (r .c) (r .s₁ .said .stream) (r .found) (r .s₁ .said .stream) (s .last) (r .s₂)
-    context-fine = at-end (root-fine t only (r .c) (r .s₁ .said .stream) (r .found) (r .s₁ .said .stream) (s .last) (toEnd t b p) (r .c .context)
+    context-fine = at-end
+        (root-fine t only (r .c) (r .s₁ .said .stream) (r .found) (r .s₁ .said .stream) (s .last) (toEnd t b p) (r .c .context)
         (only .context (r .s₁ .said .stream) (r .c) (r .found))) (less (r .s₁)) (r .es₂) (r .s₂) (r .context) (refl, header-last)
 
     whole-fine : Fine t only (r .c) (r .s₁ .said .stream) (r .found) (r .s₁ .said .stream) (s .last) u
-    whole-fine = at-end (events-fine t only (r .c) (r .s₁ .said .stream) (r .found) (r .s₁ .said .stream) (s .last) (upTo t b p (p .0 + contentOf rest (r .s₂))) _ 0 _)
+    whole-fine = at-end (events-fine t only (r .c) (r .s₁ .said .stream) (r .found) (r .s₁ .said .stream) (s .last)
+        (upTo t b p (p .0 + contentOf rest (r .s₂))) _ 0 _)
         (less (r .s₂)) (r .content .rest) u (r .content .events) context-fine
 
     -- the stream class id is the header's
@@ -223,7 +237,8 @@ module _ (t : Asked) (b : List ℕ) (p : BitPlace) (rest : ℕ) (i : Stated) (s 
 
   -- Lengths that are stated, one at least, or what stands for them
 
-  stated : (x y : Stated) (rest′ : ℕ) → (orElse x y rest ≡ rest) ⊎ ((orElse x y rest ≡ orElse x y rest′) × (orElse y x rest ≡ orElse y x rest′))
+  stated : (x y : Stated) (rest′ : ℕ)
+      → (orElse x y rest ≡ rest) ⊎ ((orElse x y rest ≡ orElse x y rest′) × (orElse y x rest ≡ orElse y x rest′))
   unfolding orElse
   stated (As m) (As n) rest′ = inr (refl, refl)
   stated (As m) Missing rest′ = inr (refl, refl)
@@ -234,7 +249,8 @@ module _ (t : Asked) (b : List ℕ) (p : BitPlace) (rest : ℕ) (i : Stated) (s 
   pub any-rest : (rest′ : ℕ) → (u .place .0 ≡ p .0 + rest → ⊥) → Ran t b p rest′ i s es u
   any-rest rest′ d = by (stated (r .s₂ .said .total) (r .s₂ .said .content) rest′)
     where
-      by : (totalOf rest (r .s₂) ≡ rest) ⊎ ((totalOf rest (r .s₂) ≡ totalOf rest′ (r .s₂)) × (contentOf rest (r .s₂) ≡ contentOf rest′ (r .s₂)))
+      by : (totalOf rest (r .s₂) ≡ rest)
+          ⊎ ((totalOf rest (r .s₂) ≡ totalOf rest′ (r .s₂)) × (contentOf rest (r .s₂) ≡ contentOf rest′ (r .s₂)))
           → Ran t b p rest′ i s es u
       by (inl q) = absurd (d (ends-behind ∙ ap (λ n. p .0 + n) q))
       by (inr q) = record {

@@ -25,7 +25,8 @@ use Rattle.laws.proofs.Between.{Held, In, At, NoMore, Holding}
 use Rattle.packet_alone.proofs.Far.{away, farEntry, farAll, far, farOut, far-append, Exact, Rel}
 use Rattle.packet_alone.proofs.Pair.{Like, Pair, pair-root, exact-change, exact-due}
 use Rattle.packet_alone.proofs.Through.{Split, split, join, passed, pass-check, do-change}
-use Rattle.packet_alone.proofs.Beside.{same, P, held-here, held-change, held-check, pair-due, pair-found, pair-moved, pair-event, _⨾ᵖ_, body, end-same, before-bound, loops}
+use Rattle.packet_alone.proofs.Beside.{same, P, held-here, held-change, held-check, pair-due, pair-found, pair-moved, pair-event}
+use Rattle.packet_alone.proofs.Beside.{_⨾ᵖ_, body, end-same, before-bound, loops}
 
 -- a last clock that is lower, where there is a clock
 abbrev pub Low : StreamClass → (ℕ → ℕ) → Type 0
@@ -35,16 +36,19 @@ pub low-same : (c : StreamClass) → Low c same
 low-same c q n = le-refl n
 
 -- what stands beside an outcome that goes on
-pub out-of : (e e′ : Env) (l : ℕ → ℕ) (o o′ : Out) (es : List Entry) (u : State) → Rel e e′ l o o′ → o ≡ go es u → o′ ≡ go (farAll e e′ es) (far e e′ l u)
+pub out-of : (e e′ : Env) (l : ℕ → ℕ) (o o′ : Out) (es : List Entry) (u : State) → Rel e e′ l o o′ → o ≡ go es u
+    → o′ ≡ go (farAll e e′ es) (far e e′ l u)
 unfolding farOut
 out-of e e′ l o o′ es u (inl p) q = p ∙ ap (farOut e e′ l) q
-out-of e e′ l o o′ es u (inr c) q = let z : stop (c .es) (c .v) ≡ go es u = sym (c .stops) ∙ q in let w : _≡_ {A = ℕ} 0 1 = cc in absurd (omega arith)
+out-of e e′ l o o′ es u (inr c) q = let z : stop (c .es) (c .v) ≡ go es u = sym (c .stops)
+    ∙ q in let w : _≡_ {A = ℕ} 0 1 = cc in absurd (omega arith)
 
 -- where it went on, the place is still in the packet
 pub still-in : (e e′ : Env) (y : Like e e′) (l : ℕ → ℕ) {m m′ : Step} → Pair e e′ y l m m′ → (s : State) (es : List Entry) (u : State)
     → Between e (s .place .0) → m s ≡ go es u → Between e (u .place .0)
 still-in e e′ y l {m} {m′} h s es u b q =
-    let x = subst (Ok (In e) (At e) (NoMore e) (Held e (λ p d. 0 ≤ p))) q (h .held 0 .at s (record { from = b .0; to = b .1; kept = omega arith })) in
+    let x = subst (Ok (In e) (At e) (NoMore e) (Held e (λ p d. 0 ≤ p))) q
+    (h .held 0 .at s (record { from = b .0; to = b .1; kept = omega arith })) in
     (x .1 .from, x .1 .to)
 
 module _ (e e′ : Env) (y : Like e e′) (l : ℕ → ℕ) where
@@ -56,20 +60,23 @@ module _ (e e′ : Env) (y : Like e e′) (l : ℕ → ℕ) where
 
   -- where the first goes through, so does the second, from the lower clock; behind it the clocks are the same
   record Lowers (n n′ : Step) : Type 0 where
-    at : (s : State) (es : List Entry) (u : State) → Between e (s .place .0) → n s ≡ go es u → n′ (there s) ≡ go (farAll e e′ es) (settled u)
+    at : (s : State) (es : List Entry) (u : State) → Between e (s .place .0) → n s ≡ go es u
+        → n′ (there s) ≡ go (farAll e e′ es) (settled u)
 
   lowers-seq : {m n m′ n′ : Step} → Pair e e′ y l m m′ → Lowers n n′ → Lowers (m ⨾ n) (m′ ⨾ n′)
   lowers-seq {m} {n} {m′} {n′} h k = record {
     at = λ s es u b q.
         let g = split m n s es u q in
-        let p : m′ (there s) ≡ go (farAll e e′ (g .first)) (there (g .middle)) = out-of e e′ l (m s) (m′ (there s)) (g .first) (g .middle) (h .rel s b) (g .goes) in
+        let p : m′ (there s) ≡ go (farAll e e′ (g .first)) (there (g .middle)) =
+        out-of e e′ l (m s) (m′ (there s)) (g .first) (g .middle) (h .rel s b) (g .goes) in
         let r : n′ (there (g .middle)) ≡ go (farAll e e′ (g .second)) (settled u) =
         k .at (g .middle) (g .second) u (still-in e e′ y l h s (g .first) (g .middle) b (g .goes)) (g .goes-on) in
         join m′ n′ (there s) (farAll e e′ (g .first)) (there (g .middle)) (farAll e e′ (g .second)) (settled u) p r
         ∙ ap (λ w. go w (settled u)) (sym (far-append e e′ (g .first) (g .second)) ∙ ap (farAll e e′) (sym (g .list)));
   }
 
-  pair-exact : {m m′ : Step} → Exact e e′ m m′ → ((q : ℕ) → Holding e (λ p d. q ≤ p) m) → ((q : ℕ) → Holding e′ (λ p d. q ≤ p) m′) → Pair e e′ y l m m′
+  pair-exact : {m m′ : Step} → Exact e e′ m m′ → ((q : ℕ) → Holding e (λ p d. q ≤ p) m) → ((q : ℕ) → Holding e′ (λ p d. q ≤ p) m′)
+      → Pair e e′ y l m m′
   pair-exact x h h′ = record { rel = λ s b. inl (x .at l s); held = h; held′ = h′ }
 
   low-due : Pair e e′ y l due due
@@ -119,7 +126,8 @@ module _ (e e′ : Env) (y : Like e e′) (l : ℕ → ℕ) where
     lowers-back {m} {m′} h = record {
       at = λ s es u b q.
           let t : wentBack s ≡ false = passed wentBack ClockWentBack (change ownClock ⨾ m) s es u q in
-          let g : m (ownClock s) ≡ go es u = sym (do-change ownClock m s) ∙ sym (pass-check wentBack ClockWentBack (change ownClock ⨾ m) s t) ∙ q in
+          let g : m (ownClock s) ≡ go es u = sym (do-change ownClock m s)
+          ∙ sym (pass-check wentBack ClockWentBack (change ownClock ⨾ m) s t) ∙ q in
           pass-check wentBack ClockWentBack (change ownClock ⨾ m′) (there s) (test-there s t)
           ∙ do-change ownClock m′ (there s) ∙ ap m′ (set-there s)
           ∙ out-of e e′ same (m (ownClock s)) (m′ (settled (ownClock s))) es u (h .rel (ownClock s) (still s b)) g;
@@ -141,12 +149,14 @@ pub record Lowered (c : StreamClass) (e e′ : Env) (o′ : Out) (es : List Entr
   pub low : Low c l
   pub goes : o′ ≡ go (farAll e e′ es) (far e e′ l u)
 
-module _ (e e′ : Env) (y : Like e e′) (equal : e′ .bound .0 - e′ .start .0 ≤ e .bound .0 - e .start .0) (t : Asked) (c : StreamClass) (l : ℕ → ℕ) (low : Low c l) where
+module _ (e e′ : Env) (y : Like e e′) (equal : e′ .bound .0 - e′ .start .0 ≤ e .bound .0 - e .start .0) (t : Asked) (c : StreamClass)
+    (l : ℕ → ℕ) (low : Low c l) where
   pub lowers-events : (to n left : ℕ) (s : State) (es : List Entry) (u : State) → Between e (s .place .0) → e .start .0 ≤ to
       → readEvents t c e (bitPlace to) n left s ≡ go es u
       → Lowered c e e′ (readEvents t c e′ (bitPlace (away e e′ to)) n left (far e e′ l s)) es u
   unfolding readEvents
-  lowers-events to n zero s es u b h q = record { l = l; low = low; goes = unfold farOut in (end-same e e′ y l to n s b h ∙ ap (farOut e e′ l) q) }
+  lowers-events to n zero s es u b h q =
+      record { l = l; low = low; goes = unfold farOut in (end-same e e′ y l to n s b h ∙ ap (farOut e e′ l) q) }
   lowers-events to n (suc left) s es u b h q = by (ltb (s .place .0) (e .bound .0)) refl q
     where
       next : Step
@@ -161,9 +171,15 @@ module _ (e e′ : Env) (y : Like e e′) (equal : e′ .bound .0 - e′ .start 
       whole : Bool → Out
       whole x = elim x [ true ↦ (readEvent t c e′ n ⨾ next′) (far e e′ l s) | false ↦ endPacket (bitPlace (away e e′ to)) n (far e e′ l s) ]
 
-      by : (x : Bool) → ltb (s .place .0) (e .bound .0) ≡ x → elim x [ true ↦ (readEvent t c e n ⨾ next) s | false ↦ endPacket (bitPlace to) n s ] ≡ go es u
+      by : (x : Bool) → ltb (s .place .0) (e .bound .0) ≡ x
+          → elim x [ true ↦ (readEvent t c e n ⨾ next) s | false ↦ endPacket (bitPlace to) n s ] ≡ go es u
           → Lowered c e e′ (whole (ltb ((far e e′ l s) .place .0) (e′ .bound .0))) es u
-      by false x q = record { l = l; low = low; goes = unfold farOut in (ap whole (bounds ∙ x) ∙ end-same e e′ y l to n s b h ∙ ap (farOut e e′ l) q) }
+      by false x q = record {
+        l = l;
+        low = low;
+        goes =
+            unfold farOut in (ap whole (bounds ∙ x) ∙ end-same e e′ y l to n s b h ∙ ap (farOut e e′ l) q);
+      }
       by true x q = record { l = same; low = low-same c; goes = ap whole (bounds ∙ x) ∙ joined }
         where
           g : Split (readEvent t c e n) next s es u
@@ -174,9 +190,11 @@ module _ (e e′ : Env) (y : Like e e′) (equal : e′ .bound .0 - e′ .start 
 
           later : next′ (far e e′ same (g .middle)) ≡ go (farAll e e′ (g .second)) (far e e′ same u)
           later = unfold farOut in
-              (loops e e′ y equal t c to (n + 1) left (g .middle) (still-in e e′ y same (pair-event e e′ y t c n) s (g .first) (g .middle) b (g .goes)) h
+              (loops e e′ y equal t c to (n + 1) left (g .middle)
+              (still-in e e′ y same (pair-event e e′ y t c n) s (g .first) (g .middle) b (g .goes)) h
               ∙ ap (farOut e e′ same) (g .goes-on))
 
           joined : (readEvent t c e′ n ⨾ next′) (far e e′ l s) ≡ go (farAll e e′ es) (far e e′ same u)
-          joined = join (readEvent t c e′ n) next′ (far e e′ l s) (farAll e e′ (g .first)) (far e e′ same (g .middle)) (farAll e e′ (g .second)) (far e e′ same u) first later
+          joined = join (readEvent t c e′ n) next′ (far e e′ l s) (farAll e e′ (g .first)) (far e e′ same (g .middle))
+              (farAll e e′ (g .second)) (far e e′ same u) first later
               ∙ ap (λ w. go w (far e e′ same u)) (sym (far-append e e′ (g .first) (g .second)) ∙ ap (farAll e e′) (sym (g .list)))

@@ -25,7 +25,8 @@ use Rattle.rules.specs.declared.Ended.{Ended}
 use Rattle.rules.specs.declared.Ended.the-variants.{After, Never}
 use Rattle.rules.specs.declared.Entry.{Entry}
 use Rattle.rules.specs.declared.Refusal.{Refusal}
-use Rattle.rules.specs.declared.Refusal.the-variants.{PastBound, OrderChanged, LebTooLarge, NoZeroByte, SlotUnset, SlotOfWrongSort, LengthTooLarge, SelectorInNoOption, WrongMagic, WrongUuid, ClockTooLarge, ListFull}
+use Rattle.rules.specs.declared.Refusal.the-variants.{PastBound, OrderChanged, LebTooLarge, NoZeroByte, SlotUnset, SlotOfWrongSort}
+use Rattle.rules.specs.declared.Refusal.the-variants.{LengthTooLarge, SelectorInNoOption, WrongMagic, WrongUuid, ClockTooLarge, ListFull}
 use Rattle.rules.specs.declared.Stop.{Stop}
 use Rattle.rules.specs.Limits.{lengthLimit, magicNumber, wordsPerEntry}
 use Rattle.rules.specs.Bits.{bits}
@@ -36,10 +37,13 @@ use Rattle.rules.specs.Place.{bitPlace, alignFrom}
 use Rattle.rules.specs.Slots.{slotAt}
 use Rattle.rules.specs.Entry.{entry, clockAdvanced}
 use Rattle.rules.specs.Verdict.{stopAt}
-use Rattle.rules.specs.Step.{State, Out, stop, go, Step, onto, after, _⨾_, refuse, check, due, listed, change, pass, withSlots, withOrder, withClock, withSaid}
-use Rattle.rules.specs.Class.{Role, noRole, magic, streamClassId, streamId, uuid, totalLength, contentLength, clock, endClock, discarded, sequence, eventClassId}
+use Rattle.rules.specs.Step.{State, Out, stop, go, Step, onto, after, _⨾_, refuse, check, due, listed, change, pass, withSlots, withOrder}
+use Rattle.rules.specs.Step.{withClock, withSaid}
+use Rattle.rules.specs.Class.{Role, noRole, magic, streamClassId, streamId, uuid, totalLength, contentLength, clock, endClock, discarded}
+use Rattle.rules.specs.Class.{sequence, eventClassId}
 use Rattle.rules.specs.Class.{Class, Sort, kindOf}
-use Rattle.rules.specs.Field.{Env, aligned, fit, field, store, newClock, say, role, sameBytes, blobRole, fromSlot, valueOf, slotOf, otherOrder, turned, ahead, bytesAt, readFixed, readLeb, readZero, readText, readBlob}
+use Rattle.rules.specs.Field.{Env, aligned, fit, field, store, newClock, say, role, sameBytes, blobRole, fromSlot, valueOf, slotOf}
+use Rattle.rules.specs.Field.{otherOrder, turned, ahead, bytesAt, readFixed, readLeb, readZero, readText, readBlob}
 use Rattle.rules.specs.Packet.{readRoot}
 use Rattle.facts.proofs.Steps.{onto-nil, onto-onto, after-onto}
 use Rattle.facts.proofs.Numbers.{lt-or-ge}
@@ -50,7 +54,9 @@ use Rattle.laws.proofs.Triple.{Ok, Triple, ok-after, then, passing, changing, r
 use Rattle.laws.proofs.Between.{Kept, Held, In, At, NoMore, Holding, held-law}
 use Rattle.laws.proofs.Places.{start-le, alignFrom-le, align-one, ahead-fits}
 use Rattle.packet_alone.proofs.Two.{Law2, two-root}
-use Rattle.packet_alone.proofs.Far.{away, farEntry, farAll, farStop, far, farOut, far-append, far-onto, Exact, exact-seq, aligned-far, start-aligned, exact-field, exact-refuse, exact-pass, Cut, Rel, rel-check, rel-due, rel-fit}
+use Rattle.packet_alone.proofs.Far.{away, farEntry, farAll, farStop, far, farOut, far-append, far-onto, Exact, exact-seq}
+use Rattle.packet_alone.proofs.Far.{aligned-far, start-aligned, exact-field, exact-refuse, exact-pass, Cut, Rel, rel-check, rel-due}
+use Rattle.packet_alone.proofs.Far.{rel-fit}
 use Rattle.packet_alone.proofs.Agree.{piece, bits-same, leb-more, leb-signed-more, zero-more}
 
 -- the packet's bytes from both starts are w, as far as the nearer bound; that one is as far as the other, or nearer
@@ -111,7 +117,8 @@ onward-role streamId l v = onward-pass
 onward-role uuid l v = onward-pass
 onward-role totalLength l v = onward-change _ (λ s. refl)
 onward-role contentLength l v = onward-change _ (λ s. refl)
-onward-role clock l v = λ q. dued Whatever Wherever Why (λ r i s a. tt) tt (record { at = λ s a. onward-clock l (clockAfter (s .clock) l v) q .at s a })
+onward-role clock l v =
+    λ q. dued Whatever Wherever Why (λ r i s a. tt) tt (record { at = λ s a. onward-clock l (clockAfter (s .clock) l v) q .at s a })
 onward-role endClock l v = onward-change _ (λ s. refl)
 onward-role discarded l v = onward-pass
 onward-role sequence l v = onward-pass
@@ -126,7 +133,8 @@ unfolding store withSlots
 onward-store i x = onward-change _ (λ s. refl)
 
 -- a test in front is passed where the whole goes on
-pub through : (t : State → Bool) (r : Refusal) (m : Step) (s : State) (fs : List Entry) (u : State) → (check t r ⨾ m) s ≡ go fs u → m s ≡ go fs u
+pub through : (t : State → Bool) (r : Refusal) (m : Step) (s : State) (fs : List Entry) (u : State) → (check t r ⨾ m) s ≡ go fs u
+    → m s ≡ go fs u
 unfolding check _⨾_
 through t r m s fs u q = by (t s) q
   where
@@ -162,7 +170,8 @@ module _ (e e′ : Env) (y : Like e e′) where
 
   fits : (l : ℕ → ℕ) (a n : ℕ) (m m′ : Step) (s : State)
       → ((aligned e a s) .0 + n ≤ e .bound .0 → R l (m s) (m′ (F l s)))
-      → ((aligned e′ a (F l s)) .0 + n ≤ e′ .bound .0 → (fs : List Entry) (t : State) → m′ (F l s) ≡ go fs t → (aligned e′ a (F l s)) .0 + n ≤ t .place .0)
+      → ((aligned e′ a (F l s)) .0 + n ≤ e′ .bound .0 → (fs : List Entry) (t : State) → m′ (F l s) ≡ go fs t
+      → (aligned e′ a (F l s)) .0 + n ≤ t .place .0)
       → R l ((fit e a n ⨾ m) s) ((fit e′ a n ⨾ m′) (F l s))
   fits = rel-fit e e′ (y .inside) (y .inside′) (y .narrower)
 
@@ -190,19 +199,23 @@ module _ (e e′ : Env) (y : Like e e′) where
     stops = unfold onto in ap (onto es) (c .stops);
     short = c .short;
     rest = c .rest;
-    goes = ap (onto (farAll e e′ es)) (c .goes) ∙ onto-onto (farAll e e′ es) (farAll e e′ (c .es)) (c .rest) ∙ ap (λ x. onto x (c .rest)) (sym (far-append e e′ es (c .es)));
+    goes = ap (onto (farAll e e′ es)) (c .goes) ∙ onto-onto (farAll e e′ es) (farAll e e′ (c .es)) (c .rest)
+        ∙ ap (λ x. onto x (c .rest)) (sym (far-append e e′ es (c .es)));
     wider = c .wider;
     beyond = λ fs t q. let g = onto-go (farAll e e′ es) o′ fs t q in c .beyond (g .0) t (g .1);
   })
 
   -- behind outcomes that stand beside each other
-  same-after : (l : ℕ → ℕ) (o : Out) (n n′ : Step) → Ok (In e) (At e) (NoMore e) (Held e (λ p d. 0 ≤ p)) o → Pair l n n′ → R l (after o n) (after (farOut e e′ l o) n′)
+  same-after : (l : ℕ → ℕ) (o : Out) (n n′ : Step) → Ok (In e) (At e) (NoMore e) (Held e (λ p d. 0 ≤ p)) o → Pair l n n′
+      → R l (after o n) (after (farOut e e′ l o) n′)
   unfolding after farOut
   same-after l (stop es v) n n′ ok k = inl refl
   same-after l (go es t) n n′ ok k = rel-onto l es (n t) (n′ (F l t)) (k .rel t (ok .1 .from, ok .1 .to))
 
-  beyond-after : (a : ℕ) (o′ : Out) (n′ : Step) → Ok (In e′) (At e′) (NoMore e′) (Held e′ (λ p d. 0 ≤ p)) o′ → ((q : ℕ) → Holding e′ (λ p d. q ≤ p) n′)
-      → ((fs : List Entry) (t : State) → o′ ≡ go fs t → a < t .place .0) → (fs : List Entry) (t : State) → after o′ n′ ≡ go fs t → a < t .place .0
+  beyond-after : (a : ℕ) (o′ : Out) (n′ : Step) → Ok (In e′) (At e′) (NoMore e′) (Held e′ (λ p d. 0 ≤ p)) o′
+      → ((q : ℕ) → Holding e′ (λ p d. q ≤ p) n′)
+      → ((fs : List Entry) (t : State) → o′ ≡ go fs t → a < t .place .0) → (fs : List Entry) (t : State) → after o′ n′ ≡ go fs t
+      → a < t .place .0
   beyond-after a (stop es v) n′ ok k h fs t q = unfold after in let z : _≡_ {A = ℕ} 0 1 = cc in absurd (omega arith)
   beyond-after a (go es u) n′ ok k h fs t q =
       let g : Ok (In e′) (At e′) (NoMore e′) (Held e′ (λ p d. u .place .0 ≤ p)) (after (go es u) n′) =
@@ -232,7 +245,8 @@ module _ (e e′ : Env) (y : Like e e′) where
   unfolding check
   exact-check t t′ r h = record { at = λ l s. ap (λ b. elim b [ true ↦ refuse r (F l s) | false ↦ pass (F l s) ]) (h l s) ∙ by l s (t s) }
     where
-      by : (l : ℕ → ℕ) (s : State) (b : Bool) → elim b [ true ↦ refuse r (F l s) | false ↦ pass (F l s) ] ≡ farOut e e′ l (elim b [ true ↦ refuse r s | false ↦ pass s ])
+      by : (l : ℕ → ℕ) (s : State) (b : Bool)
+          → elim b [ true ↦ refuse r (F l s) | false ↦ pass (F l s) ] ≡ farOut e e′ l (elim b [ true ↦ refuse r s | false ↦ pass s ])
       by l s true = exact-refuse e e′ r .at l s
       by l s false = exact-pass e e′ .at l s
 
@@ -249,7 +263,8 @@ module _ (e e′ : Env) (y : Like e e′) where
   exact-clock w none = exact-refuse e e′ ClockTooLarge
   exact-clock w (some c) = exact-seq e e′ here (exact-change (withClock c) (λ l s. unfold withClock far in refl))
     where
-      here : Exact e e′ (λ s. listed (entry clockAdvanced (s .place) w c) (s .place) s) (λ s. listed (entry clockAdvanced (s .place) w c) (s .place) s)
+      here : Exact e e′ (λ s. listed (entry clockAdvanced (s .place) w c) (s .place) s)
+          (λ s. listed (entry clockAdvanced (s .place) w c) (s .place) s)
       here = record { at = λ l s. unfold listed farOut farAll farEntry far in refl }
 
   exact-say : (f : Said → Said) → Exact e e′ (say f) (say f)
@@ -267,7 +282,8 @@ module _ (e e′ : Env) (y : Like e e′) where
   exact-role contentLength w v = exact-say _
   exact-role clock w v = exact-seq e e′ exact-due (record { at = λ l s. ticks l s })
     where
-      ticks : (l : ℕ → ℕ) (s : State) → newClock w (clockAfter ((F l s) .clock) w v) (F l s) ≡ farOut e e′ l (newClock w (clockAfter (s .clock) w v) s)
+      ticks : (l : ℕ → ℕ) (s : State)
+          → newClock w (clockAfter ((F l s) .clock) w v) (F l s) ≡ farOut e e′ l (newClock w (clockAfter (s .clock) w v) s)
       ticks l s = exact-clock w (clockAfter (s .clock) w v) .at l s
   exact-role endClock w v = exact-say _
   exact-role discarded w v = exact-pass e e′
@@ -316,7 +332,8 @@ module _ (e e′ : Env) (y : Like e e′) where
       let u : e .start .0 + q ≡ (aligned e a s) .0 = omega arith in
       let k : q + n ≤ 8 * length (y .w) = omega (arith, y .covers) in
       ap (λ x. bits o (e′ .bytes) x n) (stand a l s)
-      ∙ bits-same (y .w) (e .bytes) (e′ .bytes) (y .post) (y .post′) (e .start .0) (e′ .start .0) (y .here) (y .there) (y .whole) (y .whole′) o q n k
+      ∙ bits-same (y .w) (e .bytes) (e′ .bytes) (y .post) (y .post′) (e .start .0) (e′ .start .0) (y .here) (y .there) (y .whole)
+      (y .whole′) o q n k
       ∙ ap (λ x. bits o (e .bytes) x n) u
 
   bytes-there : (n : ℕ) (l : ℕ → ℕ) (s : State) → (aligned e 8 s) .0 + 8 * n ≤ e .bound .0
@@ -338,7 +355,8 @@ module _ (e e′ : Env) (y : Like e e′) where
 
     body-exact : (v : ℕ) → Exact e e′ (body e v) (body e′ v)
     body-exact v =
-        exact-seq e e′ (exact-field e e′ (kindOf k) a n (valueOf k n v)) (exact-seq e e′ (exact-order (Was o)) (exact-seq e e′ (exact-store i (slotOf k n v)) (exact-role r n (valueOf k n v))))
+        exact-seq e e′ (exact-field e e′ (kindOf k) a n (valueOf k n v))
+        (exact-seq e e′ (exact-order (Was o)) (exact-seq e e′ (exact-store i (slotOf k n v)) (exact-role r n (valueOf k n v))))
 
     body-reach : (v : ℕ) (s : State) (fs : List Entry) (t : State) → body e′ v s ≡ go fs t → (aligned e′ a s) .0 + n ≤ t .place .0
     body-reach v s fs t q =
@@ -369,7 +387,8 @@ module _ (e e′ : Env) (y : Like e e′) where
       (drop ((e .bound .0 - (aligned e 8 s) .0) / 8) (drop ((aligned e′ 8 (F l s)) .0 / 8) (e′ .bytes)))
 
   -- what is ahead there: what is ahead here, and more
-  ahead-there : (l : ℕ → ℕ) (s : State) → (aligned e 8 s) .0 ≤ e .bound .0 → ahead e′ (aligned e′ 8 (F l s)) ≡ ahead e (aligned e 8 s) ++ more l s
+  ahead-there : (l : ℕ → ℕ) (s : State) → (aligned e 8 s) .0 ≤ e .bound .0
+      → ahead e′ (aligned e′ 8 (F l s)) ≡ ahead e (aligned e 8 s) ++ more l s
   unfolding ahead more
   ahead-there l s f =
       let p : ℕ = (aligned e 8 s) .0 in
@@ -385,7 +404,8 @@ module _ (e e′ : Env) (y : Like e e′) where
       ∙ ap (λ x. x ++ take (k′ - k) (drop k (drop (p′ / 8) (e′ .bytes)))) same
 
   -- and no more where the bounds are as far
-  no-more : (l : ℕ → ℕ) (s : State) → (aligned e 8 s) .0 ≤ e .bound .0 → e′ .bound .0 - e′ .start .0 ≤ e .bound .0 - e .start .0 → more l s ≡ []
+  no-more : (l : ℕ → ℕ) (s : State) → (aligned e 8 s) .0 ≤ e .bound .0 → e′ .bound .0 - e′ .start .0 ≤ e .bound .0 - e .start .0
+      → more l s ≡ []
   unfolding more
   no-more l s f h =
       let p : ℕ = (aligned e 8 s) .0 in
@@ -412,18 +432,21 @@ module _ (e e′ : Env) (y : Like e e′) where
   module _ (k : ℕ) (c : ℕ → Content) (i : ℕ) (r : Role) where
     leb-exact : (x : Leb) → Exact e e′ (readLeb e k c i r x) (readLeb e′ k c i r x)
     unfolding readLeb
-    leb-exact (Value v n) = exact-seq e e′ (exact-field e e′ k 8 (8 * n .0) v) (exact-seq e e′ (exact-store i (c v)) (exact-role r (7 * n .0) v))
+    leb-exact (Value v n) =
+        exact-seq e e′ (exact-field e e′ k 8 (8 * n .0) v) (exact-seq e e′ (exact-store i (c v)) (exact-role r (7 * n .0) v))
     leb-exact Past = exact-refuse e e′ PastBound
     leb-exact Large = exact-refuse e e′ LebTooLarge
 
     leb-reach : (x : Leb) (s : State) (fs : List Entry) (t : State) → readLeb e′ k c i r x s ≡ go fs t
         → (v : ℕ) × (n : ByteLength) × (x ≡ Value v n) × ((aligned e′ 8 s) .0 + 8 * n .0 ≤ t .place .0)
     unfolding readLeb
-    leb-reach (Value v n) s fs t q = (v, n, refl, reach-field e′ k 8 (8 * n .0) v _ (onward-seq (onward-store i (c v)) (onward-role r (7 * n .0) v)) s fs t q)
+    leb-reach (Value v n) s fs t q =
+        (v, n, refl, reach-field e′ k 8 (8 * n .0) v _ (onward-seq (onward-store i (c v)) (onward-role r (7 * n .0) v)) s fs t q)
     leb-reach Past s fs t q = unfold refuse in let z : _≡_ {A = ℕ} 0 1 = cc in absurd (omega arith)
     leb-reach Large s fs t q = unfold refuse in let z : _≡_ {A = ℕ} 0 1 = cc in absurd (omega arith)
 
-    leb-cut : (l : ℕ → ℕ) (s : State) (x x′ : Leb) → (aligned e 8 s) .0 ≤ e .bound .0 → e .bound .0 - e .start .0 < e′ .bound .0 - e′ .start .0
+    leb-cut : (l : ℕ → ℕ) (s : State) (x x′ : Leb) → (aligned e 8 s) .0 ≤ e .bound .0
+        → e .bound .0 - e .start .0 < e′ .bound .0 - e′ .start .0
         → x ≡ Past → ((v : ℕ) (n : ByteLength) → x′ ≡ Value v n → (e .bound .0 - (aligned e 8 s) .0) / 8 < n .0)
         → Cut e e′ (readLeb e k c i r x s) (readLeb e′ k c i r x′ (F l s))
     leb-cut l s x x′ f w p h = record {
@@ -443,33 +466,42 @@ module _ (e e′ : Env) (y : Like e e′) where
     }
 
     -- by the bytes ahead
-    rel-leb : (read : List ℕ → Leb) → ((xs ys : List ℕ) → (read (xs ++ ys) ≡ read xs) ⊎ ((read xs ≡ Past) × ((v : ℕ) (n : ByteLength) → read (xs ++ ys) ≡ Value v n → length xs < n .0)))
+    rel-leb : (read : List ℕ → Leb)
+        → ((xs ys : List ℕ) → (read (xs ++ ys) ≡ read xs)
+        ⊎ ((read xs ≡ Past) × ((v : ℕ) (n : ByteLength) → read (xs ++ ys) ≡ Value v n → length xs < n .0)))
         → (l : ℕ → ℕ) (s : State)
         → R l ((fit e 8 0 ⨾ λ u. readLeb e k c i r (read (ahead e (aligned e 8 u))) u) s)
         ((fit e′ 8 0 ⨾ λ u. readLeb e′ k c i r (read (ahead e′ (aligned e′ 8 u))) u) (F l s))
     rel-leb read longer l s = fits l 8 0 _ _ s (λ f. by (omega arith)) (λ f fs t q. reaches fs t q)
       where
-        reaches : (fs : List Entry) (t : State) → readLeb e′ k c i r (read (ahead e′ (aligned e′ 8 (F l s)))) (F l s) ≡ go fs t → (aligned e′ 8 (F l s)) .0 + 0 ≤ t .place .0
+        reaches : (fs : List Entry) (t : State) → readLeb e′ k c i r (read (ahead e′ (aligned e′ 8 (F l s)))) (F l s) ≡ go fs t
+            → (aligned e′ 8 (F l s)) .0 + 0 ≤ t .place .0
         reaches fs t q =
             let g = leb-reach (read (ahead e′ (aligned e′ 8 (F l s)))) (F l s) fs t q in
             let d : (aligned e′ 8 (F l s)) .0 + 8 * g .1 .0 ≤ t .place .0 = g .3 in
             omega arith
 
         same : read (ahead e′ (aligned e′ 8 (F l s))) ≡ read (ahead e (aligned e 8 s))
-            → R l (readLeb e k c i r (read (ahead e (aligned e 8 s))) s) (readLeb e′ k c i r (read (ahead e′ (aligned e′ 8 (F l s)))) (F l s))
+            → R l (readLeb e k c i r (read (ahead e (aligned e 8 s))) s)
+            (readLeb e′ k c i r (read (ahead e′ (aligned e′ 8 (F l s)))) (F l s))
         same p = inl (ap (λ x. readLeb e′ k c i r x (F l s)) p ∙ leb-exact (read (ahead e (aligned e 8 s))) .at l s)
 
         by : (aligned e 8 s) .0 ≤ e .bound .0
-            → R l (readLeb e k c i r (read (ahead e (aligned e 8 s))) s) (readLeb e′ k c i r (read (ahead e′ (aligned e′ 8 (F l s)))) (F l s))
+            → R l (readLeb e k c i r (read (ahead e (aligned e 8 s))) s)
+            (readLeb e′ k c i r (read (ahead e′ (aligned e′ 8 (F l s)))) (F l s))
         by f = ⊎-elim
             (λ (w : e .bound .0 - e .start .0 < e′ .bound .0 - e′ .start .0). further f w (longer (ahead e (aligned e 8 s)) (more l s)))
-            (λ (w : e′ .bound .0 - e′ .start .0 ≤ e .bound .0 - e .start .0). same (ap read (ahead-there l s f ∙ ap (λ z. ahead e (aligned e 8 s) ++ z) (no-more l s f w) ∙ append-nil _)))
+            (λ (w : e′ .bound .0 - e′ .start .0 ≤ e .bound .0 - e .start .0). same
+            (ap read (ahead-there l s f ∙ ap (λ z. ahead e (aligned e 8 s) ++ z) (no-more l s f w) ∙ append-nil _)))
             (lt-or-ge (e .bound .0 - e .start .0) (e′ .bound .0 - e′ .start .0))
           where
             further : (aligned e 8 s) .0 ≤ e .bound .0 → e .bound .0 - e .start .0 < e′ .bound .0 - e′ .start .0
                 → (read (ahead e (aligned e 8 s) ++ more l s) ≡ read (ahead e (aligned e 8 s)))
-                ⊎ ((read (ahead e (aligned e 8 s)) ≡ Past) × ((v : ℕ) (n : ByteLength) → read (ahead e (aligned e 8 s) ++ more l s) ≡ Value v n → length (ahead e (aligned e 8 s)) < n .0))
-                → R l (readLeb e k c i r (read (ahead e (aligned e 8 s))) s) (readLeb e′ k c i r (read (ahead e′ (aligned e′ 8 (F l s)))) (F l s))
+                ⊎ ((read (ahead e (aligned e 8 s)) ≡ Past)
+                × ((v : ℕ) (n : ByteLength) → read (ahead e (aligned e 8 s) ++ more l s) ≡ Value v n
+                → length (ahead e (aligned e 8 s)) < n .0))
+                → R l (readLeb e k c i r (read (ahead e (aligned e 8 s))) s)
+                (readLeb e′ k c i r (read (ahead e′ (aligned e′ 8 (F l s)))) (F l s))
             further f w (inl p) = same (ap read (ahead-there l s f) ∙ p)
             further f w (inr p) = inr (leb-cut l s _ _ f w (p .0) (λ v n q.
                 let u : length (ahead e (aligned e 8 s)) < n .0 = p .1 v n (sym (ap read (ahead-there l s f)) ∙ q) in
@@ -481,7 +513,8 @@ module _ (e e′ : Env) (y : Like e e′) where
   zero-exact (After n) = exact-field e e′ 23 8 (8 * (n .0 + 1)) (n .0)
   zero-exact Never = exact-refuse e e′ NoZeroByte
 
-  reach-only : (x : Env) (k a n v : ℕ) (s : State) (fs : List Entry) (t : State) → field x k a n v s ≡ go fs t → (aligned x a s) .0 + n ≤ t .place .0
+  reach-only : (x : Env) (k a n v : ℕ) (s : State) (fs : List Entry) (t : State) → field x k a n v s ≡ go fs t
+      → (aligned x a s) .0 + n ≤ t .place .0
   unfolding field listed
   reach-only x k a n v s fs t q =
       let at : ℕ = (aligned x a s) .0 + n in
@@ -498,7 +531,8 @@ module _ (e e′ : Env) (y : Like e e′) where
       ((fit e′ 8 0 ⨾ λ u. readZero e′ (zeroAt (ahead e′ (aligned e′ 8 u))) u) (F l s))
   rel-zero l s = fits l 8 0 _ _ s (λ f. by (omega arith)) (λ f fs t q. reaches fs t q)
     where
-      reaches : (fs : List Entry) (t : State) → readZero e′ (zeroAt (ahead e′ (aligned e′ 8 (F l s)))) (F l s) ≡ go fs t → (aligned e′ 8 (F l s)) .0 + 0 ≤ t .place .0
+      reaches : (fs : List Entry) (t : State) → readZero e′ (zeroAt (ahead e′ (aligned e′ 8 (F l s)))) (F l s) ≡ go fs t
+          → (aligned e′ 8 (F l s)) .0 + 0 ≤ t .place .0
       reaches fs t q =
           let g = zero-reach (zeroAt (ahead e′ (aligned e′ 8 (F l s)))) (F l s) fs t q in
           let d : (aligned e′ 8 (F l s)) .0 + 8 * (g .0 .0 + 1) ≤ t .place .0 = g .2 in
@@ -529,7 +563,8 @@ module _ (e e′ : Env) (y : Like e e′) where
 
       further : (aligned e 8 s) .0 ≤ e .bound .0 → e .bound .0 - e .start .0 < e′ .bound .0 - e′ .start .0
           → (zeroAt (ahead e (aligned e 8 s) ++ more l s) ≡ zeroAt (ahead e (aligned e 8 s)))
-          ⊎ ((zeroAt (ahead e (aligned e 8 s)) ≡ Never) × ((n : ByteLength) → zeroAt (ahead e (aligned e 8 s) ++ more l s) ≡ After n → length (ahead e (aligned e 8 s)) ≤ n .0))
+          ⊎ ((zeroAt (ahead e (aligned e 8 s)) ≡ Never)
+          × ((n : ByteLength) → zeroAt (ahead e (aligned e 8 s) ++ more l s) ≡ After n → length (ahead e (aligned e 8 s)) ≤ n .0))
           → R l (readZero e (zeroAt (ahead e (aligned e 8 s))) s) (readZero e′ (zeroAt (ahead e′ (aligned e′ 8 (F l s)))) (F l s))
       further f w (inl p) = same (ap zeroAt (ahead-there l s f) ∙ p)
       further f w (inr p) = inr (cut f w _ _ (p .0) (λ n q.
@@ -540,7 +575,8 @@ module _ (e e′ : Env) (y : Like e e′) where
           → R l (readZero e (zeroAt (ahead e (aligned e 8 s))) s) (readZero e′ (zeroAt (ahead e′ (aligned e′ 8 (F l s)))) (F l s))
       by f = ⊎-elim
           (λ (w : e .bound .0 - e .start .0 < e′ .bound .0 - e′ .start .0). further f w (zero-more (ahead e (aligned e 8 s)) (more l s)))
-          (λ (w : e′ .bound .0 - e′ .start .0 ≤ e .bound .0 - e .start .0). same (ap zeroAt (ahead-there l s f ∙ ap (λ z. ahead e (aligned e 8 s) ++ z) (no-more l s f w) ∙ append-nil _)))
+          (λ (w : e′ .bound .0 - e′ .start .0 ≤ e .bound .0 - e .start .0). same
+          (ap zeroAt (ahead-there l s f ∙ ap (λ z. ahead e (aligned e 8 s) ++ z) (no-more l s f w) ∙ append-nil _)))
           (lt-or-ge (e .bound .0 - e .start .0) (e′ .bound .0 - e′ .start .0))
 
   -- kinds 24 to 27
@@ -582,11 +618,13 @@ module _ (e e′ : Env) (y : Like e e′) where
   rel-blob k n r l s =
       fits l 8 0 _ _ s
       (λ f. fits l 8 (8 * n) (λ u. put e (of e u) u) (λ u. put e′ (of e′ u) u) s
-      (λ g. inl (ap (λ b. put e′ b (F l s)) (bytes-there n l s g) ∙ exact-seq e e′ (exact-field e e′ k 8 (8 * n) n) (exact-blob r (of e s)) .at l s))
+      (λ g. inl (ap (λ b. put e′ b (F l s)) (bytes-there n l s g)
+      ∙ exact-seq e e′ (exact-field e e′ k 8 (8 * n) n) (exact-blob r (of e s)) .at l s))
       (λ g fs t q. reach-field e′ k 8 (8 * n) n _ (onward-blob e′ r (of e′ (F l s))) (F l s) fs t q))
       (λ f fs t q.
       let q₂ = through-fit e′ 8 (8 * n) (λ u. put e′ (of e′ u) u) (F l s) fs t q in
-      let z : (aligned e′ 8 (F l s)) .0 + 8 * n ≤ t .place .0 = reach-field e′ k 8 (8 * n) n _ (onward-blob e′ r (of e′ (F l s))) (F l s) fs t q₂ in
+      let z : (aligned e′ 8 (F l s)) .0 + 8 * n ≤ t .place .0 =
+      reach-field e′ k 8 (8 * n) n _ (onward-blob e′ r (of e′ (F l s))) (F l s) fs t q₂ in
       omega arith)
     where
       of : Env → State → List ℕ
@@ -596,7 +634,8 @@ module _ (e e′ : Env) (y : Like e e′) where
       put x b = field x k 8 (8 * n) n ⨾ blobRole x r b
 
   -- kinds 28 to 32: the entry, and what is inside
-  held-field : (x : Env) (q k a v : ℕ) (s : State) → x .start .0 ≤ (aligned x a s) .0 → (aligned x a s) .0 + 0 ≤ x .bound .0 → q ≤ (aligned x a s) .0
+  held-field : (x : Env) (q k a v : ℕ) (s : State) → x .start .0 ≤ (aligned x a s) .0 → (aligned x a s) .0 + 0 ≤ x .bound .0
+      → q ≤ (aligned x a s) .0
       → Ok (In x) (At x) (NoMore x) (Held x (λ p d. q ≤ p)) (field x k a 0 v s)
   unfolding field listed
   held-field x q k a v s f t h = ((omega arith, tt), record { from = omega arith; to = t; kept = omega arith })
@@ -612,21 +651,25 @@ module _ (e e′ : Env) (y : Like e e′) where
       rel-after l (field e k a 0 v s) (field e′ k a 0 v (F l s)) m m′ (inl (exact-field e e′ k a 0 v .at l s))
       (held-field e 0 k a v s g f (omega arith)) (held-field e′ 0 k a v (F l s) g′ f′ (omega arith)) h
 
-  reach-inside : (k a v : ℕ) (m′ : Step) → ((q : ℕ) → Holding e′ (λ p d. q ≤ p) m′) → (s : State) → e′ .start .0 ≤ (aligned e′ a s) .0 → (aligned e′ a s) .0 + 0 ≤ e′ .bound .0
+  reach-inside : (k a v : ℕ) (m′ : Step) → ((q : ℕ) → Holding e′ (λ p d. q ≤ p) m′) → (s : State) → e′ .start .0 ≤ (aligned e′ a s) .0
+      → (aligned e′ a s) .0 + 0 ≤ e′ .bound .0
       → (fs : List Entry) (t : State) → (field e′ k a 0 v ⨾ m′) s ≡ go fs t → (aligned e′ a s) .0 + 0 ≤ t .place .0
   unfolding _⨾_
   reach-inside k a v m′ h s g f fs t q =
       let at : ℕ = (aligned e′ a s) .0 in
       let ok : Ok (In e′) (At e′) (NoMore e′) (Held e′ (λ p d. at ≤ p)) (after (field e′ k a 0 v s) m′) =
-      ok-after (In e′) (At e′) (NoMore e′) (Held e′ (λ p d. at ≤ p)) (Held e′ (λ p d. at ≤ p)) (field e′ k a 0 v s) m′ (held-field e′ at k a v s g f (le-refl at)) (h at) in
+      ok-after (In e′) (At e′) (NoMore e′) (Held e′ (λ p d. at ≤ p)) (Held e′ (λ p d. at ≤ p)) (field e′ k a 0 v s) m′
+      (held-field e′ at k a v s g f (le-refl at)) (h at) in
       let x = subst (Ok (In e′) (At e′) (NoMore e′) (Held e′ (λ p d. at ≤ p))) q ok in
       let u : at ≤ t .place .0 = x .1 .kept in
       omega arith
 
-  rel-head : (l : ℕ → ℕ) (k a v : ℕ) (m m′ : Step) → Pair l m m′ → (s : State) → R l ((fit e a 0 ⨾ field e k a 0 v ⨾ m) s) ((fit e′ a 0 ⨾ field e′ k a 0 v ⨾ m′) (F l s))
+  rel-head : (l : ℕ → ℕ) (k a v : ℕ) (m m′ : Step) → Pair l m m′ → (s : State)
+      → R l ((fit e a 0 ⨾ field e k a 0 v ⨾ m) s) ((fit e′ a 0 ⨾ field e′ k a 0 v ⨾ m′) (F l s))
   rel-head l k a v m m′ h s =
       fits l a 0 _ _ s (λ f. rel-inside l k a v m m′ h s f)
-      (λ f fs t q. let g′ : e′ .start .0 ≤ (aligned e′ a (F l s)) .0 = start-aligned e′ e a (F l s) in reach-inside k a v m′ (h .held′) (F l s) g′ f fs t q)
+      (λ f fs t q. let g′ : e′ .start .0 ≤ (aligned e′ a (F l s)) .0 = start-aligned e′ e a (F l s) in
+      reach-inside k a v m′ (h .held′) (F l s) g′ f fs t q)
 
   at-place : (s : State) → Between e (s .place .0) → (aligned e 1 s) .0 + 0 ≤ e .bound .0
   unfolding aligned
@@ -643,16 +686,32 @@ module _ (e e′ : Env) (y : Like e e′) where
       by s b = unfold _⨾_ in
           let c : Between e′ ((F l s) .place .0) = there-between l s b in
           rel-after l (m s) (m′ (F l s)) n n′ (h .rel s b)
-          (h .held 0 .at s (record { from = b .0; to = b .1; kept = omega arith })) (h .held′ 0 .at (F l s) (record { from = c .0; to = c .1; kept = omega arith })) k
+          (h .held 0 .at s (record { from = b .0; to = b .1; kept = omega arith }))
+          (h .held′ 0 .at (F l s) (record { from = c .0; to = c .1; kept = omega arith })) k
 
   pub pairs : (l : ℕ → ℕ) → Law2 e e′ (Pair l)
   pairs l = record {
     seq = λ h k. seq-pair l h k;
-    dues = λ {m} {m′} h. record { rel = λ s b. rel-due e e′ l m m′ s (h .rel s b); held = λ q. from e q .dueʳ (h .held q); held′ = λ q. from e′ q .dueʳ (h .held′ q) };
+    dues = λ {m} {m′} h. record {
+      rel = λ s b. rel-due e e′ l m m′ s (h .rel s b);
+      held = λ q. from e q .dueʳ (h .held q);
+      held′ =
+          λ q. from e′ q .dueʳ (h .held′ q);
+    };
     passes = record { rel = λ s b. inl (exact-pass e e′ .at l s); held = λ q. from e q .passes; held′ = λ q. from e′ q .passes };
     unset = record { rel = λ s b. inl (exact-refuse e e′ SlotUnset .at l s); held = λ q. from e q .unset; held′ = λ q. from e′ q .unset };
-    wrongSort = record { rel = λ s b. inl (exact-refuse e e′ SlotOfWrongSort .at l s); held = λ q. from e q .wrongSort; held′ = λ q. from e′ q .wrongSort };
-    inNone = record { rel = λ s b. inl (exact-refuse e e′ SelectorInNoOption .at l s); held = λ q. from e q .inNone; held′ = λ q. from e′ q .inNone };
+    wrongSort = record {
+      rel = λ s b. inl (exact-refuse e e′ SlotOfWrongSort .at l s);
+      held = λ q. from e q .wrongSort;
+      held′ =
+          λ q. from e′ q .wrongSort;
+    };
+    inNone = record {
+      rel = λ s b. inl (exact-refuse e e′ SelectorInNoOption .at l s);
+      held = λ q. from e q .inNone;
+      held′ =
+          λ q. from e′ q .inNone;
+    };
     within = λ n {m} {m′} h. record {
       rel = λ s b. rel-check e e′ l _ _ LengthTooLarge m m′ s refl (h .rel s b);
       held = λ q. from e q .within n (h .held q);
@@ -663,12 +722,28 @@ module _ (e e′ : Env) (y : Like e e′) where
       held = λ q. from e q .slot i f (λ x p. h x .held q);
       held′ = λ q. from e′ q .slot i f′ (λ x p. h x .held′ q);
     };
-    fixes = λ k n o a i r. record { rel = λ s b. rel-fixed k n o (2 ^ a) i r l s; held = λ q. from e q .fixes k n o a i r tt tt; held′ = λ q. from e′ q .fixes k n o a i r tt tt };
-    lebs = λ i r. record { rel = λ s b. rel-leb 21 Unsigned i r lebUnsigned leb-more l s; held = λ q. from e q .lebs i r tt; held′ = λ q. from e′ q .lebs i r tt };
-    signedLebs = λ i. record { rel = λ s b. rel-leb 22 Signed i noRole lebSigned leb-signed-more l s; held = λ q. from e q .signedLebs i tt; held′ = λ q. from e′ q .signedLebs i tt };
+    fixes = λ k n o a i r. record {
+      rel = λ s b. rel-fixed k n o (2 ^ a) i r l s;
+      held = λ q. from e q .fixes k n o a i r tt tt;
+      held′ =
+          λ q. from e′ q .fixes k n o a i r tt tt;
+    };
+    lebs = λ i r. record {
+      rel = λ s b. rel-leb 21 Unsigned i r lebUnsigned leb-more l s;
+      held = λ q. from e q .lebs i r tt;
+      held′ =
+          λ q. from e′ q .lebs i r tt;
+    };
+    signedLebs = λ i. record {
+      rel = λ s b. rel-leb 22 Signed i noRole lebSigned leb-signed-more l s;
+      held = λ q. from e q .signedLebs i tt;
+      held′ =
+          λ q. from e′ q .signedLebs i tt;
+    };
     zeros = record { rel = λ s b. rel-zero l s; held = λ q. from e q .zeros; held′ = λ q. from e′ q .zeros };
     texts = λ k n g. record { rel = λ s b. rel-text k n l s; held = λ q. from e q .texts k n g; held′ = λ q. from e′ q .texts k n g };
-    blobs = λ k n r g. record { rel = λ s b. rel-blob k n r l s; held = λ q. from e q .blobs k n r g; held′ = λ q. from e′ q .blobs k n r g };
+    blobs = λ k n r g. record
+        { rel = λ s b. rel-blob k n r l s; held = λ q. from e q .blobs k n r g; held′ = λ q. from e′ q .blobs k n r g };
     heads = λ k a v g d {m} {m′} h. record {
       rel = λ s b. rel-head l k a v m m′ h s;
       held = λ q. from e q .heads k a v g d tt (h .held q);
@@ -679,10 +754,12 @@ module _ (e e′ : Env) (y : Like e e′) where
       held = λ q. from e q .tags k v g tt (h .held q);
       held′ = λ q. from e′ q .tags k v g tt (h .held′ q);
     };
-    tag = λ k v g. record { rel = λ s b. inl (exact-field e e′ k 1 0 v .at l s); held = λ q. from e q .tag k v g tt; held′ = λ q. from e′ q .tag k v g tt };
+    tag = λ k v g. record
+        { rel = λ s b. inl (exact-field e e′ k 1 0 v .at l s); held = λ q. from e q .tag k v g tt; held′ = λ q. from e′ q .tag k v g tt };
   }
     where
-      rel-slot : (i : ℕ) (f f′ : Content → Step) (l : ℕ → ℕ) (s : State) → R l (f (slotAt (s .slots) i) s) (f′ (slotAt (s .slots) i) (F l s)) → R l (fromSlot i f s) (fromSlot i f′ (F l s))
+      rel-slot : (i : ℕ) (f f′ : Content → Step) (l : ℕ → ℕ) (s : State)
+          → R l (f (slotAt (s .slots) i) s) (f′ (slotAt (s .slots) i) (F l s)) → R l (fromSlot i f s) (fromSlot i f′ (F l s))
       rel-slot i f f′ l s h = unfold fromSlot far in h
 
   -- a root's reading over bytes that agree

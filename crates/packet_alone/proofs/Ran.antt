@@ -1,4 +1,5 @@
--- A packet that goes through, part by part: header, class, context, lengths and events, with the state behind each. It is taken apart and put
+-- A packet that goes through, part by part: header, class, context, lengths and events, with the state behind each. It is taken apart and
+-- put
 -- together once, so that whatever else is said of such a packet is said of its parts.
 use mathlib.Core.Path.{_≡_, refl, sym, ap, _∙_, subst}
 use Prim.Native.Nat.{ℕ, _+_, _-_, _*_, _≤_}
@@ -19,11 +20,13 @@ use Rattle.rules.specs.Table.{StreamClass, Asked}
 use Rattle.rules.specs.Packet.{mark, readRoot, above, readContent, withStream, differs, startPacket, readPacket}
 use Rattle.packet_alone.specs.Behind.{toEnd, less, totalOf, contentOf, contradict, eventsOf, contentStep, ofClass, ofStream, packet}
 use Rattle.packet_alone.proofs.Pair.{through}
-use Rattle.packet_alone.proofs.Through.{Split, split, join, passed, pass-check, do-change, has-room, past-due, pass-due, marked, pass-mark}
+use Rattle.packet_alone.proofs.Through.{Split, split, join, passed, pass-check, do-change, has-room, past-due, pass-due, marked}
+use Rattle.packet_alone.proofs.Through.{pass-mark}
 use Rattle.packet_alone.proofs.Beside.{packet-is}
 
 -- behind the context: lengths, entry 3 and the events
-pub record RanContent (t : Asked) (c : StreamClass) (b : List ℕ) (p : BitPlace) (total content : ℕ) (s : State) (es : List Entry) (u : State) : Type 0 where
+pub record RanContent (t : Asked) (c : StreamClass) (b : List ℕ) (p : BitPlace) (total content : ℕ) (s : State) (es : List Entry)
+    (u : State) : Type 0 where
   pub room : ltb (s .room) wordsPerEntry ≡ false
   pub lengths : contradict b p total content s ≡ false
   pub clocks : above (s .clock) (s .said .ending) ≡ false
@@ -53,7 +56,8 @@ pub record Ran (t : Asked) (b : List ℕ) (p : BitPlace) (rest : ℕ) (i : State
 module _ (t : Asked) (b : List ℕ) (p : BitPlace) where
   module _ (c : StreamClass) (total content : ℕ) where
     abbrev clocked : Step
-    clocked = check (λ s. above (s .clock) (s .said .ending)) ClocksContradict ⨾ mark lengthsSettled total content ⨾ eventsOf t c b p total content
+    clocked = check (λ s. above (s .clock) (s .said .ending)) ClocksContradict ⨾ mark lengthsSettled total content
+        ⨾ eventsOf t c b p total content
 
     abbrev measured : Step
     measured = check (contradict b p total content) LengthsContradict ⨾ clocked
@@ -64,7 +68,8 @@ module _ (t : Asked) (b : List ℕ) (p : BitPlace) where
     abbrev ends : State → Bool
     ends s = above (s .clock) (s .said .ending)
 
-    pub ran-content : (s : State) (es : List Entry) (u : State) → readContent t c b p total content s ≡ go es u → RanContent t c b p total content s es u
+    pub ran-content : (s : State) (es : List Entry) (u : State) → readContent t c b p total content s ≡ go es u
+        → RanContent t c b p total content s es u
     unfolding readContent
     ran-content s es u q =
         let q₁ : measured s ≡ go es u = past-due measured s es u q in
@@ -80,7 +85,8 @@ module _ (t : Asked) (b : List ℕ) (p : BitPlace) where
           list = m .2;
         }
 
-    pub run-content : (s : State) (es : List Entry) (u : State) → RanContent t c b p total content s es u → readContent t c b p total content s ≡ go es u
+    pub run-content : (s : State) (es : List Entry) (u : State) → RanContent t c b p total content s es u
+        → readContent t c b p total content s ≡ go es u
     unfolding readContent
     run-content s es u r =
         pass-due measured s (r .room)
@@ -142,7 +148,8 @@ module _ (t : Asked) (b : List ℕ) (p : BitPlace) where
               context = k .goes;
               es₃ = k .second;
               content = ran-content c (totalOf rest (k .middle)) (contentOf rest (k .middle)) (k .middle) (k .second) u (k .goes-on);
-              list = h .list ∙ ap (λ l. h .first ++ l) (m .2 ∙ ap (λ l. entry streamClassFound (s₁ .place) 0 (s₁ .said .stream) ∷ l) (k .list));
+              list = h .list ∙ ap (λ l. h .first ++ l) (m .2
+                  ∙ ap (λ l. entry streamClassFound (s₁ .place) 0 (s₁ .said .stream) ∷ l) (k .list));
             }
 
     pub run : (s : State) (es : List Entry) (u : State) → Ran t b p rest i s es u → packet t b p rest i s ≡ go es u
@@ -155,7 +162,8 @@ module _ (t : Asked) (b : List ℕ) (p : BitPlace) where
         found = ap (λ o. withStream (r .s₁ .said .stream) o (ofClass t b p rest (r .s₁ .said .stream)) (r .s₁)) (r .found)
 
         inside : behind (r .c) (less (r .s₁)) ≡ go (r .es₂ ++ r .es₃) u
-        inside = join (readRoot (toEnd t b p) (r .c .context)) (contentStep t b p rest (r .c)) (less (r .s₁)) (r .es₂) (r .s₂) (r .es₃) u (r .context)
+        inside = join (readRoot (toEnd t b p) (r .c .context)) (contentStep t b p rest (r .c)) (less (r .s₁)) (r .es₂) (r .s₂) (r .es₃) u
+            (r .context)
             (run-content (r .c) (totalOf rest (r .s₂)) (contentOf rest (r .s₂)) (r .s₂) (r .es₃) u (r .content))
 
         whole : withStream (r .s₁ .said .stream) (some (r .c)) (ofClass t b p rest (r .s₁ .said .stream)) (r .s₁)
@@ -163,7 +171,8 @@ module _ (t : Asked) (b : List ℕ) (p : BitPlace) where
         whole = unfold withStream in pass-mark streamClassFound 0 (r .s₁ .said .stream) (behind (r .c)) (r .s₁) _ u inside
 
         later : compared (r .s₁) ≡ go (entry streamClassFound (r .s₁ .place) 0 (r .s₁ .said .stream) ∷ (r .es₂ ++ r .es₃)) u
-        later = pass-check differing StreamClassChanged (due ⨾ streamed) (r .s₁) (r .same) ∙ pass-due streamed (r .s₁) (r .room) ∙ found ∙ whole
+        later = pass-check differing StreamClassChanged (due ⨾ streamed) (r .s₁) (r .same) ∙ pass-due streamed (r .s₁) (r .room) ∙ found
+            ∙ whole
 
 -- entry 1 and what is behind it
 pub record RanWhole (t : Asked) (b : List ℕ) (k : ℕ) (i : Stated) (s : State) (es : List Entry) (u : State) : Type 0 where
@@ -184,5 +193,6 @@ module _ (t : Asked) (b : List ℕ) (k : ℕ) (i : Stated) (s : State) (es : Lis
 
   pub run-whole : RanWhole t b k i s es u → readPacket t b k i s ≡ go es u
   run-whole r =
-      packet-is t b k i s ∙ pass-due (mark packetStarts 0 k ⨾ rests) s (r .room) ∙ pass-mark packetStarts 0 k rests s (r .others) u (r .behind)
+      packet-is t b k i s ∙ pass-due (mark packetStarts 0 k ⨾ rests) s (r .room)
+      ∙ pass-mark packetStarts 0 k rests s (r .others) u (r .behind)
       ∙ ap (λ l. go l u) (sym (r .list))

@@ -1,4 +1,5 @@
--- An accepted table has the role of the stream class id in packet headers alone (12 refuses others), so that no field behind a header changes
+-- An accepted table has the role of the stream class id in packet headers alone (12 refuses others), so that no field behind a header
+-- changes
 -- the stream class id that the header said. In order: roles of a class; what an accepted table's classes are, along the parse; readings.
 use mathlib.Core.Path.{_≡_, refl, sym, ap, _∙_, subst}
 use Prim.Native.Nat.{ℕ, zero, suc, _+_, _*_, _^_, _≤_}
@@ -20,7 +21,8 @@ use Rattle.rules.specs.declared.Ended.{Ended}
 use Rattle.rules.specs.declared.Ended.the-variants.{After, Never}
 use Rattle.rules.specs.declared.Entry.{Entry}
 use Rattle.rules.specs.declared.Refusal.{Refusal}
-use Rattle.rules.specs.declared.Refusal.the-variants.{PastBound, OrderChanged, LebTooLarge, NoZeroByte, SlotUnset, SlotOfWrongSort, LengthTooLarge, SelectorInNoOption, WrongMagic, WrongUuid, ClockTooLarge}
+use Rattle.rules.specs.declared.Refusal.the-variants.{PastBound, OrderChanged, LebTooLarge, NoZeroByte, SlotUnset, SlotOfWrongSort}
+use Rattle.rules.specs.declared.Refusal.the-variants.{LengthTooLarge, SelectorInNoOption, WrongMagic, WrongUuid, ClockTooLarge}
 use Rattle.rules.specs.declared.Stop.{Stop}
 use Rattle.rules.specs.Verdict.{stopAt}
 use Rattle.rules.specs.Bits.{bits}
@@ -30,15 +32,25 @@ use Rattle.rules.specs.Clock.{clockAfter}
 use Rattle.rules.specs.Slots.{slotAt}
 use Rattle.rules.specs.Entry.{entry, clockAdvanced}
 use Rattle.rules.specs.Step.{State, go, Step, _⨾_, refuse, check, due, listed, change, pass, withSlots, withOrder, withClock, withSaid}
-use Rattle.rules.specs.Class.{Role, noRole, magic, streamClassId, streamId, uuid, totalLength, contentLength, clock, endClock, discarded, sequence, eventClassId}
-use Rattle.rules.specs.Class.{Sort, kindOf, Sign, plain, signed as withSign, anyHolds, alignOf, Range, Class, fixed, leb128, signedLeb128, string, staticString, staticBlob, dynamicString, dynamicBlob}
-use Rattle.rules.specs.Class.{structure, staticArray, dynamicArray, flagged, optional, variant, Classes, noMember, member, Options, noOption, option as anOption, count}
-use Rattle.rules.specs.Field.{Env, aligned, fit, field, store, newClock, say, role, blobRole as roleOfBytes, fromSlot, asFlag, asNumber, asLength, valueOf, slotOf, ahead, bytesAt, turned, readFixed, readLeb, readZero, readText, readBlob, times, present, read, readMembers, readOption}
+use Rattle.rules.specs.Class.{Role, noRole, magic, streamClassId, streamId, uuid, totalLength, contentLength, clock, endClock, discarded}
+use Rattle.rules.specs.Class.{sequence, eventClassId}
+use Rattle.rules.specs.Class.{Sort, kindOf, Sign, plain, signed as withSign, anyHolds, alignOf, Range, Class, fixed, leb128, signedLeb128}
+use Rattle.rules.specs.Class.{string, staticString, staticBlob, dynamicString, dynamicBlob}
+use Rattle.rules.specs.Class.{structure, staticArray, dynamicArray, flagged, optional, variant, Classes, noMember, member, Options}
+use Rattle.rules.specs.Class.{noOption, option as anOption, count}
+use Rattle.rules.specs.Field.{Env, aligned, fit, field, store, newClock, say, role, blobRole as roleOfBytes, fromSlot, asFlag, asNumber}
+use Rattle.rules.specs.Field.{asLength, valueOf, slotOf, ahead, bytesAt, turned, readFixed, readLeb, readZero, readText, readBlob, times}
+use Rattle.rules.specs.Field.{present, read, readMembers, readOption}
 use Rattle.rules.specs.Packet.{readRoot}
-use Rattle.rules.specs.Record.{Shape, bitField, lebField, signedLebField, zeroString, text, blob, textOf, blobOf, members, elements, elementsOf, option?, options, Says, Fragment, preamble, traceClass, clockClass, streamClass, eventClass, Record, unknown, fragment, root, class, range, option, recordOf, behind, size}
+use Rattle.rules.specs.Record.{Shape, bitField, lebField, signedLebField, zeroString, text, blob, textOf, blobOf, members, elements}
+use Rattle.rules.specs.Record.{elementsOf, option?, options, Says, Fragment, preamble, traceClass, clockClass, streamClass, eventClass}
+use Rattle.rules.specs.Record.{Record, unknown, fragment, root, class, range, option, recordOf, behind, size}
 use Rattle.rules.specs.Table.{StreamClass, EventClass, Table, asked, findStream, findEvent, Asked}
-use Rattle.rules.specs.Parse.{Parsed, bad, good, Parser, then, sound, missing, one, Ranges, rangeOf, countOf, parseRanges, parseMembers, parseOptions, selected, parseShape, parseBody, parseClass, isRoot, anyRoot, parseRoots, noTable, rootOf, rootNumbers, isTimed, hasUuid, add, parseFragment, parseOpened, parseFragments, parse}
-use Rattle.rules.specs.Faults.{pick, Seen, recordFault, Spot, top, inside, memberSpot, Under, roleOf, roles, numberRole, blobRole, badRole, badSlot, badNumber, classFault, isTop, optionFault, rootFault, openFault, seen, firstFault, noneSeen}
+use Rattle.rules.specs.Parse.{Parsed, bad, good, Parser, then, sound, missing, one, Ranges, rangeOf, countOf, parseRanges, parseMembers}
+use Rattle.rules.specs.Parse.{parseOptions, selected, parseShape, parseBody, parseClass, isRoot, anyRoot, parseRoots, noTable, rootOf}
+use Rattle.rules.specs.Parse.{rootNumbers, isTimed, hasUuid, add, parseFragment, parseOpened, parseFragments, parse}
+use Rattle.rules.specs.Faults.{pick, Seen, recordFault, Spot, top, inside, memberSpot, Under, roleOf, roles, numberRole, blobRole, badRole}
+use Rattle.rules.specs.Faults.{badSlot, badNumber, classFault, isTop, optionFault, rootFault, openFault, seen, firstFault, noneSeen}
 use Rattle.facts.proofs.Faults.{pick-zero, pick-false}
 use Rattle.laws.proofs.Sound.{no-fault}
 use Rattle.laws.proofs.Triple.{Ok, Triple, then as thenᵗ, passing, changing, refusing, checks, untested, dued}
@@ -104,7 +116,8 @@ role-in : (u : Under) (z : Spot) (y : Says) → badRole u z y ≡ false → 1 �
 unfolding badRole
 role-in u z y h g = by (eqb (y .kind) 25) h
   where
-    bytes : (a b : Bool) → eqb (y .role) 0 ≡ a → eqb (y .role) 4 && eqb (u .root) 0 && eqb (y .count) 16 && u .uuid ≡ b → not (a || b) ≡ false → Other (roleOf (y .role))
+    bytes : (a b : Bool) → eqb (y .role) 0 ≡ a → eqb (y .role) 4 && eqb (u .root) 0 && eqb (y .count) 16 && u .uuid ≡ b
+        → not (a || b) ≡ false → Other (roleOf (y .role))
     bytes true b p q n = not-id (y .role) (eqb-true _ _ p)
     bytes false true p q n = not-id-4 (y .role) (eqb-true _ _ (and-first _ _ (and-first _ _ (and-first _ _ q))))
     bytes false false p q n = let w : _≡_ {A = ℕ} 0 1 = cc in absurd (omega arith)
@@ -117,7 +130,8 @@ role-in u z y h g = by (eqb (y .kind) 25) h
         zero-root false p n = let k : not (eqb (u .root) 0) ≡ false = unfold numberRole in n in
             let w : _≡_ {A = ℕ} 0 1 = cc in omega arith
 
-    by : (b : Bool) → elim b [ true ↦ not (blobRole u y) | false ↦ not (numberRole (roleOf (y .role)) u z y) ] ≡ false → Other (roleOf (y .role))
+    by : (b : Bool) → elim b [ true ↦ not (blobRole u y) | false ↦ not (numberRole (roleOf (y .role)) u z y) ] ≡ false
+        → Other (roleOf (y .role))
     by true n = bytes (eqb (y .role) 0) _ refl refl (unfold blobRole in n)
     by false n = number n
 
@@ -132,7 +146,8 @@ abbrev Yields : {A : Type 0} → (A → Type 0) → Parsed A → Type 0
 Yields P (bad n x) = Unit {0}
 Yields P (good a x) = P a
 
-yields-then : {A B : Type 0} (P : A → Type 0) (Q : B → Type 0) (o : Parsed A) (F : A → Parser B) → Yields P o → ((a : A) (x : List ℕ) → P a → Yields Q (F a x)) → Yields Q (then o F)
+yields-then : {A B : Type 0} (P : A → Type 0) (Q : B → Type 0) (o : Parsed A) (F : A → Parser B) → Yields P o
+    → ((a : A) (x : List ℕ) → P a → Yields Q (F a x)) → Yields Q (then o F)
 unfolding then
 yields-then P Q (bad n x) F h k = tt
 yields-then P Q (good a x) F h k = k a x h
@@ -142,7 +157,8 @@ yields-one : {A : Type 0} (Q : A → Type 0) (q : Seen) (more : Record → ℕ) 
 unfolding one
 yields-one Q q more f x h = by (pick (missing x) 3 (recordFault (ltb (length x) (size x)) q (recordOf x) (more (recordOf x)))) refl
   where
-    by : (v : ℕ) → pick (missing x) 3 (recordFault (ltb (length x) (size x)) q (recordOf x) (more (recordOf x))) ≡ v → Yields Q (sound v x (f (recordOf x)))
+    by : (v : ℕ) → pick (missing x) 3 (recordFault (ltb (length x) (size x)) q (recordOf x) (more (recordOf x))) ≡ v
+        → Yields Q (sound v x (f (recordOf x)))
     by zero e = unfold sound in h (recordOf x) (no-fault (missing x) (ltb (length x) (size x)) q (recordOf x) (more (recordOf x)) e .later)
     by (suc v) e = unfold sound in tt
 
@@ -166,9 +182,11 @@ module _ (f : Spot → Parser Class) (h : (z : Spot) (x : List ℕ) → Yields O
   yields-options q zero p x = tt
   yields-options q (suc n) p x =
       yields-one _ q optionFault _ x (λ r e.
-      yields-then Whatever _ (parseRanges q (p .1) (countOf r) (p .0) (behind x)) _ (yields-any (parseRanges q (p .1) (countOf r) (p .0) (behind x))) (λ rs y u.
+      yields-then Whatever _ (parseRanges q (p .1) (countOf r) (p .0) (behind x)) _
+      (yields-any (parseRanges q (p .1) (countOf r) (p .0) (behind x))) (λ rs y u.
       yields-then Others _ (f inside y) _ (h inside y) (λ d y′ fd.
-      yields-then (λ os. OtherOptions (os .1)) _ (parseOptions q f n (rs .0, p .1 ++ rs .1) y′) _ (yields-options q n (rs .0, p .1 ++ rs .1) y′) (λ os y″ fo. (fd, fo)))))
+      yields-then (λ os. OtherOptions (os .1)) _ (parseOptions q f n (rs .0, p .1 ++ rs .1) y′) _
+      (yields-options q n (rs .0, p .1 ++ rs .1) y′) (λ os y″ fo. (fd, fo)))))
 
   selected-others : (i : ℕ) (p : Ranges) (c : Class) → Others c → Others (selected i p c)
   unfolding selected
@@ -178,7 +196,8 @@ module _ (f : Spot → Parser Class) (h : (z : Spot) (x : List ℕ) → Yields O
       by none = g
       by (some s) = g
 
-  yields-shape : (q : Seen) (z : Spot) (y : Says) (s : Shape) (x : List ℕ) → Other (roleOf (y .role)) → Yields Others (parseShape q f z y s x)
+  yields-shape : (q : Seen) (z : Spot) (y : Says) (s : Shape) (x : List ℕ) → Other (roleOf (y .role))
+      → Yields Others (parseShape q f z y s x)
   unfolding parseShape
   yields-shape q z y (bitField k) x r = r
   yields-shape q z y lebField x r = r
@@ -196,7 +215,8 @@ module _ (f : Spot → Parser Class) (h : (z : Spot) (x : List ℕ) → Yields O
       yields-then Whatever _ (parseRanges q [] (y .count) none x) _ (yields-any (parseRanges q [] (y .count) none x)) (λ rs x u.
       yields-then Others _ (f inside x) _ (h inside x) (λ c x p. selected-others (y .reads) rs c p))
   yields-shape q z y options x r =
-      yields-then (λ os. OtherOptions (os .1)) _ (parseOptions q f (y .count) (none, []) x) _ (yields-options q (y .count) (none, []) x) (λ os x p. p)
+      yields-then (λ os. OtherOptions (os .1)) _ (parseOptions q f (y .count) (none, []) x) _ (yields-options q (y .count) (none, []) x)
+      (λ os x p. p)
 
 yields-class : (q : Seen) (u : Under) → 1 ≤ u .root → (left : ℕ) (z : Spot) (x : List ℕ) → Yields Others (parseClass q u left z x)
 unfolding parseClass
@@ -234,12 +254,14 @@ yields-roots q timed u? [] x = by (not (missing x) && anyRoot (recordOf x))
 yields-roots q timed u? (n ∷ ns) x = by (leb (size x) (length x) && isRoot n (recordOf x)) (λ y. yields-roots q timed u? ns y)
   where
     by : (b : Bool) → ((y : List ℕ) → Yields (OtherRoots ns) (parseRoots q timed u? ns y)) → Yields (OtherRoots (n ∷ ns)) (elim b [
-      | true ↦ then (parseClass q (record { root = n; timed = timed; uuid = u? }) 8 top (behind x)) λ c x. then (parseRoots q timed u? ns x) λ cs x. good (some c ∷ cs) x
+      | true ↦ then (parseClass q (record { root = n; timed = timed; uuid = u? }) 8 top (behind x)) λ c x. then
+          (parseRoots q timed u? ns x) λ cs x. good (some c ∷ cs) x
       | false ↦ then (parseRoots q timed u? ns x) λ cs x. good (none ∷ cs) x
     ])
     by true rec =
         yields-then (λ c. 1 ≤ n → Others c) _ (parseClass q (record { root = n; timed = timed; uuid = u? }) 8 top (behind x)) _
-        (yields-header n (parseClass q (record { root = n; timed = timed; uuid = u? }) 8 top (behind x)) (λ g. yields-class q (record { root = n; timed = timed; uuid = u? }) g 8 top (behind x))) (λ c y p.
+        (yields-header n (parseClass q (record { root = n; timed = timed; uuid = u? }) 8 top (behind x))
+        (λ g. yields-class q (record { root = n; timed = timed; uuid = u? }) g 8 top (behind x))) (λ c y p.
         yields-then (OtherRoots ns) _ (parseRoots q timed u? ns y) _ (rec y) (λ cs y′ p′. (p, p′)))
     by false rec = yields-then (OtherRoots ns) _ (parseRoots q timed u? ns x) _ (rec x) (λ cs y′ p′. ((λ g. tt), p′))
 
@@ -287,7 +309,8 @@ unfolding parseFragments
 yields-fragments zero q x = unfold noTable in (tt, tt)
 yields-fragments (suc left) q x = by (missing x) (λ q x. yields-fragments left q x)
   where
-    opened : ((q : Seen) (x : List ℕ) → Yields OtherTable (parseFragments left q x)) → (r : Record) → Yields OtherTable (parseOpened q (parseFragments left) r (behind x))
+    opened : ((q : Seen) (x : List ℕ) → Yields OtherTable (parseFragments left q x)) → (r : Record)
+        → Yields OtherTable (parseOpened q (parseFragments left) r (behind x))
     opened rec unknown = unfold parseOpened in tt
     opened rec (fragment h) =
         unfold parseOpened parseFragment in
@@ -300,7 +323,8 @@ yields-fragments (suc left) q x = by (missing x) (λ q x. yields-fragments left 
     opened rec (option n) = unfold parseOpened in tt
 
     by : (b : Bool) → ((q : Seen) (x : List ℕ) → Yields OtherTable (parseFragments left q x))
-        → Yields OtherTable (elim b [ true ↦ good noTable x | false ↦ one q (openFault q) (λ r x. parseOpened q (parseFragments left) r x) x ])
+        → Yields OtherTable (elim b
+        [ true ↦ good noTable x | false ↦ one q (openFault q) (λ r x. parseOpened q (parseFragments left) r x) x ])
     by true rec = unfold noTable in (tt, tt)
     by false rec = yields-one _ q _ _ x (λ r c. opened rec r)
 
@@ -313,10 +337,12 @@ yields-parse x = by (missing x || ltb 65536 (length x))
 
     first : (v : ℕ) → Yields OtherTable (sound v x rest)
     first zero = unfold sound in
-        yields-then (OtherRoots []) _ (parseRoots noneSeen false false [] (behind x)) _ (yields-roots noneSeen false false [] (behind x)) (λ cs y p. yields-fragments (length y) noneSeen y)
+        yields-then (OtherRoots []) _ (parseRoots noneSeen false false [] (behind x)) _ (yields-roots noneSeen false false [] (behind x))
+        (λ cs y p. yields-fragments (length y) noneSeen y)
     first (suc v) = unfold sound in tt
 
-    by : (b : Bool) → Yields OtherTable (elim b [ true ↦ bad 1 x | false ↦ sound (firstFault (ltb (length x) (size x)) (recordOf x)) x rest ])
+    by : (b : Bool) → Yields OtherTable
+        (elim b [ true ↦ bad 1 x | false ↦ sound (firstFault (ltb (length x) (size x)) (recordOf x)) x rest ])
     by true = tt
     by false = first (firstFault (ltb (length x) (size x)) (recordOf x))
 
@@ -325,7 +351,8 @@ unfolding findStream
 stream-others [] i c h p = let z : _≡_ {A = ℕ} 0 1 = cc in absurd (omega arith)
 stream-others (d ∷ cs) i c h p = by (eqb (d .id) i) p (λ q. stream-others cs i c (h .1) q)
   where
-    by : (b : Bool) → elim b [ true ↦ some d | false ↦ findStream cs i ] ≡ some c → (findStream cs i ≡ some c → OtherStream c) → OtherStream c
+    by : (b : Bool) → elim b [ true ↦ some d | false ↦ findStream cs i ] ≡ some c → (findStream cs i ≡ some c → OtherStream c)
+        → OtherStream c
     by true p r = let q : d ≡ c = cc in subst OtherStream q (h .0)
     by false p r = r p
 
@@ -334,7 +361,8 @@ unfolding findEvent
 event-others [] i j c h p = let z : _≡_ {A = ℕ} 0 1 = cc in absurd (omega arith)
 event-others (d ∷ cs) i j c h p = by (eqb (d .stream) i && eqb (d .id) j) p (λ q. event-others cs i j c (h .1) q)
   where
-    by : (b : Bool) → elim b [ true ↦ some d | false ↦ findEvent cs i j ] ≡ some c → (findEvent cs i j ≡ some c → OtherEvent c) → OtherEvent c
+    by : (b : Bool) → elim b [ true ↦ some d | false ↦ findEvent cs i j ] ≡ some c → (findEvent cs i j ≡ some c → OtherEvent c)
+        → OtherEvent c
     by true p r = let q : d ≡ c = cc in subst OtherEvent q (h .0)
     by false p r = r p
 
@@ -457,7 +485,8 @@ module _ (j : ℕ) where
     keeps-fixed k n o a i r w = keeps-due (fitted e a 0 (tested _ OrderChanged (fitted e a n (record {
       at = λ s h.
           (let v : ℕ = bits o (e .bytes) ((aligned e a s) .0) n in
-          keeps-field e (kindOf k) a n (valueOf k n v) ⨾ᵏ keeps-order (Was o) ⨾ᵏ keeps-store i (slotOf k n v) ⨾ᵏ keeps-role r w n (valueOf k n v)) .at s h;
+          keeps-field e (kindOf k) a n (valueOf k n v) ⨾ᵏ keeps-order (Was o) ⨾ᵏ keeps-store i (slotOf k n v)
+          ⨾ᵏ keeps-role r w n (valueOf k n v)) .at s h;
     }))))
 
     keeps-leb : (k : ℕ) (c : ℕ → Content) (i : ℕ) (r : Role) → Other r → (x : Leb) → Keeps (readLeb e k c i r x)
@@ -473,7 +502,8 @@ module _ (j : ℕ) where
 
     keeps-text : (k n : ℕ) → Keeps (readText e k n)
     unfolding readText
-    keeps-text k n = fitted e 8 0 (fitted e 8 (8 * n) (record { at = λ s h. keeps-field e k 8 (8 * n) (textLength (bytesAt e (aligned e 8 s) n)) .at s h }))
+    keeps-text k n = fitted e 8 0
+        (fitted e 8 (8 * n) (record { at = λ s h. keeps-field e k 8 (8 * n) (textLength (bytesAt e (aligned e 8 s) n)) .at s h }))
 
     keeps-blob : (k n : ℕ) (r : Role) → Keeps (readBlob e k n r)
     unfolding readBlob
@@ -527,9 +557,11 @@ module _ (j : ℕ) where
 
       keeps-read : (c : Class) → Others c → Keeps (read e c)
       keeps-read (fixed k n o a i r) w = keeps-fixed k n o (2 ^ a) i r w
-      keeps-read (leb128 i r) w = keeps-due (fitted e 8 0 (record { at = λ s h. keeps-leb 21 Unsigned i r w (lebUnsigned (ahead e (aligned e 8 s))) .at s h }))
+      keeps-read (leb128 i r) w =
+          keeps-due (fitted e 8 0 (record { at = λ s h. keeps-leb 21 Unsigned i r w (lebUnsigned (ahead e (aligned e 8 s))) .at s h }))
       keeps-read (signedLeb128 i) w =
-          keeps-due (fitted e 8 0 (record { at = λ s h. keeps-leb 22 Signed i noRole not-noRole (lebSigned (ahead e (aligned e 8 s))) .at s h }))
+          keeps-due (fitted e 8 0
+          (record { at = λ s h. keeps-leb 22 Signed i noRole not-noRole (lebSigned (ahead e (aligned e 8 s))) .at s h }))
       keeps-read string w = keeps-due (fitted e 8 0 (record { at = λ s h. keeps-zero (zeroAt (ahead e (aligned e 8 s))) .at s h }))
       keeps-read (staticString n) w = keeps-due (keeps-text 24 n)
       keeps-read (staticBlob n r) w = keeps-due (keeps-blob 25 n r)
@@ -537,9 +569,11 @@ module _ (j : ℕ) where
       keeps-read (dynamicBlob i) w = keeps-due (keeps-slot i _ (λ x. keeps-length x _ (λ n. keeps-blob 27 n noRole)))
       keeps-read (structure a cs) w = keeps-due (keeps-head 28 _ _ (keeps-members cs w))
       keeps-read (staticArray n a c) w = keeps-due (keeps-head 29 _ _ (keeps-times n (keeps-read c w)))
-      keeps-read (dynamicArray i a c) w = keeps-due (keeps-slot i _ (λ x. keeps-length x _ (λ n. keeps-head 30 _ _ (keeps-times n (keeps-read c w)))))
+      keeps-read (dynamicArray i a c) w =
+          keeps-due (keeps-slot i _ (λ x. keeps-length x _ (λ n. keeps-head 30 _ _ (keeps-times n (keeps-read c w)))))
       keeps-read (flagged i c) w = keeps-due (keeps-slot i _ (λ x. keeps-flag x _ (λ b. keeps-present b (keeps-read c w))))
-      keeps-read (optional i g rs c) w = keeps-due (keeps-slot i _ (λ x. keeps-number g x _ (λ v. keeps-present (anyHolds g v rs) (keeps-read c w))))
+      keeps-read (optional i g rs c) w =
+          keeps-due (keeps-slot i _ (λ x. keeps-number g x _ (λ v. keeps-present (anyHolds g v rs) (keeps-read c w))))
       keeps-read (variant i g os) w = keeps-due (keeps-slot i _ (λ x. keeps-number g x _ (λ v. keeps-option g v 0 os w)))
 
       keeps-members : (cs : Classes) → OtherMembers cs → Keeps (readMembers e cs)
@@ -548,7 +582,8 @@ module _ (j : ℕ) where
 
       keeps-option : (g : Sign) (v k : ℕ) (os : Options) → OtherOptions os → Keeps (readOption e g v k os)
       keeps-option g v k noOption w = keeps-refuse SelectorInNoOption
-      keeps-option g v k (anOption rs c os) w = keeps-if (anyHolds g v rs) (keeps-field e 32 1 0 k ⨾ᵏ keeps-read c (w .0)) (keeps-option g v (k + 1) os (w .1))
+      keeps-option g v k (anOption rs c os) w =
+          keeps-if (anyHolds g v rs) (keeps-field e 32 1 0 k ⨾ᵏ keeps-read c (w .0)) (keeps-option g v (k + 1) os (w .1))
 
     pub keeps-root : (c : Option Class) → OtherRoot c → Keeps (readRoot e c)
     unfolding readRoot

@@ -1,4 +1,5 @@
--- A packet that goes through goes through at another place in another stream, where the bytes are the same; also from a lower last clock. What it
+-- A packet that goes through goes through at another place in another stream, where the bytes are the same; also from a lower last clock.
+-- What it
 -- lists is moved, and the state behind it too.
 use mathlib.Core.Path.{_≡_, refl, sym, ap, _∙_, subst}
 use Prim.Native.Nat.{ℕ, _+_, _-_, _*_, _%_, _≤_}
@@ -41,7 +42,8 @@ module _ (t : Asked) (b b′ : List ℕ) (p p′ : BitPlace) (y : Like (toEnd t 
       → readRoot e′ c (there s) ≡ go (farAll e e′ es) (there u)
   root-there c s es u d q = out-of e e′ l (readRoot e c s) (readRoot e′ c (there s)) es u (pair-root e e′ y l c .rel s d) q
 
-  root-in : (c : Option Class) (s : State) (es : List Entry) (u : State) → Between e (s .place .0) → readRoot e c s ≡ go es u → Between e (u .place .0)
+  root-in : (c : Option Class) (s : State) (es : List Entry) (u : State) → Between e (s .place .0) → readRoot e c s ≡ go es u
+      → Between e (u .place .0)
   root-in c s es u d q = still-in e e′ y l (pair-root e e′ y l c) s es u d q
 
   header-there : (s : State) (es : List Entry) (u : State) → Between e (s .place .0) → readRoot e (t .header) (startPacket s) ≡ go es u
@@ -49,7 +51,8 @@ module _ (t : Asked) (b b′ : List ℕ) (p p′ : BitPlace) (y : Like (toEnd t 
   unfolding startPacket far
   header-there s es u d q = root-there (t .header) (startPacket s) es u d q
 
-  header-in : (s : State) (es : List Entry) (u : State) → Between e (s .place .0) → readRoot e (t .header) (startPacket s) ≡ go es u → Between e (u .place .0)
+  header-in : (s : State) (es : List Entry) (u : State) → Between e (s .place .0) → readRoot e (t .header) (startPacket s) ≡ go es u
+      → Between e (u .place .0)
   unfolding startPacket
   header-in s es u d q = root-in (t .header) (startPacket s) es u d q
 
@@ -86,8 +89,10 @@ module _ (t : Asked) (b b′ : List ℕ) (p p′ : BitPlace) (y : Like (toEnd t 
         equal : p′ .0 + content - p′ .0 ≤ p .0 + content - p .0
         equal = omega arith
 
-        w : Lowered c n n′ (readEvents t c n′ (bitPlace (away n n′ (p .0 + total))) 0 (p .0 + content - s .place .0) (far n n′ l (less s))) es u
-        w = lowers-events n n′ (like t b b′ p p′ y content h) equal t c l low (p .0 + total) 0 (p .0 + content - s .place .0) (less s) es u (f, g) (omega arith) q
+        w : Lowered c n n′ (readEvents t c n′ (bitPlace (away n n′ (p .0 + total))) 0 (p .0 + content - s .place .0)
+            (far n n′ l (less s))) es u
+        w = lowers-events n n′ (like t b b′ p p′ y content h) equal t c l low (p .0 + total) 0 (p .0 + content - s .place .0) (less s) es
+            u (f, g) (omega arith) q
 
         entries : farAll n n′ es ≡ farAll e e′ es
         entries = entries-same t b b′ p p′ y (p .0 + content) (p′ .0 + content) (8 * length b) (8 * length b′) es
@@ -98,7 +103,8 @@ module _ (t : Asked) (b b′ : List ℕ) (p p′ : BitPlace) (y : Like (toEnd t 
             ∙ ap (λ z. readEvents t c n′ (bitPlace z) 0 (p .0 + content - s .place .0) (far n n′ l (less s))) (sym to)
             ∙ w .goes ∙ ap (λ z. go z (far e e′ (w .l) u)) entries
 
-  module _ (rest : ℕ) (i : Stated) (s : State) (es : List Entry) (u : State) (d : Between e (s .place .0)) (r : Ran t b p rest i s es u) (low : Low (r .c) l) where
+  module _ (rest : ℕ) (i : Stated) (s : State) (es : List Entry) (u : State) (d : Between e (s .place .0)) (r : Ran t b p rest i s es u)
+      (low : Low (r .c) l) where
     abbrev total : ℕ
     total = totalOf rest (r .s₂)
 
@@ -119,7 +125,8 @@ module _ (t : Asked) (b b′ : List ℕ) (p p′ : BitPlace) (y : Like (toEnd t 
 
     fits : (content ≤ total) × (p .0 + total ≤ 8 * length b) × (r .s₂ .place .0 ≤ p .0 + content)
     fits =
-        let f = four (not (eqb (total % 8) 0)) (ltb total content) (ltb (8 * length b) (p .0 + total)) (ltb (p .0 + content) (r .s₂ .place .0)) (r .content .lengths) in
+        let f = four (not (eqb (total % 8) 0)) (ltb total content) (ltb (8 * length b) (p .0 + total))
+        (ltb (p .0 + content) (r .s₂ .place .0)) (r .content .lengths) in
         (ltb-false _ _ (f .0), ltb-false _ _ (f .1), ltb-false _ _ (f .2))
 
     inStream : p .0 + content ≤ 8 * length b
@@ -131,7 +138,8 @@ module _ (t : Asked) (b b′ : List ℕ) (p p′ : BitPlace) (y : Like (toEnd t 
     lengths-there : contradict b′ p′ total content (there (r .s₂)) ≡ false
     unfolding far
     lengths-there =
-        let f = four (not (eqb (total % 8) 0)) (ltb total content) (ltb (8 * length b) (p .0 + total)) (ltb (p .0 + content) (r .s₂ .place .0)) (r .content .lengths) in
+        let f = four (not (eqb (total % 8) 0)) (ltb total content) (ltb (8 * length b) (p .0 + total))
+        (ltb (p .0 + content) (r .s₂ .place .0)) (r .content .lengths) in
         bad-same t b b′ p p′ y (r .c) total content (r .s₂) (d₂ .0) (f .1) ∙ r .content .lengths
 
     later : EventsThere (r .c) low total content (r .s₂) (r .content .rest) u
@@ -147,10 +155,14 @@ module _ (t : Asked) (b b′ : List ℕ) (p p′ : BitPlace) (y : Like (toEnd t 
       list = unfold farAll farEntry far in ap (farAll e e′) (r .content .list);
     }
 
-    list-there : farAll e e′ es ≡ farAll e e′ (r .es₁) ++ (entry streamClassFound ((there (r .s₁)) .place) 0 (r .s₁ .said .stream) ∷ (farAll e e′ (r .es₂) ++ farAll e e′ (r .es₃)))
+    list-there : farAll e e′ es
+        ≡ farAll e e′ (r .es₁) ++ (entry streamClassFound ((there (r .s₁)) .place) 0
+        (r .s₁ .said .stream) ∷ (farAll e e′ (r .es₂) ++ farAll e e′ (r .es₃)))
     list-there =
-        ap (farAll e e′) (r .list) ∙ far-append e e′ (r .es₁) (entry streamClassFound (r .s₁ .place) 0 (r .s₁ .said .stream) ∷ (r .es₂ ++ r .es₃))
-        ∙ ap (λ z. farAll e e′ (r .es₁) ++ z) (marked ∙ ap (λ z. entry streamClassFound ((there (r .s₁)) .place) 0 (r .s₁ .said .stream) ∷ z) (far-append e e′ (r .es₂) (r .es₃)))
+        ap (farAll e e′) (r .list)
+        ∙ far-append e e′ (r .es₁) (entry streamClassFound (r .s₁ .place) 0 (r .s₁ .said .stream) ∷ (r .es₂ ++ r .es₃))
+        ∙ ap (λ z. farAll e e′ (r .es₁) ++ z) (marked
+        ∙ ap (λ z. entry streamClassFound ((there (r .s₁)) .place) 0 (r .s₁ .said .stream) ∷ z) (far-append e e′ (r .es₂) (r .es₃)))
       where
         marked : farAll e e′ (entry streamClassFound (r .s₁ .place) 0 (r .s₁ .said .stream) ∷ (r .es₂ ++ r .es₃))
             ≡ entry streamClassFound ((there (r .s₁)) .place) 0 (r .s₁ .said .stream) ∷ farAll e e′ (r .es₂ ++ r .es₃)

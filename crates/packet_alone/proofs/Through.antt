@@ -48,7 +48,8 @@ join m n s fs x gs u p q = ap (λ o. after o n) p ∙ ap (onto fs) q
 
 -- A test, a change and an entry in front of a step
 
-pub passed : (t : State → Bool) (r : Refusal) (m : Step) (s : State) (es : List Entry) (u : State) → (check t r ⨾ m) s ≡ go es u → t s ≡ false
+pub passed : (t : State → Bool) (r : Refusal) (m : Step) (s : State) (es : List Entry) (u : State) → (check t r ⨾ m) s ≡ go es u
+    → t s ≡ false
 unfolding check _⨾_
 passed t r m s es u q = by (t s) q
   where

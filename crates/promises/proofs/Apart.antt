@@ -1,5 +1,7 @@
--- Packets stand on their own. Along the packets of an accepted stream: those before the removed one read as they did, since they end before the
--- streams part; then it is passed over; those behind it go on by `Onwards`. In order: a round of the packet loop; what the list shows of a packet;
+-- Packets stand on their own. Along the packets of an accepted stream: those before the removed one read as they did, since they end
+-- before the
+-- streams part; then it is passed over; those behind it go on by `Onwards`. In order: a round of the packet loop; what the list shows of
+-- a packet;
 -- the stream without it; the reading; all of it.
 use mathlib.Core.Path.{_≡_, refl, sym, ap, _∙_, subst}
 use mathlib.Core.Logic.{_⊎_, inl, inr, ⊎-elim}
@@ -62,7 +64,8 @@ module _ (t : Asked) (w : Fitting Positive (λ r. Any) Any t) (only : HeaderOnly
   unfolding pass
   nothing s es u q = let f : [] ≡ es = cc in sym f
 
-  round : (k : ℕ) (i : Stated) (left : ℕ) (s : State) (es : List Entry) (u : State) → s .place .0 % 8 ≡ 0 → readPackets t b k i (suc left) s ≡ go es u
+  round : (k : ℕ) (i : Stated) (left : ℕ) (s : State) (es : List Entry) (u : State) → s .place .0 % 8 ≡ 0
+      → readPackets t b k i (suc left) s ≡ go es u
       → (es ≡ []) ⊎ Round k i left s es u
   unfolding readPackets
   round k i left s es u z q = by (ltb (s .place .0) (8 * length b)) refl q
@@ -99,10 +102,12 @@ module _ (t : Asked) (w : Fitting Positive (λ r. Any) Any t) (only : HeaderOnly
     counted = ap packetsIn (r .list) ∙ packets-at (s .place) k (r .first) others (r .packet .list) (r .packet .none) (r .second)
 
     from-here : fromPacket k es ≡ es
-    from-here = ap (fromPacket k) (r .list) ∙ from-at (s .place) k (r .first) others (r .packet .list) (r .packet .none) (r .second) ∙ sym (r .list)
+    from-here = ap (fromPacket k) (r .list) ∙ from-at (s .place) k (r .first) others (r .packet .list) (r .packet .none) (r .second)
+        ∙ sym (r .list)
 
     place-here : placeIn (fromPacket k es) ≡ s .place .0
-    place-here = ap placeIn from-here ∙ ap placeIn (r .list) ∙ place-at (s .place) k (r .first) others (r .packet .list) (r .packet .none) (r .second)
+    place-here = ap placeIn from-here ∙ ap placeIn (r .list)
+        ∙ place-at (s .place) k (r .first) others (r .packet .list) (r .packet .none) (r .second)
 
     total-here : s .place .0 + totalIn (fromPacket k es) ≡ r .middle .place .0
     total-here =
@@ -124,7 +129,8 @@ module _ (t : Asked) (w : Fitting Positive (λ r. Any) Any t) (only : HeaderOnly
     before-here = ap (beforePacket k) (r .list) ∙ before-at (s .place) k (r .first) others (r .packet .list) (r .packet .none) (r .second)
 
   -- a list begins with its first packet
-  from-first : (left k : ℕ) (i : Stated) (s : State) (es : List Entry) (u : State) → s .place .0 % 8 ≡ 0 → readPackets t b k i left s ≡ go es u → fromPacket k es ≡ es
+  from-first : (left k : ℕ) (i : Stated) (s : State) (es : List Entry) (u : State) → s .place .0 % 8 ≡ 0
+      → readPackets t b k i left s ≡ go es u → fromPacket k es ≡ es
   from-first left k i s es u z q = by left q
     where
       empty : es ≡ [] → fromPacket k es ≡ es
@@ -140,16 +146,19 @@ module _ (t : Asked) (w : Fitting Positive (λ r. Any) Any t) (only : HeaderOnly
   bytes-taken zero k i s es u z l q =
       let e : packetsIn es ≡ 0 = ap packetsIn (none-left k i s es u q) ∙ (unfold packetsIn in refl) in
       omega arith
-  bytes-taken (suc left) k i s es u z l q = by (round k i left s es u z q) (λ m fs z l q. bytes-taken left (k + 1) (As (m .said .stream)) m fs u z l q)
+  bytes-taken (suc left) k i s es u z l q =
+      by (round k i left s es u z q) (λ m fs z l q. bytes-taken left (k + 1) (As (m .said .stream)) m fs u z l q)
     where
       by : (es ≡ []) ⊎ Round k i left s es u
-          → ((m : State) (fs : List Entry) → m .place .0 % 8 ≡ 0 → m .place .0 ≤ 8 * length b → readPackets t b (k + 1) (As (m .said .stream)) left m ≡ go fs u
+          → ((m : State) (fs : List Entry) → m .place .0 % 8 ≡ 0 → m .place .0 ≤ 8 * length b
+          → readPackets t b (k + 1) (As (m .said .stream)) left m ≡ go fs u
           → m .place .0 + 8 * packetsIn fs ≤ 8 * length b) → s .place .0 + 8 * packetsIn es ≤ 8 * length b
       by (inl e) rec =
           let n : packetsIn es ≡ 0 = ap packetsIn e ∙ (unfold packetsIn in refl) in
           omega arith
       by (inr r) rec =
-          let h : r .middle .place .0 + 8 * packetsIn (r .second) ≤ 8 * length b = rec (r .middle) (r .second) (r .packet .whole) (r .packet .inStream) (r .goes-on) in
+          let h : r .middle .place .0 + 8 * packetsIn (r .second) ≤ 8 * length b =
+          rec (r .middle) (r .second) (r .packet .whole) (r .packet .inStream) (r .goes-on) in
           omega (arith, counted k i left s es u r, r .packet .takes)
 
   -- A packet that the list shows
@@ -163,7 +172,8 @@ module _ (t : Asked) (w : Fitting Positive (λ r. Any) Any t) (only : HeaderOnly
     -- the others take a byte or more each
     leaves : s .place .0 + totalIn (fromPacket n es) + 8 * packetsIn es ≤ 8 * length b + 8
 
-  found-here : (k : ℕ) (i : Stated) (left : ℕ) (s : State) (es : List Entry) (u : State) → s .place .0 % 8 ≡ 0 → Round k i left s es u → Found k s es
+  found-here : (k : ℕ) (i : Stated) (left : ℕ) (s : State) (es : List Entry) (u : State) → s .place .0 % 8 ≡ 0 → Round k i left s es u
+      → Found k s es
   found-here k i left s es u z r =
       let p : placeIn (fromPacket k es) ≡ s .place .0 = place-here k i left s es u r in
       let q : s .place .0 + totalIn (fromPacket k es) ≡ r .middle .place .0 = total-here k i left s es u r in
@@ -173,9 +183,18 @@ module _ (t : Asked) (w : Fitting Positive (λ r. Any) Any t) (only : HeaderOnly
       let a : s .place .0 + 8 ≤ r .middle .place .0 = r .packet .takes in
       let c : r .middle .place .0 % 8 ≡ 0 = r .packet .whole in
       let d : r .middle .place .0 ≤ 8 * length b = r .packet .inStream in
-      record { from = omega arith; whole = omega arith; whole-total = omega arith; takes = omega arith; inStream = omega arith; leaves = omega arith }
+      record {
+        from = omega arith;
+        whole = omega arith;
+        whole-total = omega arith;
+        takes = omega arith;
+        inStream = omega arith;
+        leaves =
+            omega arith;
+      }
 
-  found-later : (n k : ℕ) (i : Stated) (left : ℕ) (s : State) (es : List Entry) (u : State) → (k ≡ n → ⊥) → (r : Round k i left s es u) → Found n (r .middle) (r .second) → Found n s es
+  found-later : (n k : ℕ) (i : Stated) (left : ℕ) (s : State) (es : List Entry) (u : State) → (k ≡ n → ⊥) → (r : Round k i left s es u)
+      → Found n (r .middle) (r .second) → Found n s es
   found-later n k i left s es u d r f =
       let g : fromPacket n es ≡ fromPacket n (r .second) = from-later k i left s es u r n d in
       let p : placeIn (fromPacket n es) ≡ placeIn (fromPacket n (r .second)) = ap placeIn g in
@@ -188,17 +207,28 @@ module _ (t : Asked) (w : Fitting Positive (λ r. Any) Any t) (only : HeaderOnly
       let h₄ : 8 ≤ totalIn (fromPacket n (r .second)) = f .takes in
       let h₅ : placeIn (fromPacket n (r .second)) + totalIn (fromPacket n (r .second)) ≤ 8 * length b = f .inStream in
       let h₆ : r .middle .place .0 + totalIn (fromPacket n (r .second)) + 8 * packetsIn (r .second) ≤ 8 * length b + 8 = f .leaves in
-      record { from = omega arith; whole = ap (λ x. x % 8) p ∙ h₂; whole-total = ap (λ x. x % 8) q ∙ h₃; takes = omega arith; inStream = omega arith; leaves = omega arith }
+      record {
+        from = omega arith;
+        whole = ap (λ x. x % 8) p ∙ h₂;
+        whole-total = ap (λ x. x % 8) q
+            ∙ h₃;
+        takes = omega arith;
+        inStream = omega arith;
+        leaves = omega arith;
+      }
 
-  found : (left n k : ℕ) (i : Stated) (s : State) (es : List Entry) (u : State) → s .place .0 % 8 ≡ 0 → readPackets t b k i left s ≡ go es u → k ≤ n
+  found : (left n k : ℕ) (i : Stated) (s : State) (es : List Entry) (u : State) → s .place .0 % 8 ≡ 0
+      → readPackets t b k i left s ≡ go es u → k ≤ n
       → n < k + packetsIn es → Found n s es
   found zero n k i s es u z q l h =
       let e : packetsIn es ≡ 0 = ap packetsIn (none-left k i s es u q) ∙ (unfold packetsIn in refl) in
       absurd (omega arith)
-  found (suc left) n k i s es u z q l h = by (round k i left s es u z q) (λ m fs z q l h. found left n (k + 1) (As (m .said .stream)) m fs u z q l h)
+  found (suc left) n k i s es u z q l h =
+      by (round k i left s es u z q) (λ m fs z q l h. found left n (k + 1) (As (m .said .stream)) m fs u z q l h)
     where
       by : (es ≡ []) ⊎ Round k i left s es u
-          → ((m : State) (fs : List Entry) → m .place .0 % 8 ≡ 0 → readPackets t b (k + 1) (As (m .said .stream)) left m ≡ go fs u → k + 1 ≤ n
+          → ((m : State) (fs : List Entry) → m .place .0 % 8 ≡ 0 → readPackets t b (k + 1) (As (m .said .stream)) left m ≡ go fs u
+          → k + 1 ≤ n
           → n < k + 1 + packetsIn fs → Found n m fs) → Found n s es
       by (inl e) rec =
           let c : packetsIn es ≡ 0 = ap packetsIn e ∙ (unfold packetsIn in refl) in
@@ -245,9 +275,11 @@ module _ (t : Asked) (w : Fitting Positive (λ r. Any) Any t) (only : HeaderOnly
       end : u′ .place .0 + total ≡ u .place .0
 
     -- the packet itself
-    removed-here : (k : ℕ) (i : Stated) (left : ℕ) (s : State) (es : List Entry) (u : State) → s .place .0 % 8 ≡ 0 → 8 * length b ≤ s .place .0 + 8 * suc left
+    removed-here : (k : ℕ) (i : Stated) (left : ℕ) (s : State) (es : List Entry) (u : State) → s .place .0 % 8 ≡ 0
+        → 8 * length b ≤ s .place .0 + 8 * suc left
         → Round k i left s es u → placeIn (fromPacket k es) ≡ place → totalIn (fromPacket k es) ≡ total → Removed k k i (suc left) s es u
-    removed-here k i left s es u z f r p q = record { u′ = x .u′; goes = rounds ∙ x .goes ∙ ap (λ l. go l (x .u′)) (sym list); end = x .place }
+    removed-here k i left s es u z f r p q =
+        record { u′ = x .u′; goes = rounds ∙ x .goes ∙ ap (λ l. go l (x .u′)) (sym list); end = x .place }
       where
         at : s .place .0 ≡ place
         at = sym (place-here k i left s es u r) ∙ p
@@ -277,7 +309,8 @@ module _ (t : Asked) (w : Fitting Positive (λ r. Any) Any t) (only : HeaderOnly
           last = λ c h timed.
               let e : some (r .packet .ran .c) ≡ some c = sym class-found ∙ h in
               let g : r .packet .ran .c ≡ c = cc in
-              ends-no-earlier t b (s .place) _ i (less s) (r .packet .others) (r .middle) (r .packet .ran) only (ap (λ d. d .timed) g ∙ timed);
+              ends-no-earlier t b (s .place) _ i (less s) (r .packet .others) (r .middle) (r .packet .ran) only (ap (λ d. d .timed) g
+              ∙ timed);
         }
 
         x : Rest t w only b b′ total ((place + total) / 8) gap k i left s (r .second) u
@@ -298,8 +331,10 @@ module _ (t : Asked) (w : Fitting Positive (λ r. Any) Any t) (only : HeaderOnly
         list = ap (λ l. l ++ map (lower total) (fromPacket (suc k) es)) (before-here k i left s es u r) ∙ ap (map (lower total)) later
 
     -- a packet before it
-    removed-later : (n k : ℕ) (i : Stated) (left : ℕ) (s : State) (es : List Entry) (u : State) → s .place .0 % 8 ≡ 0 → k < n → (r : Round k i left s es u)
-        → r .middle .place .0 ≤ place → Removed n (k + 1) (As (r .middle .said .stream)) left (r .middle) (r .second) u → Removed n k i (suc left) s es u
+    removed-later : (n k : ℕ) (i : Stated) (left : ℕ) (s : State) (es : List Entry) (u : State) → s .place .0 % 8 ≡ 0 → k < n
+        → (r : Round k i left s es u)
+        → r .middle .place .0 ≤ place → Removed n (k + 1) (As (r .middle .said .stream)) left (r .middle) (r .second) u
+        → Removed n k i (suc left) s es u
     unfolding readPackets
     removed-later n k i left s es u z h r l x = record { u′ = x .u′; goes = ap whole test ∙ both; end = x .end }
       where
@@ -325,16 +360,20 @@ module _ (t : Asked) (w : Fitting Positive (λ r. Any) Any t) (only : HeaderOnly
             same-packet t shared (drop (place / 8) b) (drop ((place + total) / 8) b) k i s (r .first) (r .middle) z
             (omega (arith, shared-length)) (omega (arith, shared-length)) (omega arith) here
 
-        list : r .first ++ (beforePacket n (r .second) ++ map (lower total) (fromPacket (suc n) (r .second))) ≡ beforePacket n es ++ map (lower total) (fromPacket (suc n) es)
+        list : r .first ++ (beforePacket n (r .second) ++ map (lower total) (fromPacket (suc n) (r .second)))
+            ≡ beforePacket n es ++ map (lower total) (fromPacket (suc n) es)
         list =
             sym (append-assoc (r .first) (beforePacket n (r .second)) (map (lower total) (fromPacket (suc n) (r .second))))
-            ∙ (λ j. sym (before-later k i left s es u r n (λ d. omega arith)) j ++ map (lower total) (sym (from-later k i left s es u r (suc n) (λ d. omega arith)) j))
+            ∙ (λ j. sym (before-later k i left s es u r n (λ d. omega arith)) j ++ map (lower total)
+            (sym (from-later k i left s es u r (suc n) (λ d. omega arith)) j))
 
         both : (readPacket t b′ k i ⨾ next) s ≡ go (beforePacket n es ++ map (lower total) (fromPacket (suc n) es)) (x .u′)
         both = join (readPacket t b′ k i) next s (r .first) (r .middle) _ (x .u′) there (x .goes) ∙ ap (λ l. go l (x .u′)) list
 
-    removed : (left n k : ℕ) (i : Stated) (s : State) (es : List Entry) (u : State) → s .place .0 % 8 ≡ 0 → 8 * length b ≤ s .place .0 + 8 * left
-        → readPackets t b k i left s ≡ go es u → k ≤ n → n < k + packetsIn es → placeIn (fromPacket n es) ≡ place → totalIn (fromPacket n es) ≡ total
+    removed : (left n k : ℕ) (i : Stated) (s : State) (es : List Entry) (u : State) → s .place .0 % 8 ≡ 0
+        → 8 * length b ≤ s .place .0 + 8 * left
+        → readPackets t b k i left s ≡ go es u → k ≤ n → n < k + packetsIn es → placeIn (fromPacket n es) ≡ place
+        → totalIn (fromPacket n es) ≡ total
         → Removed n k i left s es u
     removed zero n k i s es u z f q l h p c =
         let e : packetsIn es ≡ 0 = ap packetsIn (none-left k i s es u q) ∙ (unfold packetsIn in refl) in
@@ -343,7 +382,8 @@ module _ (t : Asked) (w : Fitting Positive (λ r. Any) Any t) (only : HeaderOnly
         by (round k i left s es u z q) (λ m fs z f q l h p c. removed left n (k + 1) (As (m .said .stream)) m fs u z f q l h p c)
       where
         by : (es ≡ []) ⊎ Round k i left s es u
-            → ((m : State) (fs : List Entry) → m .place .0 % 8 ≡ 0 → 8 * length b ≤ m .place .0 + 8 * left → readPackets t b (k + 1) (As (m .said .stream)) left m ≡ go fs u
+            → ((m : State) (fs : List Entry) → m .place .0 % 8 ≡ 0 → 8 * length b ≤ m .place .0 + 8 * left
+            → readPackets t b (k + 1) (As (m .said .stream)) left m ≡ go fs u
             → k + 1 ≤ n → n < k + 1 + packetsIn fs → placeIn (fromPacket n fs) ≡ place → totalIn (fromPacket n fs) ≡ total
             → Removed n (k + 1) (As (m .said .stream)) left m fs u) → Removed n k i (suc left) s es u
         by (inl e) rec =
@@ -356,10 +396,13 @@ module _ (t : Asked) (w : Fitting Positive (λ r. Any) Any t) (only : HeaderOnly
                 let m : n < k + 1 + packetsIn (r .second) = omega (arith, counted k i left s es u r) in
                 let v : fromPacket n es ≡ fromPacket n (r .second) = from-later k i left s es u r n (λ d. omega arith) in
                 let a : placeIn (fromPacket n (r .second)) ≡ place = ap placeIn (sym v) ∙ p in
-                let y : Found n (r .middle) (r .second) = found left n (k + 1) (As (r .middle .said .stream)) (r .middle) (r .second) u (r .packet .whole) (r .goes-on) (omega arith) m in
+                let y : Found n (r .middle) (r .second) =
+                found left n (k + 1) (As (r .middle .said .stream)) (r .middle) (r .second) u (r .packet .whole) (r .goes-on)
+                (omega arith) m in
                 let d : r .middle .place .0 ≤ placeIn (fromPacket n (r .second)) = y .from in
                 removed-later n k i left s es u z g r (omega arith)
-                (rec (r .middle) (r .second) (r .packet .whole) (omega (arith, r .packet .takes)) (r .goes-on) (omega arith) m a (ap totalIn (sym v) ∙ c))
+                (rec (r .middle) (r .second) (r .packet .whole) (omega (arith, r .packet .takes)) (r .goes-on) (omega arith) m a
+                (ap totalIn (sym v) ∙ c))
 
             here : n ≤ k → Removed n k i (suc left) s es u
             here g =
@@ -373,7 +416,11 @@ module _ (t : Asked) (w : Fitting Positive (λ r. Any) Any t) (only : HeaderOnly
     abbrev Without : Reading → Type 0
     Without r = numberOf (r .verdict) ≡ 0 → 1 < packetsIn (r .entries) → n < packetsIn (r .entries)
         → readStream t (bytesWithout n (r .entries) b) room
-        ≡ record { entries = listWithout n (r .entries); verdict = Accepted (bitPlace (8 * length b - totalIn (fromPacket n (r .entries)))) }
+        ≡ record {
+          entries = listWithout n (r .entries);
+          verdict =
+              Accepted (bitPlace (8 * length b - totalIn (fromPacket n (r .entries))));
+        }
 
     module _ (es : List Entry) (u : State) (q : readPackets t b 0 Missing (length b) (begin room) ≡ go es u)
         (size : eqb (length b) 0 || ltb streamLimit (length b) ≡ false) (two : 1 < packetsIn es) (one : n < packetsIn es) where
@@ -398,7 +445,8 @@ module _ (t : Asked) (w : Fitting Positive (λ r. Any) Any t) (only : HeaderOnly
       left = take (place / 8) b ++ drop ((place + total) / 8) b
 
       x : Removed place total (f .whole) (f .whole-total) (f .takes) (f .inStream) n 0 Missing (length b) (begin room) es u
-      x = removed place total (f .whole) (f .whole-total) (f .takes) (f .inStream) (length b) n 0 Missing (begin room) es u whole-start (omega arith) q
+      x = removed place total (f .whole) (f .whole-total) (f .takes) (f .inStream) (length b) n 0 Missing (begin room) es u whole-start
+          (omega arith) q
           (omega arith) (omega arith) refl refl
 
       left-length : 8 * length b ≡ 8 * length left + total
@@ -422,7 +470,8 @@ module _ (t : Asked) (w : Fitting Positive (λ r. Any) Any t) (only : HeaderOnly
       rounds : readPackets t left 0 Missing (length left) (begin room) ≡ readPackets t left 0 Missing (length b) (begin room)
       rounds =
           let e : length b ≡ length left + total / 8 = omega (arith, left-length, f .whole-total) in
-          sym (ap (λ m. readPackets t left 0 Missing m (begin room)) e ∙ packet-rounds t w left 0 Missing (length left) (total / 8) (begin room) whole-start (omega arith))
+          sym (ap (λ m. readPackets t left 0 Missing m (begin room)) e
+          ∙ packet-rounds t w left 0 Missing (length left) (total / 8) (begin room) whole-start (omega arith))
 
       end-place : x .u′ .place ≡ bitPlace (8 * length b - total)
       end-place =
@@ -430,7 +479,8 @@ module _ (t : Asked) (w : Fitting Positive (λ r. Any) Any t) (only : HeaderOnly
           let p : x .u′ .place .0 ≡ 8 * length b - total = omega arith in
           ap bitPlace p
 
-      without : readStream t (bytesWithout n es b) room ≡ record { entries = listWithout n es; verdict = Accepted (bitPlace (8 * length b - total)) }
+      without : readStream t (bytesWithout n es b) room
+          ≡ record { entries = listWithout n es; verdict = Accepted (bitPlace (8 * length b - total)) }
       unfolding readStream bytesWithout listWithout ended
       without =
           ap (λ y. elim y [
@@ -443,7 +493,8 @@ module _ (t : Asked) (w : Fitting Positive (λ r. Any) Any t) (only : HeaderOnly
     stream-without : Without (readStream t b room)
     stream-without = by (eqb (length b) 0 || ltb streamLimit (length b)) refl
       where
-        of : (o : Out) → readPackets t b 0 Missing (length b) (begin room) ≡ o → eqb (length b) 0 || ltb streamLimit (length b) ≡ false → Without (ended o)
+        of : (o : Out) → readPackets t b 0 Missing (length b) (begin room) ≡ o → eqb (length b) 0 || ltb streamLimit (length b) ≡ false
+            → Without (ended o)
         of (stop es v) q h z = unfold ended numberOf in absurd (omega (arith, refusalNumber-bounds (v .why) .0))
         of (go es u) q h z = unfold ended in λ two one. without es u q h two one
 
@@ -464,7 +515,8 @@ module _ (t : Asked) (w : Fitting Positive (λ r. Any) Any t) (only : HeaderOnly
 
 abbrev OfParsed : List ℕ → List ℕ → ℕ → ℕ → Parsed Table → Type 0
 OfParsed x b room k p =
-    numberOf ((readParsed x p b room) .verdict) ≡ 0 → 1 < packetsIn ((readParsed x p b room) .entries) → k < packetsIn ((readParsed x p b room) .entries)
+    numberOf ((readParsed x p b room) .verdict) ≡ 0 → 1 < packetsIn ((readParsed x p b room) .entries)
+    → k < packetsIn ((readParsed x p b room) .entries)
     → readParsed x p (bytesWithout k ((readParsed x p b room) .entries) b) room
     ≡ record {
       entries = listWithout k ((readParsed x p b room) .entries);

@@ -1,4 +1,5 @@
--- Two calls that meet the contract, of a stream and of that stream without a packet: what the first listed is what the rules list, and so are result
+-- Two calls that meet the contract, of a stream and of that stream without a packet: what the first listed is what the rules list, and so
+-- are result
 -- and list of the second.
 use mathlib.Core.Path.{_≡_, refl, sym, ap, subst, _∙_}
 use Prim.Native.Nat.{ℕ, _-_, _*_, _<_}
@@ -12,12 +13,14 @@ use Rattle.rules.specs.Entry.{words}
 use Rattle.rules.specs.Verdict.{numberOf, placeOf, firstOf, secondOf}
 use Rattle.rules.specs.Read.{Reading, readAll, resultOf, listAfter}
 use Rattle.promises.specs.Demands.{Call, call, listedBy, cameBehind, Contract}
-use Rattle.promises.specs.Apart.{fromPacket, totalIn, packetsIn, listWithout, bytesWithout, resultWithout, PacketRemoved, ApartCalls, ApartOfCalls, TwoStreams}
+use Rattle.promises.specs.Apart.{fromPacket, totalIn, packetsIn, listWithout, bytesWithout, resultWithout, PacketRemoved, ApartCalls}
+use Rattle.promises.specs.Apart.{ApartOfCalls, TwoStreams}
 use Rattle.promises.proofs.Calls.{lists-entries}
 use Rattle.promises.proofs.Promised.{Ensured, contract}
 use Rattle.promises.proofs.Apart.{apart}
 
-module _ (x b b′ : List ℕ) (c d : Call) (h : Contract x b c) (h′ : Contract x b′ d) (k : ℕ) (z : c .result .number ≡ 0) (two : 1 < packetsIn (listedBy c))
+module _ (x b b′ : List ℕ) (c d : Call) (h : Contract x b c) (h′ : Contract x b′ d) (k : ℕ) (z : c .result .number ≡ 0)
+    (two : 1 < packetsIn (listedBy c))
     (one : k < packetsIn (listedBy c)) (e : b′ ≡ bytesWithout k (listedBy c) b) (n : length (d .before) ≡ length (c .before)) where
   abbrev full : Reading
   full = readAll x b (length (c .before))
@@ -46,7 +49,8 @@ module _ (x b b′ : List ℕ) (c d : Call) (h : Contract x b c) (h′ : Contrac
 pub apart-calls : ApartOfCalls
 apart-calls x b b′ c d h h′ k z two one e n = removed x b b′ c d h h′ k z two one e n
 
-pub two-streams : (x b b′ : List ℕ) (r : Result) (ws ws′ : List ℕ) (r′ : Result) (vs vs′ : List ℕ) → Ensured x b r ws ws′ → Ensured x b′ r′ vs vs′
+pub two-streams : (x b b′ : List ℕ) (r : Result) (ws ws′ : List ℕ) (r′ : Result) (vs vs′ : List ℕ) → Ensured x b r ws ws′
+    → Ensured x b′ r′ vs vs′
     → TwoStreams x b b′ (call r ws ws′) (call r′ vs vs′)
 two-streams x b b′ r ws ws′ r′ vs vs′ e f =
     let h = contract x b r ws ws′ e in

@@ -1,4 +1,5 @@
--- A list is cut by its own entries: entry 1 of a number begins a packet, and no other entry does. So a packet's entries in front of others are
+-- A list is cut by its own entries: entry 1 of a number begins a packet, and no other entry does. So a packet's entries in front of
+-- others are
 -- passed over or found, and show their place and their total length.
 use mathlib.Core.Path.{_≡_, refl, sym, ap, _∙_, subst}
 use Prim.Native.Nat.{ℕ, zero, suc, _+_, _≤_, _<_}
@@ -36,7 +37,8 @@ others-passed n (x ∷ es) h = (ap (λ b. b && eqb (x .value) n) (ne-eqb (x .kin
 
 -- A packet's entries: entry 1 of number k at p, and others
 
-module _ (p : BitPlace) (k : ℕ) (es others : List Entry) (list : es ≡ entry packetStarts p 0 k ∷ others) (none : All (NotOf packetStarts) others) where
+module _ (p : BitPlace) (k : ℕ) (es others : List Entry) (list : es ≡ entry packetStarts p 0 k ∷ others)
+    (none : All (NotOf packetStarts) others) where
   pub packet-passed : (n : ℕ) → (k ≡ n → ⊥) → All (Passed n) es
   packet-passed n d = subst (All (Passed n)) (sym list) (unfold startsPacket in ne-eqb k n d, others-passed n others none)
 
@@ -62,7 +64,8 @@ module _ (p : BitPlace) (k : ℕ) (es others : List Entry) (list : es ≡ entry 
   unfolding packetsIn
   counts [] fs h = refl
   counts (x ∷ xs) fs h =
-      ap (λ b. elim b [ true ↦ suc (packetsIn (xs ++ fs)) | false ↦ packetsIn (xs ++ fs) ]) (ne-eqb (x .kind) packetStarts (h .0)) ∙ counts xs fs (h .1)
+      ap (λ b. elim b [ true ↦ suc (packetsIn (xs ++ fs)) | false ↦ packetsIn (xs ++ fs) ]) (ne-eqb (x .kind) packetStarts (h .0))
+      ∙ counts xs fs (h .1)
 
   pub packets-at : (fs : List Entry) → packetsIn (es ++ fs) ≡ packetsIn fs + 1
   packets-at fs =

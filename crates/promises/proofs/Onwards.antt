@@ -1,5 +1,7 @@
--- Behind a removed packet: the reading of the whole stream beside that of the stream without it. From packet to packet one record says how the two
--- states differ (`Onwards`): place, room, number, first class and last clock. Each packet goes through in both, and lists the same, lowered.
+-- Behind a removed packet: the reading of the whole stream beside that of the stream without it. From packet to packet one record says
+-- how the two
+-- states differ (`Onwards`): place, room, number, first class and last clock. Each packet goes through in both, and lists the same,
+-- lowered.
 use mathlib.Core.Path.{_≡_, refl, sym, ap, _∙_, subst}
 use Prim.Native.Nat.{ℕ, zero, suc, _+_, _-_, _*_, _/_, _%_, _≤_, _<_}
 use native.Mathlib.Omega.{arith}
@@ -104,14 +106,17 @@ pub map-append : (f : Entry → Entry) (es fs : List Entry) → map f (es ++ fs)
 map-append f [] fs = refl
 map-append f (x ∷ es) fs = ap (λ l. f x ∷ l) (map-append f es fs)
 
-lower-one : (e e′ : Env) (total : ℕ) → e′ .start .0 + total ≡ e .start .0 → (x : Entry) → NotOf packetStarts x → e .start .0 ≤ x .place .0 → lower total x ≡ farEntry e e′ x
+lower-one : (e e′ : Env) (total : ℕ) → e′ .start .0 + total ≡ e .start .0 → (x : Entry) → NotOf packetStarts x → e .start .0 ≤ x .place .0
+    → lower total x ≡ farEntry e e′ x
 unfolding lower numberLower farEntry
 lower-one e e′ total h x n l =
     let p : x .place .0 - total ≡ e′ .start .0 + (x .place .0 - e .start .0) = omega arith in
-    ap (λ b. entry (x .kind) (bitPlace (x .place .0 - total)) (x .bits) (elim b [ true ↦ x .value - 1 | false ↦ x .value ])) (ne-eqb (x .kind) packetStarts n)
+    ap (λ b. entry (x .kind) (bitPlace (x .place .0 - total)) (x .bits) (elim b [ true ↦ x .value - 1 | false ↦ x .value ]))
+    (ne-eqb (x .kind) packetStarts n)
     ∙ ap (λ z. entry (x .kind) (bitPlace z) (x .bits) (x .value)) p
 
-lower-all : (e e′ : Env) (total : ℕ) → e′ .start .0 + total ≡ e .start .0 → (es : List Entry) → All (NotOf packetStarts) es → All (λ x. e .start .0 ≤ x .place .0) es
+lower-all : (e e′ : Env) (total : ℕ) → e′ .start .0 + total ≡ e .start .0 → (es : List Entry) → All (NotOf packetStarts) es
+    → All (λ x. e .start .0 ≤ x .place .0) es
     → map (lower total) es ≡ farAll e e′ es
 unfolding farAll
 lower-all e e′ total h [] n l = refl
@@ -119,7 +124,8 @@ lower-all e e′ total h (x ∷ es) n l = λ z. lower-one e e′ total h x (n .0
 
 -- Onwards
 
-module _ (t : Asked) (w : Fitting Positive (λ r. Any) Any t) (only : HeaderOnly t) (b b′ : List ℕ) (total from : ℕ) (gap : Gap b b′ total from) where
+module _ (t : Asked) (w : Fitting Positive (λ r. Any) Any t) (only : HeaderOnly t) (b b′ : List ℕ) (total from : ℕ)
+    (gap : Gap b b′ total from) where
   pub record Onwards (k k′ : ℕ) (i i′ : Stated) (s s′ : State) : Type 0 where
     -- the place is lower by the total, at a whole byte, behind the gap
     pub place : s′ .place .0 + total ≡ s .place .0
@@ -142,7 +148,8 @@ module _ (t : Asked) (w : Fitting Positive (λ r. Any) Any t) (only : HeaderOnly
     pub goes : readPacket t b′ k′ i′ s′ ≡ go (map (lower total) es) u′
     pub onwards : Onwards (k + 1) (k′ + 1) (As (u .said .stream)) (As (u′ .said .stream)) u u′
 
-  module _ (k k′ : ℕ) (i i′ : Stated) (s s′ : State) (es : List Entry) (u : State) (o : Onwards k k′ i i′ s s′) (l : s .place .0 < 8 * length b) (q : readPacket t b k i s ≡ go es u) where
+  module _ (k k′ : ℕ) (i i′ : Stated) (s s′ : State) (es : List Entry) (u : State) (o : Onwards k k′ i i′ s s′)
+      (l : s .place .0 < 8 * length b) (q : readPacket t b k i s ≡ go es u) where
     abbrev e : Env
     e = toEnd t b (s .place)
 
@@ -157,7 +164,8 @@ module _ (t : Asked) (w : Fitting Positive (λ r. Any) Any t) (only : HeaderOnly
 
     y : Like e e′
     y = tail-like t b b′ (s .place) (s′ .place)
-        (gap .tail (s .place .0 / 8) (omega (arith, o .behind)) ∙ ap (λ n. drop n b′) bytes) (o .whole) (omega (arith, o .whole, o .place, gap .whole))
+        (gap .tail (s .place .0 / 8) (omega (arith, o .behind))
+        ∙ ap (λ n. drop n b′) bytes) (o .whole) (omega (arith, o .whole, o .place, gap .whole))
         (omega arith) (omega (arith, o .place, gap .lengths)) (omega (arith, o .place, gap .lengths))
       where
         bytes : s .place .0 / 8 - total / 8 ≡ s′ .place .0 / 8
@@ -177,8 +185,10 @@ module _ (t : Asked) (w : Fitting Positive (λ r. Any) Any t) (only : HeaderOnly
     lowered : Lowering (anew .c) (s .last) (s′ .last)
     lowered = lowering (anew .c) (s .last) (s′ .last) (o .last (anew .c) (ap (t .stream) (sym class-is) ∙ found))
 
-    moved : RanThere t b b′ (s .place) (s′ .place) y (lowered .l) rest i′ (less s) (x .others) u (omega arith, omega arith) anew (lowered .low)
-    moved = goes-there t b b′ (s .place) (s′ .place) y (lowered .l) rest i′ (less s) (x .others) u (omega arith, omega arith) anew (lowered .low)
+    moved : RanThere t b b′ (s .place) (s′ .place) y (lowered .l) rest i′ (less s) (x .others) u (omega arith, omega arith) anew
+        (lowered .low)
+    moved = goes-there t b b′ (s .place) (s′ .place) y (lowered .l) rest i′ (less s) (x .others) u (omega arith, omega arith) anew
+        (lowered .low)
 
     -- the state there, with as much room as here
     abbrev s″ : State
@@ -200,14 +210,24 @@ module _ (t : Asked) (w : Fitting Positive (λ r. Any) Any t) (only : HeaderOnly
     starts = sym (ap (λ z. start z (lowered .l (s .last))) at ∙ ap (start (s′ .place .0)) (lowered .takes))
       where
         start : ℕ → ℕ → State
-        start p n = record { place = bitPlace p; room = s .room - wordsPerEntry; slots = noSlots; order = Nothing; clock = 0; last = n; said = nothingSaid }
+        start p n = record {
+          place = bitPlace p;
+          room = s .room - wordsPerEntry;
+          slots = noSlots;
+          order = Nothing;
+          clock = 0;
+          last =
+              n;
+          said = nothingSaid;
+        }
 
         at : s′ .place .0 + (s .place .0 - s .place .0) ≡ s′ .place .0
         at = omega arith
 
     behind-there : packet t b′ (s′ .place) (8 * length b′ - s′ .place .0) i′ (less s″) ≡ go (farAll e e′ (x .others)) u″
     behind-there =
-        ap (λ n. packet t b′ (s′ .place) n i′ (less s″)) rests ∙ packet-from t b′ (s′ .place) rest i′ (less s″) (far e e′ (lowered .l) (less s)) starts
+        ap (λ n. packet t b′ (s′ .place) n i′ (less s″)) rests
+        ∙ packet-from t b′ (s′ .place) rest i′ (less s″) (far e e′ (lowered .l) (less s)) starts
         ∙ run t b′ (s′ .place) rest i′ (far e e′ (lowered .l) (less s)) (farAll e e′ (x .others)) u″ (moved .runs)
       where
         rests : 8 * length b′ - s′ .place .0 ≡ rest
@@ -236,7 +256,16 @@ module _ (t : Asked) (w : Fitting Positive (λ r. Any) Any t) (only : HeaderOnly
     unfolding more
     with-room =
         let r : s .room + (s′ .room - s .room) ≡ s′ .room = omega (arith, o .room) in
-        ap (λ z. record { place = s′ .place; room = z; slots = s′ .slots; order = s′ .order; clock = s′ .clock; last = s′ .last; said = s′ .said }) r
+        ap (λ z. record {
+          place = s′ .place;
+          room = z;
+          slots = s′ .slots;
+          order = s′ .order;
+          clock = s′ .clock;
+          last = s′ .last;
+          said =
+              s′ .said;
+        }) r
 
     on : Onwards (k + 1) (k′ + 1) (As (u .said .stream)) (As ((more d u″) .said .stream)) u (more d u″)
     unfolding more far
@@ -315,5 +344,6 @@ module _ (t : Asked) (w : Fitting Positive (λ r. Any) Any t) (only : HeaderOnly
           r = rec (g .middle) (p .u′) (p .onwards) (g .second) (g .goes-on)
 
           both : (readPacket t b′ k′ i′ ⨾ next′) s′ ≡ go (map (lower total) es) (r .u′)
-          both = join (readPacket t b′ k′ i′) next′ s′ (map (lower total) (g .first)) (p .u′) (map (lower total) (g .second)) (r .u′) (p .goes) (r .goes)
+          both = join (readPacket t b′ k′ i′) next′ s′ (map (lower total) (g .first)) (p .u′) (map (lower total) (g .second)) (r .u′)
+              (p .goes) (r .goes)
               ∙ ap (λ l. go l (r .u′)) (sym (map-append (lower total) (g .first) (g .second)) ∙ ap (map (lower total)) (sym (g .list)))

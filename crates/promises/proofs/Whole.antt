@@ -1,4 +1,5 @@
--- A packet that goes through, as its entries show it: entry 1 comes first and nowhere else, its first entry 3 says how far it reaches, and no entry
+-- A packet that goes through, as its entries show it: entry 1 comes first and nowhere else, its first entry 3 says how far it reaches,
+-- and no entry
 -- stands before its place.
 use mathlib.Core.Path.{_≡_, refl, sym, ap, _∙_, subst}
 use mathlib.Core.Logic.{_⊎_, inl, inr}
@@ -15,7 +16,8 @@ use Rattle.rules.specs.declared.Stated.{Stated}
 use Rattle.rules.specs.declared.Entry.{Entry}
 use Rattle.rules.specs.declared.Refusal.the-variants.{EventClassUnknown, EventTookNoBits, ClockWentBack}
 use Rattle.rules.specs.Limits.{wordsPerEntry}
-use Rattle.rules.specs.Entry.{entry, packetStarts, streamClassFound, lengthsSettled, eventStarts, eventClassFound, clockAdvanced, packetEnds}
+use Rattle.rules.specs.Entry.{entry, packetStarts, streamClassFound, lengthsSettled, eventStarts, eventClassFound, clockAdvanced}
+use Rattle.rules.specs.Entry.{packetEnds}
 use Rattle.rules.specs.Step.{State, Out, go, Step, _⨾_}
 use Rattle.rules.specs.Class.{Class}
 use Rattle.rules.specs.Table.{StreamClass, EventClass, Asked}
@@ -31,7 +33,8 @@ use Rattle.packet_alone.proofs.Ran.{Ran, RanWhole, ran, ran-whole}
 use Rattle.packet_alone.proofs.Ends.{ends-behind}
 use Rattle.promises.specs.Laws.{Rising}
 use Rattle.promises.specs.Apart.{totalIn}
-use Rattle.promises.proofs.Each.{Each, each-λ, each-refuse, each-check, each-due, each-change, each-listed, _⨾ᵉ_, FieldEntry, fields-root}
+use Rattle.promises.proofs.Each.{Each, each-λ, each-refuse, each-check, each-due, each-change, each-listed, _⨾ᵉ_, FieldEntry}
+use Rattle.promises.proofs.Each.{fields-root}
 use Rattle.promises.proofs.Rising.{RiseOut, Onward}
 use Rattle.promises.proofs.Packets.{Positive, Goes, Behind, go-packet}
 
@@ -47,7 +50,8 @@ field-not : (k : ℕ) → k < 6 → (x : Entry) → FieldEntry x → NotOf k x
 field-not k l x (inl p) q = omega arith
 field-not k l x (inr p) q = let g : 16 ≤ x .kind = p .0 in omega arith
 
-root-not : (k : ℕ) → k < 6 → (e : Env) (c : Option Class) (s : State) (es : List Entry) (u : State) → readRoot e c s ≡ go es u → All (NotOf k) es
+root-not : (k : ℕ) → k < 6 → (e : Env) (c : Option Class) (s : State) (es : List Entry) (u : State) → readRoot e c s ≡ go es u
+    → All (NotOf k) es
 unfolding listOf
 root-not k l e c s es u q = all-map (field-not k l) es (subst (λ o. All FieldEntry (listOf o)) q (fields-root e c .at s))
 
@@ -74,13 +78,15 @@ module _ (t : Asked) (c : StreamClass) (e : Env) where
   class-none : (i j : ℕ) (x : Option EventClass) → Each NoStart (withEvent i j x (inside j))
   unfolding withEvent
   class-none i j none = each-refuse NoStart (EventClassUnknown i j)
-  class-none i j (some d) = mark-none eventClassFound 0 j (λ q. omega arith) ⨾ⁿ root-none e (c .common) ⨾ⁿ root-none e (d .specific) ⨾ⁿ root-none e (d .payload)
+  class-none i j (some d) = mark-none eventClassFound 0 j (λ q. omega arith) ⨾ⁿ root-none e (c .common) ⨾ⁿ root-none e (d .specific)
+      ⨾ⁿ root-none e (d .payload)
 
   event-none : (n : ℕ) → Each NoStart (readEvent t c e n)
   unfolding readEvent
   event-none n = record {
     at = λ s₀.
-        (each-due NoStart ⨾ⁿ mark-none eventStarts 0 n (λ q. omega arith) ⨾ⁿ each-change NoStart startEvent ⨾ⁿ root-none e (c .header) ⨾ⁿ each-check NoStart _ ClockWentBack
+        (each-due NoStart ⨾ⁿ mark-none eventStarts 0 n (λ q. omega arith) ⨾ⁿ each-change NoStart startEvent ⨾ⁿ root-none e (c .header)
+        ⨾ⁿ each-check NoStart _ ClockWentBack
         ⨾ⁿ each-change NoStart _ ⨾ⁿ each-due NoStart
         ⨾ⁿ record { at = λ s. class-none (c .id) (s .said .event) (t .event (c .id) (s .said .event)) .at s }
         ⨾ⁿ each-check NoStart (λ s. eqb (s .place .0) (s₀ .place .0)) EventTookNoBits) .at s₀;
@@ -88,9 +94,11 @@ module _ (t : Asked) (c : StreamClass) (e : Env) where
 
   end-none : (to : BitPlace) (n : ℕ) → Each NoStart (endPacket to n)
   unfolding endPacket
-  end-none to n = each-due NoStart ⨾ⁿ record { at = λ s. each-listed NoStart (entry packetEnds to (to .0 - s .place .0) n) to s (λ q. omega arith) }
+  end-none to n = each-due NoStart
+      ⨾ⁿ record { at = λ s. each-listed NoStart (entry packetEnds to (to .0 - s .place .0) n) to s (λ q. omega arith) }
 
-  none-if : (b : Bool) (x y : Out) → All NoStart (listOf x) → All NoStart (listOf y) → All NoStart (listOf (elim b [ true ↦ x | false ↦ y ]))
+  none-if : (b : Bool) (x y : Out) → All NoStart (listOf x) → All NoStart (listOf y)
+      → All NoStart (listOf (elim b [ true ↦ x | false ↦ y ]))
   none-if true x y h k = h
   none-if false x y h k = k
 
@@ -106,9 +114,11 @@ module _ (t : Asked) (c : StreamClass) (e : Env) where
 total-skip : (es fs : List Entry) → All (NotOf lengthsSettled) es → totalIn (es ++ fs) ≡ totalIn fs
 unfolding totalIn
 total-skip [] fs h = refl
-total-skip (x ∷ es) fs h = ap (λ b. elim b [ true ↦ x .bits | false ↦ totalIn (es ++ fs) ]) (ne-eqb (x .kind) lengthsSettled (h .0)) ∙ total-skip es fs (h .1)
+total-skip (x ∷ es) fs h = ap (λ b. elim b [ true ↦ x .bits | false ↦ totalIn (es ++ fs) ]) (ne-eqb (x .kind) lengthsSettled (h .0))
+    ∙ total-skip es fs (h .1)
 
-module _ (t : Asked) (b : List ℕ) (p : BitPlace) (rest : ℕ) (i : Stated) (s : State) (es : List Entry) (u : State) (r : Ran t b p rest i s es u) where
+module _ (t : Asked) (b : List ℕ) (p : BitPlace) (rest : ℕ) (i : Stated) (s : State) (es : List Entry) (u : State)
+    (r : Ran t b p rest i s es u) where
   abbrev found : Entry
   found = entry streamClassFound (r .s₁ .place) 0 (r .s₁ .said .stream)
 
@@ -128,9 +138,11 @@ module _ (t : Asked) (b : List ℕ) (p : BitPlace) (rest : ℕ) (i : Stated) (s 
 
   all-none : All NoStart es
   all-none =
-      subst (All NoStart) (sym (r .list)) (all-append NoStart (r .es₁) _ (not-header packetStarts (omega arith))
-      ((λ (q : streamClassFound ≡ packetStarts). omega arith), all-append NoStart (r .es₂) (r .es₃) (not-context packetStarts (omega arith))
-      (subst (All NoStart) (sym (r .content .list)) ((λ (q : lengthsSettled ≡ packetStarts). omega arith), events-not))))
+      subst (All NoStart) (sym (r .list)) (all-append NoStart (r .es₁) _ (not-header packetStarts (omega arith)) (
+        (λ (q : streamClassFound ≡ packetStarts). omega arith),
+        all-append NoStart (r .es₂) (r .es₃) (not-context packetStarts (omega arith))
+            (subst (All NoStart) (sym (r .content .list)) ((λ (q : lengthsSettled ≡ packetStarts). omega arith), events-not)),
+      ))
 
   total-is : totalIn es ≡ totalOf rest (r .s₂)
   total-is =
@@ -163,14 +175,16 @@ pub record Whole (t : Asked) (b : List ℕ) (k : ℕ) (i : Stated) (s : State) (
   pub room : ltb (s .room) wordsPerEntry ≡ false
   pub ran : Ran t b (s .place) (8 * length b - s .place .0) i (less s) others u
 
-pub whole-packet : (t : Asked) → Fitting Positive (λ r. Any) Any t → (b : List ℕ) (k : ℕ) (i : Stated) (s : State) (es : List Entry) (u : State)
+pub whole-packet : (t : Asked) → Fitting Positive (λ r. Any) Any t
+    → (b : List ℕ) (k : ℕ) (i : Stated) (s : State) (es : List Entry) (u : State)
     → s .place .0 < 8 * length b → s .place .0 % 8 ≡ 0 → readPacket t b k i s ≡ go es u → Whole t b k i s es u
 whole-packet t w b k i s es u l z q = record {
   others = a .others;
   list = a .list;
   none = all-none t b (s .place) _ i (less s) (a .others) u r;
   behind = subst (All (λ x. s .place .0 ≤ x .place .0)) (a .list) (rising-all es (s .place .0) (u .place .0) rises) .1;
-  total = ends-behind t b (s .place) _ i (less s) (a .others) u r ∙ ap (λ n. s .place .0 + n) (sym (total-is t b (s .place) _ i (less s) (a .others) u r));
+  total = ends-behind t b (s .place) _ i (less s) (a .others) u r
+      ∙ ap (λ n. s .place .0 + n) (sym (total-is t b (s .place) _ i (less s) (a .others) u r));
   takes = g .0;
   whole = g .1;
   inStream = g .2;

@@ -1,4 +1,5 @@
--- Packets stand on their own: from an accepted stream of two or more packets one whole packet is removed, and the rest reads as it did. In order:
+-- Packets stand on their own: from an accepted stream of two or more packets one whole packet is removed, and the rest reads as it did.
+-- In order:
 -- a packet in a list, by its number; the list and the stream without it; the statement, of the rules; and of two calls of the reader.
 use mathlib.Core.Path.{_≡_}
 use Prim.Native.Nat.{ℕ, zero, suc, _+_, _-_, _*_, _/_, _<_}
@@ -61,7 +62,8 @@ unfoldable pub bytesWithout : ℕ → List Entry → List ℕ → List ℕ
 bytesWithout k es b =
     take (placeIn (fromPacket k es) / 8) b ++ drop ((placeIn (fromPacket k es) + totalIn (fromPacket k es)) / 8) b
 
--- "From an accepted stream of two or more packets remove one whole packet. The remaining stream is accepted with the same room": a table x, a
+-- "From an accepted stream of two or more packets remove one whole packet. The remaining stream is accepted with the same room": a table
+-- x, a
 -- stream b, a room, and the number k of any of its packets
 
 abbrev pub Apart : Type 0
@@ -73,7 +75,8 @@ Apart = (x b : List ℕ) (room k : ℕ) → numberOf ((readAll x b room) .verdic
       verdict = Accepted (bitPlace (8 * length b - totalIn (fromPacket k ((readAll x b room) .entries))));
     }
 
--- The same of two calls, by one table: of a stream b, and of a stream b′ that is b without the packet k of the first call's list, with lists of one
+-- The same of two calls, by one table: of a stream b, and of a stream b′ that is b without the packet k of the first call's list, with
+-- lists of one
 -- length. The first was accepted, with two packets or more
 
 abbrev pub resultWithout : ℕ → List ℕ → List Entry → Result

@@ -51,5 +51,8 @@ pub fn read_without(
 {
     let whole = read(table, stream, list);
     let rest = read(table, shorter, other);
-    Both { first: whole, second: rest }
+    Both {
+        first: whole,
+        second: rest,
+    }
 }
