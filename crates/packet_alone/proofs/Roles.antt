@@ -51,6 +51,7 @@ use Rattle.rules.specs.Parse.{parseOptions, selected, parseShape, parseBody, pa
 use Rattle.rules.specs.Parse.{rootNumbers, isTimed, hasUuid, add, parseFragment, parseOpened, parseFragments, parse}
 use Rattle.rules.specs.Faults.{pick, Seen, recordFault, Spot, top, inside, memberSpot, Under, roleOf, roles, numberRole, blobRole, badRole}
 use Rattle.rules.specs.Faults.{badSlot, badNumber, classFault, isTop, optionFault, rootFault, openFault, seen, firstFault, noneSeen}
+use Rattle.facts.proofs.Truth.{and-left}
 use Rattle.facts.proofs.Faults.{pick-zero, pick-false}
 use Rattle.laws.proofs.Sound.{no-fault}
 use Rattle.laws.proofs.Triple.{Ok, Triple, then as thenᵗ, passing, changing, refusing, checks, untested, dued}
@@ -99,10 +100,6 @@ pub record HeaderOnly (t : Asked) : Type 0 where
 
 -- A sound record's role
 
-and-first : (a b : Bool) → a && b ≡ true → a ≡ true
-and-first true b q = refl
-and-first false b q = q
-
 not-id : (r : ℕ) → (r ≡ 0) → Other (roleOf r)
 unfolding roleOf roles
 not-id r p q = let z : noRole ≡ streamClassId = sym (ap (λ x. getD roles x noRole) p) ∙ q in let n : _≡_ {A = ℕ} 0 1 = cc in omega arith
@@ -119,7 +116,7 @@ role-in u z y h g = by (eqb (y .kind) 25) h
     bytes : (a b : Bool) → eqb (y .role) 0 ≡ a → eqb (y .role) 4 && eqb (u .root) 0 && eqb (y .count) 16 && u .uuid ≡ b
         → not (a || b) ≡ false → Other (roleOf (y .role))
     bytes true b p q n = not-id (y .role) (eqb-true _ _ p)
-    bytes false true p q n = not-id-4 (y .role) (eqb-true _ _ (and-first _ _ (and-first _ _ (and-first _ _ q))))
+    bytes false true p q n = not-id-4 (y .role) (eqb-true _ _ (and-left _ _ (and-left _ _ (and-left _ _ q))))
     bytes false false p q n = let w : _≡_ {A = ℕ} 0 1 = cc in absurd (omega arith)
 
     number : not (numberRole (roleOf (y .role)) u z y) ≡ false → Other (roleOf (y .role))

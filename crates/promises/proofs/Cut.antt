@@ -78,12 +78,12 @@ module _ (p : BitPlace) (k : ℕ) (es others : List Entry) (list : es ≡ entry 
   total-append : (xs fs : List Entry) → 0 < totalIn xs → totalIn (xs ++ fs) ≡ totalIn xs
   unfolding totalIn
   total-append [] fs h = absurd (omega arith)
-  total-append (x ∷ xs) fs h = by (eqb (x .kind) lengthsSettled) h (λ g. total-append xs fs g)
+  total-append (x ∷ xs) fs h = by (eqb (x .kind) lengthsSettled) _ h (λ g. total-append xs fs g)
     where
-      by : (b : Bool) → 0 < elim b [ true ↦ x .bits | false ↦ totalIn xs ] → (0 < totalIn xs → totalIn (xs ++ fs) ≡ totalIn xs)
-          → _≡_ {A = ℕ} (elim b [ true ↦ x .bits | false ↦ totalIn (xs ++ fs) ]) (elim b [ true ↦ x .bits | false ↦ totalIn xs ])
-      by true g r = refl
-      by false g r = r g
+      by : (b : Bool) (n : ℕ) → 0 < elim b [ true ↦ n | false ↦ totalIn xs ] → (0 < totalIn xs → totalIn (xs ++ fs) ≡ totalIn xs)
+          → _≡_ {A = ℕ} (elim b [ true ↦ n | false ↦ totalIn (xs ++ fs) ]) (elim b [ true ↦ n | false ↦ totalIn xs ])
+      by true n g r = refl
+      by false n g r = r g
 
   pub total-at : (fs : List Entry) → 0 < totalIn others → totalIn (es ++ fs) ≡ totalIn others
   total-at fs h = ap (λ l. totalIn (l ++ fs)) list ∙ past ∙ total-append others fs h

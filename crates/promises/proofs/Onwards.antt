@@ -40,7 +40,7 @@ use Rattle.packet_alone.proofs.There.{RanThere, goes-there}
 use Rattle.promises.specs.Apart.{numberLower, lower}
 use Rattle.promises.proofs.Packets.{Positive}
 use Rattle.promises.proofs.Room.{more, room-packet}
-use Rattle.promises.proofs.Whole.{NotOf, Whole, whole-packet}
+use Rattle.promises.proofs.Whole.{NotOf, if-false, Whole, whole-packet}
 
 -- Small facts
 
@@ -111,8 +111,8 @@ lower-one : (e e′ : Env) (total : ℕ) → e′ .start .0 + total ≡ e .start
 unfolding lower numberLower farEntry
 lower-one e e′ total h x n l =
     let p : x .place .0 - total ≡ e′ .start .0 + (x .place .0 - e .start .0) = omega arith in
-    ap (λ b. entry (x .kind) (bitPlace (x .place .0 - total)) (x .bits) (elim b [ true ↦ x .value - 1 | false ↦ x .value ]))
-    (ne-eqb (x .kind) packetStarts n)
+    ap (λ v. entry (x .kind) (bitPlace (x .place .0 - total)) (x .bits) v)
+    (if-false (eqb (x .kind) packetStarts) _ _ (ne-eqb (x .kind) packetStarts n))
     ∙ ap (λ z. entry (x .kind) (bitPlace z) (x .bits) (x .value)) p
 
 lower-all : (e e′ : Env) (total : ℕ) → e′ .start .0 + total ≡ e .start .0 → (es : List Entry) → All (NotOf packetStarts) es

