@@ -1,6 +1,6 @@
 -- The law of a packet, as it is used: what reads in place reads among its own bytes, and the other way.
 use mathlib.Core.Path.{_≡_, refl, sym, ap, _∙_, subst}
-use mathlib.Core.Logic.{_⊎_, inl, inr}
+use mathlib.Core.Logic.{inl, inr}
 use Prim.Native.Nat.{ℕ, _*_, _≤_}
 use native.Mathlib.Omega.{arith}
 use mathlib.Core.List.{List}
@@ -8,14 +8,13 @@ use lib.ListN.{length}
 use Rattle.rules.specs.declared.BitPlace.{BitPlace}
 use Rattle.rules.specs.declared.Stated.{Stated}
 use Rattle.rules.specs.declared.Entry.{Entry}
-use Rattle.rules.specs.declared.Refusal.{Refusal}
 use Rattle.rules.specs.declared.Stop.{Stop}
 use Rattle.rules.specs.Step.{State, Out, stop, go}
 use Rattle.rules.specs.Table.{Asked}
 use Rattle.rules.specs.Field.{Env}
 use Rattle.laws.specs.Between.{Between}
 use Rattle.packet_alone.specs.Behind.{packet}
-use Rattle.packet_alone.proofs.Far.{away, farAll, farStop, far, farOut, Short, Cut, Rel}
+use Rattle.packet_alone.proofs.Far.{away, farAll, farStop, far, farOut, Short, Rel}
 use Rattle.packet_alone.proofs.Pair.{Like}
 use Rattle.packet_alone.proofs.Beside.{same, e₀, e₁, tail-packet}
 

@@ -1,7 +1,7 @@
 -- A packet that ends where two streams still agree, or before, reads the same in both: it reads among the bytes that they share, and from
 -- there
 -- in the other. What stands for its lengths, were none stated, is the whole rest of its stream, which it does not take.
-use mathlib.Core.Path.{_≡_, refl, sym, ap, _∙_, subst}
+use mathlib.Core.Path.{_≡_, refl, sym, ap, _∙_}
 use Prim.Native.Nat.{ℕ, _+_, _-_, _*_, _/_, _%_, _≤_, _<_}
 use native.Mathlib.Omega.{arith}
 use mathlib.Core.List.{List, [], _∷_, _++_, append-nil}
@@ -22,7 +22,7 @@ use Rattle.packet_alone.proofs.Far.{farEntry, farAll, far}
 use Rattle.packet_alone.proofs.Pair.{Like}
 use Rattle.packet_alone.proofs.Beside.{same}
 use Rattle.packet_alone.proofs.Alone.{Went, reads-alone, reads-there}
-use Rattle.packet_alone.proofs.Ran.{Ran, RanWhole, ran, run, ran-whole, run-whole}
+use Rattle.packet_alone.proofs.Ran.{RanWhole, ran, run, ran-whole, run-whole}
 use Rattle.packet_alone.proofs.Ends.{any-rest}
 
 prefix-like : (t : Asked) (w v : List ℕ) (p : BitPlace) → p .0 % 8 ≡ 0 → p .0 ≤ 8 * length w → Like (toEnd t w p) (toEnd t (w ++ v) p)

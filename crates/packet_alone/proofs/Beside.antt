@@ -1,10 +1,15 @@
--- A packet among its own bytes, and the same packet in a longer stream.
+-- A packet beside the same packet in another stream. In order: its parts and an event, as pairs of steps; all events, as one equation
+-- where both
+-- bounds are as far; lengths and events; and THE LAW, `tail-packet`: a whole packet behind its entry 1, for any two places and any two
+-- streams
+-- that hold the same bytes there, with the exception that `Far` says (`Cut`). A content's steps come last: they may go behind the first
+-- bound.
 use mathlib.Core.Path.{_≡_, refl, sym, ap, _∙_, subst}
-use mathlib.Core.Logic.{_⊎_, inl, inr, ⊎-elim}
-use Prim.Native.Nat.{ℕ, zero, suc, _+_, _-_, _*_, _/_, _%_, _≤_, _<_}
+use mathlib.Core.Logic.{inl, inr}
+use Prim.Native.Nat.{ℕ, zero, suc, _+_, _-_, _*_, _%_, _≤_, _<_}
 use native.Mathlib.Omega.{arith}
 use native.Mathlib.Nat.{le-refl}
-use mathlib.Core.List.{List, [], _∷_, _++_}
+use mathlib.Core.List.{List, [], _∷_}
 use mathlib.Core.Bool.{Bool, true, false, not, _&&_, _||_}
 use mathlib.Core.Option.{Option, none, some}
 use lib.ListN.{length}
@@ -25,16 +30,14 @@ use Rattle.rules.specs.Table.{StreamClass, EventClass, Asked}
 use Rattle.rules.specs.Field.{Env}
 use Rattle.rules.specs.Packet.{mark, readRoot, withEvent, startEvent, readEvent, endPacket, readEvents, orElse, above, readContent}
 use Rattle.rules.specs.Packet.{withStream, differs, startPacket, readPacket}
-use Rattle.facts.proofs.Steps.{onto-nil, onto-onto, after-onto}
-use Rattle.facts.proofs.Truth.{clash}
+use Rattle.facts.proofs.Steps.{onto-nil, after-onto}
 use Rattle.laws.specs.Between.{Between}
-use Rattle.laws.proofs.Law.{Any, Law}
-use Rattle.laws.proofs.Triple.{Ok, Triple, ok-after, changing, checks, refusing, dued, passing}
+use Rattle.laws.proofs.Triple.{Ok, changing, checks, refusing}
 use Rattle.laws.proofs.Between.{Held, In, At, NoMore, Holding}
-use Rattle.packet_alone.specs.Behind.{upTo, toEnd, less, contradict, eventsOf, contentStep, ofClass, ofStream, packet}
-use Rattle.packet_alone.proofs.Far.{away, farEntry, farAll, far, farOut, far-append, far-onto, Exact, exact-seq, exact-refuse}
+use Rattle.packet_alone.specs.Behind.{upTo, toEnd, contradict, eventsOf, contentStep, ofClass, ofStream, packet}
+use Rattle.packet_alone.proofs.Far.{away, farEntry, farAll, far, farOut, far-onto, Exact, exact-refuse}
 use Rattle.packet_alone.proofs.Far.{exact-pass, Cut, Rel, rel-check, rel-due}
-use Rattle.packet_alone.proofs.Pair.{Like, Pair, pairs, pair-root, R, F, onto-go, through, exact-check, exact-change, exact-due}
+use Rattle.packet_alone.proofs.Pair.{Like, Pair, pairs, pair-root, onto-go, through}
 use Rattle.packet_alone.proofs.Pair.{from, there-between, rel-onto, seq-pair}
 
 -- the last event's clock as it is
@@ -51,10 +54,10 @@ eqb-away p p′ x z h k = by (eqb x z) refl
 
 module _ (e e′ : Env) (y : Like e e′) where
   abbrev pub far′ : State → State
-  far′ s = F e e′ y same s
+  far′ s = far e e′ same s
 
-  abbrev pub P : Step → Step → Type 0
-  P m m′ = Pair e e′ y same m m′
+  abbrev pub Alike : Step → Step → Type 0
+  Alike m m′ = Pair e e′ y same m m′
 
   -- primitives of packets and events, as pairs
   pub held-here : (x : Env) (q : ℕ) (k n v : ℕ) → Holding x (λ p d. q ≤ p) (mark k n v)
@@ -71,15 +74,16 @@ module _ (e e′ : Env) (y : Like e e′) where
   held-refuse : (x : Env) (q : ℕ) (r : Refusal) → Holding x (λ p d. q ≤ p) (refuse r)
   held-refuse x q r = refusing (In x) (At x) (NoMore x) (λ r i s h. (h .from, h .to)) r tt
 
-  of-exact : {m m′ : Step} → Exact e e′ m m′ → ((q : ℕ) → Holding e (λ p d. q ≤ p) m) → ((q : ℕ) → Holding e′ (λ p d. q ≤ p) m′) → P m m′
+  of-exact : {m m′ : Step} → Exact e e′ m m′ → ((q : ℕ) → Holding e (λ p d. q ≤ p) m) → ((q : ℕ) → Holding e′ (λ p d. q ≤ p) m′)
+      → Alike m m′
   of-exact x h h′ = record { rel = λ s b. inl (x .at same s); held = h; held′ = h′ }
 
-  pair-mark : (k n v : ℕ) → P (mark k n v) (mark k n v)
+  pair-mark : (k n v : ℕ) → Alike (mark k n v) (mark k n v)
   pair-mark k n v = of-exact (record { at = λ l s. unfold mark listed farOut farAll farEntry far in refl }) (λ q. held-here e q k n v)
       (λ q. held-here e′ q k n v)
 
   pair-check : (t t′ : State → Bool) (r : Refusal) → ((s : State) → Between e (s .place .0) → t′ (far′ s) ≡ t s)
-      → P (check t r) (check t′ r)
+      → Alike (check t r) (check t′ r)
   unfolding check
   pair-check t t′ r h = record {
     rel = λ s b. inl (ap (λ x. elim x [ true ↦ refuse r (far′ s) | false ↦ pass (far′ s) ]) (h s b) ∙ by s (t s));
@@ -92,33 +96,33 @@ module _ (e e′ : Env) (y : Like e e′) where
       by s true = exact-refuse e e′ r .at same s
       by s false = exact-pass e e′ .at same s
 
-  pub pair-due : P due due
+  pub pair-due : Alike due due
   unfolding due
   pair-due = pair-check _ _ ListFull (λ s b. unfold far in refl)
 
-  pair-refuse : (r : Refusal) → P (refuse r) (refuse r)
+  pair-refuse : (r : Refusal) → Alike (refuse r) (refuse r)
   pair-refuse r = of-exact (exact-refuse e e′ r) (λ q. held-refuse e q r) (λ q. held-refuse e′ q r)
 
   pair-change : (f : State → State) → ((s : State) → (f s) .place ≡ s .place) → ((s : State) → f (far′ s) ≡ far′ (f s))
-      → P (change f) (change f)
+      → Alike (change f) (change f)
   unfolding change farOut farAll
   pair-change f g h = record { rel = λ s b. inl (ap (go []) (h s)); held = λ q. held-change e q f g; held′ = λ q. held-change e′ q f g }
 
   infixr 20 _⨾ᵖ_
-  pub _⨾ᵖ_ : {m n m′ n′ : Step} → P m m′ → P n n′ → P (m ⨾ n) (m′ ⨾ n′)
+  pub _⨾ᵖ_ : {m n m′ n′ : Step} → Alike m m′ → Alike n n′ → Alike (m ⨾ n) (m′ ⨾ n′)
   h ⨾ᵖ k = seq-pair e e′ y same h k
 
   -- a step that looks at the state
-  pair-look : (f f′ : State → Step) → ((s : State) → Between e (s .place .0) → P (f s) (f′ (far′ s)))
+  pair-look : (f f′ : State → Step) → ((s : State) → Between e (s .place .0) → Alike (f s) (f′ (far′ s)))
       → ((s : State) (q : ℕ) → Holding e (λ p d. q ≤ p) (f s))
-      → ((s : State) (q : ℕ) → Holding e′ (λ p d. q ≤ p) (f′ s)) → P (λ s. f s s) (λ s. f′ s s)
+      → ((s : State) (q : ℕ) → Holding e′ (λ p d. q ≤ p) (f′ s)) → Alike (λ s. f s s) (λ s. f′ s s)
   pair-look f f′ h g g′ = record {
     rel = λ s b. h s b .rel s b;
     held = λ q. record { at = λ s a. g s q .at s a };
     held′ = λ q. record { at = λ s a. g′ s q .at s a };
   }
 
-  pub root : (c : Option _) → P (readRoot e c) (readRoot e′ c)
+  pub root : (c : Option _) → Alike (readRoot e c) (readRoot e′ c)
   root c = pair-root e e′ y same c
 
   -- an event
@@ -134,39 +138,39 @@ module _ (e e′ : Env) (y : Like e e′) where
         ⨾ check (λ s. c .timed && ltb (s .clock) (s .last)) ClockWentBack
         ⨾ change (λ s. withLast (s .clock) s) ⨾ due ⨾ (λ s. found x s s) ⨾ check (λ s. eqb (s .place .0) (s₀ .place .0)) EventTookNoBits
 
-    by-class : (i j k : ℕ) (o : Option EventClass) → P (withEvent i j o (inside e k)) (withEvent i j o (inside e′ k))
+    by-class : (i j k : ℕ) (o : Option EventClass) → Alike (withEvent i j o (inside e k)) (withEvent i j o (inside e′ k))
     unfolding withEvent
     by-class i j k none = pair-refuse (EventClassUnknown i j)
     by-class i j k (some d) = pair-mark eventClassFound 0 k ⨾ᵖ root (c .common) ⨾ᵖ root (d .specific) ⨾ᵖ root (d .payload)
 
-    pub pair-found : P (λ s. found e s s) (λ s. found e′ s s)
+    pub pair-found : Alike (λ s. found e s s) (λ s. found e′ s s)
     unfolding far
     pair-found = pair-look (found e) (found e′)
         (λ s b. by-class (c .id) (s .said .event) (s .said .event) (t .event (c .id) (s .said .event)))
         (λ s q. by-class (c .id) (s .said .event) (s .said .event) (t .event (c .id) (s .said .event)) .held q)
         (λ s q. by-class (c .id) (s .said .event) (s .said .event) (t .event (c .id) (s .said .event)) .held′ q)
 
-    pair-starts : P (change startEvent) (change startEvent)
+    pair-starts : Alike (change startEvent) (change startEvent)
     unfolding startEvent far
     pair-starts = pair-change startEvent (λ s. refl) (λ s. refl)
 
-    pair-back : P (check (λ s. c .timed && ltb (s .clock) (s .last)) ClockWentBack)
+    pair-back : Alike (check (λ s. c .timed && ltb (s .clock) (s .last)) ClockWentBack)
         (check (λ s. c .timed && ltb (s .clock) (s .last)) ClockWentBack)
     unfolding far
     pair-back = pair-check _ _ ClockWentBack (λ s b. refl)
 
-    pair-last : P (change (λ s. withLast (s .clock) s)) (change (λ s. withLast (s .clock) s))
+    pair-last : Alike (change (λ s. withLast (s .clock) s)) (change (λ s. withLast (s .clock) s))
     unfolding withLast far
     pair-last = pair-change _ (λ s. refl) (λ s. refl)
 
     pub pair-moved : (s₀ : State) → Between e (s₀ .place .0)
-        → P (check (λ s. eqb (s .place .0) (s₀ .place .0)) EventTookNoBits)
+        → Alike (check (λ s. eqb (s .place .0) (s₀ .place .0)) EventTookNoBits)
         (check (λ s. eqb (s .place .0) ((far′ s₀) .place .0)) EventTookNoBits)
     unfolding far
     pair-moved s₀ b₀ = pair-check _ _ EventTookNoBits
         (λ s b. eqb-away (e .start .0) (e′ .start .0) (s .place .0) (s₀ .place .0) (b .0) (b₀ .0))
 
-    whole : (s₀ : State) → Between e (s₀ .place .0) → P (body e s₀) (body e′ (far′ s₀))
+    whole : (s₀ : State) → Between e (s₀ .place .0) → Alike (body e s₀) (body e′ (far′ s₀))
     whole s₀ b₀ = pair-due ⨾ᵖ pair-mark eventStarts 0 n ⨾ᵖ pair-starts ⨾ᵖ root (c .header) ⨾ᵖ pair-back ⨾ᵖ pair-last ⨾ᵖ pair-due
         ⨾ᵖ pair-found ⨾ᵖ pair-moved s₀ b₀
 
@@ -184,7 +188,7 @@ module _ (e e′ : Env) (y : Like e e′) where
         (g .seq (held-check x q (λ s. c .timed && ltb (s .clock) (s .last)) ClockWentBack)
         (g .seq lasts (g .seq full (g .seq (f q) (held-check x q (λ s. eqb (s .place .0) (s₀ .place .0)) EventTookNoBits))))))))
 
-    pub pair-event : P (readEvent t c e n) (readEvent t c e′ n)
+    pub pair-event : Alike (readEvent t c e n) (readEvent t c e′ n)
     unfolding readEvent
     pair-event = pair-look (body e) (body e′) (λ s b. whole s b) (λ s q. holds e (λ o q. root o .held q) (pair-found .held) s q)
         (λ s q. holds e′ (λ o q. root o .held′ q) (pair-found .held′) s q)
@@ -226,10 +230,10 @@ module _ (e e′ : Env) (y : Like e e′) where
 
   -- where the bounds are as far, all is the same
   module _ (equal : e′ .bound .0 - e′ .start .0 ≤ e .bound .0 - e .start .0) where
-    exactly : {m m′ : Step} → P m m′ → (s : State) → Between e (s .place .0) → m′ (far′ s) ≡ farOut e e′ same (m s)
+    exactly : {m m′ : Step} → Alike m m′ → (s : State) → Between e (s .place .0) → m′ (far′ s) ≡ farOut e e′ same (m s)
     exactly {m} {m′} h s b = by (h .rel s b)
       where
-        by : R e e′ y same (m s) (m′ (far′ s)) → m′ (far′ s) ≡ farOut e e′ same (m s)
+        by : Rel e e′ same (m s) (m′ (far′ s)) → m′ (far′ s) ≡ farOut e e′ same (m s)
         by (inl p) = p
         by (inr c) = absurd (omega (arith, c .wider))
 
@@ -311,17 +315,17 @@ events-end t c x to n (suc left) s fs u q = by (ltb (s .place .0) (x .bound .0))
 true-false : true ≡ false → ⊥
 true-false q = let z : _≡_ {A = ℕ} 0 1 = cc in omega arith
 
-pub four : (a b c d : Bool) → a || b || c || d ≡ false → (b ≡ false) × (c ≡ false) × (d ≡ false)
-four false false false false q = (refl, refl, refl)
-four false false false true q = absurd (true-false q)
-four false false true d q = absurd (true-false q)
-four false true c d q = absurd (true-false q)
-four true b c d q = absurd (true-false q)
+pub none-of-four : (a b c d : Bool) → a || b || c || d ≡ false → (b ≡ false) × (c ≡ false) × (d ≡ false)
+none-of-four false false false false q = (refl, refl, refl)
+none-of-four false false false true q = absurd (true-false q)
+none-of-four false false true d q = absurd (true-false q)
+none-of-four false true c d q = absurd (true-false q)
+none-of-four true b c d q = absurd (true-false q)
 
-third : (a b d : Bool) → a || b || true || d ≡ true
-third false false d = refl
-third false true d = refl
-third true b d = refl
+third-of-four : (a b d : Bool) → a || b || true || d ≡ true
+third-of-four false false d = refl
+third-of-four false true d = refl
+third-of-four true b d = refl
 
 -- A packet's content. In order: the stream, from the packet's place P; and another, from P there
 module _ (t : Asked) (b b′ : List ℕ) (p p′ : BitPlace) where
@@ -442,13 +446,13 @@ module _ (t : Asked) (b b′ : List ℕ) (p p′ : BitPlace) where
           let z : x .place ≡ further p′ total = events-end t c (upTo t b′ p′ (p′ .0 + content)) (further p′ total) 0 _ _ (k .0) x (k .1) in
           ap (λ w. w .0) z
 
-      abbrev bad : State → Bool
-      bad = contradict b p total content
+      abbrev fault : State → Bool
+      fault = contradict b p total content
 
-      abbrev bad′ : State → Bool
-      bad′ = contradict b′ p′ total content
+      abbrev fault′ : State → Bool
+      fault′ = contradict b′ p′ total content
 
-      -- the fourth test comes out the same; the third one too where the total fits here
+      -- the fourth test comes out the same; the third-of-four one too where the total fits here
       short-same : (s : State) → p .0 ≤ s .place .0 → ltb (p′ .0 + content) ((F₀ s) .place .0) ≡ ltb (p .0 + content) (s .place .0)
       unfolding far
       short-same s f = by (ltb (p .0 + content) (s .place .0)) refl
@@ -463,8 +467,8 @@ module _ (t : Asked) (b b′ : List ℕ) (p p′ : BitPlace) where
               let v′ : p′ .0 + (s .place .0 - p .0) ≤ p′ .0 + content = omega arith in
               le-ltb _ _ v′
 
-      pub bad-same : (s : State) → p .0 ≤ s .place .0 → ltb (8 * length b) (p .0 + total) ≡ false → bad′ (F₀ s) ≡ bad s
-      bad-same s f q =
+      pub contradict-same : (s : State) → p .0 ≤ s .place .0 → ltb (8 * length b) (p .0 + total) ≡ false → fault′ (F₀ s) ≡ fault s
+      contradict-same s f q =
           let v : p .0 + total ≤ 8 * length b = ltb-false _ _ q in
           let v′ : p′ .0 + total ≤ 8 * length b′ = omega (arith, y .narrower, y .inside, y .inside′) in
           let q′ : ltb (8 * length b′) (p′ .0 + total) ≡ ltb (8 * length b) (p .0 + total) = le-ltb _ _ v′ ∙ sym q in
@@ -484,38 +488,38 @@ module _ (t : Asked) (b b′ : List ℕ) (p p′ : BitPlace) where
           → s .place .0 ≤ x .place .0
       unfolding readContent due
       content-onward s fs x q =
-          let g : (check bad′ LengthsContradict ⨾ behind′) s ≡ go fs x =
-          through _ ListFull (check bad′ LengthsContradict ⨾ behind′) s fs x q in
-          let f = four (not (eqb (total % 8) 0)) (ltb total content) (ltb (8 * length b′) (p′ .0 + total))
-          (ltb (p′ .0 + content) (s .place .0)) (passed bad′ LengthsContradict behind′ s fs x g) in
+          let g : (check fault′ LengthsContradict ⨾ behind′) s ≡ go fs x =
+          through _ ListFull (check fault′ LengthsContradict ⨾ behind′) s fs x q in
+          let f = none-of-four (not (eqb (total % 8) 0)) (ltb total content) (ltb (8 * length b′) (p′ .0 + total))
+          (ltb (p′ .0 + content) (s .place .0)) (passed fault′ LengthsContradict behind′ s fs x g) in
           let m : content ≤ total = ltb-false _ _ (f .0) in
           let n : s .place .0 ≤ p′ .0 + content = ltb-false _ _ (f .2) in
-          let z : x .place .0 ≡ p′ .0 + total = behind-end s fs x (through bad′ LengthsContradict behind′ s fs x g) in
+          let z : x .place .0 ≡ p′ .0 + total = behind-end s fs x (through fault′ LengthsContradict behind′ s fs x g) in
           omega arith
 
-      good : (s : State) → Between e₀ (s .place .0) → bad s ≡ false → Rel e₀ e₁ same (after (pass s) behind) (after (pass (F₀ s)) behind′)
+      good : (s : State) → Between e₀ (s .place .0) → fault s ≡ false → Rel e₀ e₁ same (after (pass s) behind) (after (pass (F₀ s)) behind′)
       unfolding pass after
       good s d r =
-          let f = four (not (eqb (total % 8) 0)) (ltb total content) (ltb (8 * length b) (p .0 + total))
+          let f = none-of-four (not (eqb (total % 8) 0)) (ltb total content) (ltb (8 * length b) (p .0 + total))
           (ltb (p .0 + content) (s .place .0)) r in
           let m : content ≤ total = ltb-false _ _ (f .0) in
           let v : p .0 + total ≤ 8 * length b = ltb-false _ _ (f .1) in
           let n : s .place .0 ≤ p .0 + content = ltb-false _ _ (f .2) in
           rw (onto-nil (behind s), onto-nil (behind′ (F₀ s))) (rel-behind s (d .0) n (omega arith))
 
-      fine : (s : State) → Between e₀ (s .place .0) → (z : Bool) → bad s ≡ z
+      fine : (s : State) → Between e₀ (s .place .0) → (z : Bool) → fault s ≡ z
           → Rel e₀ e₁ same (after (elim z [ true ↦ refuse LengthsContradict s | false ↦ pass s ]) behind)
           (after (elim z [ true ↦ refuse LengthsContradict (F₀ s) | false ↦ pass (F₀ s) ]) behind′)
       fine s d true r = unfold refuse after farOut farAll far in inl refl
       fine s d false r = good s d r
 
       -- a total past the stream's end here
-      beyond-end : (s : State) → 8 * length b < p .0 + total → (z : Bool) → bad′ (F₀ s) ≡ z
+      beyond-end : (s : State) → 8 * length b < p .0 + total → (z : Bool) → fault′ (F₀ s) ≡ z
           → Rel e₀ e₁ same (after (refuse LengthsContradict s) behind)
           (after (elim z [ true ↦ refuse LengthsContradict (F₀ s) | false ↦ pass (F₀ s) ]) behind′)
       beyond-end s h true r = unfold refuse after farOut farAll far in inl refl
       beyond-end s h false r =
-          let f = four (not (eqb (total % 8) 0)) (ltb total content) (ltb (8 * length b′) (p′ .0 + total))
+          let f = none-of-four (not (eqb (total % 8) 0)) (ltb total content) (ltb (8 * length b′) (p′ .0 + total))
           (ltb (p′ .0 + content) ((F₀ s) .place .0)) r in
           let v : p′ .0 + total ≤ 8 * length b′ = ltb-false _ _ (f .1) in
           inr (record {
@@ -535,22 +539,22 @@ module _ (t : Asked) (b b′ : List ℕ) (p p′ : BitPlace) where
       pub rel-content : (s : State) → Between e₀ (s .place .0)
           → Rel e₀ e₁ same (readContent t c b p total content s) (readContent t c b′ p′ total content (F₀ s))
       unfolding readContent
-      rel-content s d = rel-due e₀ e₁ same (check bad LengthsContradict ⨾ behind) (check bad′ LengthsContradict
+      rel-content s d = rel-due e₀ e₁ same (check fault LengthsContradict ⨾ behind) (check fault′ LengthsContradict
           ⨾ behind′) s (by (ltb (8 * length b) (p .0 + total)) refl)
         where
           by : (x : Bool) → ltb (8 * length b) (p .0 + total) ≡ x
-              → Rel e₀ e₁ same ((check bad LengthsContradict ⨾ behind) s) ((check bad′ LengthsContradict ⨾ behind′) (F₀ s))
+              → Rel e₀ e₁ same ((check fault LengthsContradict ⨾ behind) s) ((check fault′ LengthsContradict ⨾ behind′) (F₀ s))
           by false q = unfold check _⨾_ in
-              subst (λ z. Rel e₀ e₁ same (after (elim (bad s) [ true ↦ refuse LengthsContradict s | false ↦ pass s ]) behind)
+              subst (λ z. Rel e₀ e₁ same (after (elim (fault s) [ true ↦ refuse LengthsContradict s | false ↦ pass s ]) behind)
               (after (elim z [ true ↦ refuse LengthsContradict (F₀ s) | false ↦ pass (F₀ s) ]) behind′))
-              (sym (bad-same s (d .0) q)) (fine s d (bad s) refl)
+              (sym (contradict-same s (d .0) q)) (fine s d (fault s) refl)
           by true q = unfold check _⨾_ in
               let v : 8 * length b < p .0 + total = ltb-true (8 * length b) (p .0 + total) q in
-              let r : bad s ≡ true = ap (λ z. not (eqb (total % 8) 0) || ltb total content || z || ltb (p .0 + content) (s .place .0)) q
-              ∙ third (not (eqb (total % 8) 0)) (ltb total content) (ltb (p .0 + content) (s .place .0)) in
+              let r : fault s ≡ true = ap (λ z. not (eqb (total % 8) 0) || ltb total content || z || ltb (p .0 + content) (s .place .0)) q
+              ∙ third-of-four (not (eqb (total % 8) 0)) (ltb total content) (ltb (p .0 + content) (s .place .0)) in
               subst (λ z. Rel e₀ e₁ same (after (elim z [ true ↦ refuse LengthsContradict s | false ↦ pass s ]) behind)
-              (after (elim (bad′ (F₀ s)) [ true ↦ refuse LengthsContradict (F₀ s) | false ↦ pass (F₀ s) ]) behind′))
-              (sym r) (beyond-end s v (bad′ (F₀ s)) refl)
+              (after (elim (fault′ (F₀ s)) [ true ↦ refuse LengthsContradict (F₀ s) | false ↦ pass (F₀ s) ]) behind′))
+              (sym r) (beyond-end s v (fault′ (F₀ s)) refl)
 
     -- Steps that come last: they may go behind the bound
 
@@ -558,8 +562,8 @@ module _ (t : Asked) (b b′ : List ℕ) (p p′ : BitPlace) where
       pub rel : (s : State) → Between e₀ (s .place .0) → Rel e₀ e₁ same (n s) (n′ (F₀ s))
       pub onward : (s : State) → Between e₁ (s .place .0) → (fs : List Entry) (x : State) → n′ s ≡ go fs x → s .place .0 ≤ x .place .0
 
-    abbrev P₀ : Step → Step → Type 0
-    P₀ m m′ = Pair e₀ e₁ y same m m′
+    abbrev Alike₀ : Step → Step → Type 0
+    Alike₀ m m′ = Pair e₀ e₁ y same m m′
 
     abbrev Ok₁ : ℕ → Out → Type 0
     Ok₁ q o = Ok (In e₁) (At e₁) (NoMore e₁) (Held e₁ (λ p d. q ≤ p)) o
@@ -600,7 +604,7 @@ module _ (t : Asked) (b b′ : List ℕ) (p p′ : BitPlace) where
     })
 
     infixr 20 _⨾ᵗ_
-    _⨾ᵗ_ : {m n m′ n′ : Step} → P₀ m m′ → Tail n n′ → Tail (m ⨾ n) (m′ ⨾ n′)
+    _⨾ᵗ_ : {m n m′ n′ : Step} → Alike₀ m m′ → Tail n n′ → Tail (m ⨾ n) (m′ ⨾ n′)
     unfolding _⨾_
     _⨾ᵗ_ {m} {n} {m′} {n′} h k = record {
       rel = λ s d.
@@ -649,12 +653,12 @@ module _ (t : Asked) (b b′ : List ℕ) (p p′ : BitPlace) where
             → Rel e₀ e₁ same (ofStream t b p rest s s) (ofStream t b′ p′ rest (F₀ s) (F₀ s))
         by s h = unfold far in h
 
-    pair-begin : P₀ (change startPacket) (change startPacket)
+    pair-begin : Alike₀ (change startPacket) (change startPacket)
     unfolding startPacket far
     pair-begin = pair-change e₀ e₁ y startPacket (λ s. refl) (λ s. refl)
 
     pair-class : (i : Stated)
-        → P₀ (check (λ s. differs (s .said .stream) i) StreamClassChanged) (check (λ s. differs (s .said .stream) i) StreamClassChanged)
+        → Alike₀ (check (λ s. differs (s .said .stream) i) StreamClassChanged) (check (λ s. differs (s .said .stream) i) StreamClassChanged)
     unfolding far
     pair-class i = pair-check e₀ e₁ y _ _ StreamClassChanged (λ s d. refl)
 

@@ -5,10 +5,10 @@
 -- packet ends just there; nor which packet was the first, as long as it is of that class.
 use mathlib.Core.Path.{_≡_, refl, sym, ap, _∙_, subst}
 use mathlib.Core.Logic.{_⊎_, inl, inr}
-use Prim.Native.Nat.{ℕ, zero, suc, _+_, _-_, _*_, _≤_}
+use Prim.Native.Nat.{ℕ, zero, suc, _+_, _-_, _≤_}
 use native.Mathlib.Omega.{arith}
 use native.Mathlib.Nat.{le-refl}
-use mathlib.Core.List.{List, [], _∷_, _++_}
+use mathlib.Core.List.{List}
 use mathlib.Core.Bool.{Bool, true, false, _&&_}
 use mathlib.Core.Option.{Option, none, some}
 use lib.Dec.{ltb, eqb}
@@ -22,8 +22,8 @@ use Rattle.rules.specs.declared.Refusal.the-variants.{EventClassUnknown, EventT
 use Rattle.rules.specs.declared.Stop.{Stop}
 use Rattle.rules.specs.Verdict.{stopAt}
 use Rattle.rules.specs.Slots.{slotAt}
-use Rattle.rules.specs.Entry.{entry, eventStarts, eventClassFound, packetEnds}
-use Rattle.rules.specs.Step.{State, Out, stop, go, Step, _⨾_, refuse, check, due, listed, change, pass, withSlots, withOrder, withClock}
+use Rattle.rules.specs.Entry.{eventStarts, eventClassFound}
+use Rattle.rules.specs.Step.{State, Out, stop, go, Step, _⨾_, check, due, listed, change, withSlots, withOrder, withClock}
 use Rattle.rules.specs.Step.{withLast, withSaid}
 use Rattle.rules.specs.Class.{Class}
 use Rattle.rules.specs.Table.{StreamClass, EventClass, Asked}

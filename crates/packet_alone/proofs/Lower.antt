@@ -1,31 +1,29 @@
 -- An event that goes through does so at another place too, and where the last event's clock was lower; it lists the same. 39 alone looks at
 -- that clock, and behind 39 it is the event's own in both. So do all events of a packet; where there is none, the last clock stays lower.
 use mathlib.Core.Path.{_≡_, refl, sym, ap, _∙_, subst}
-use mathlib.Core.Logic.{_⊎_, inl, inr}
-use Prim.Native.Nat.{ℕ, zero, suc, _+_, _-_, _*_, _≤_, _<_}
+use mathlib.Core.Logic.{inl, inr}
+use Prim.Native.Nat.{ℕ, zero, suc, _+_, _-_, _≤_}
 use native.Mathlib.Omega.{arith}
 use native.Mathlib.Nat.{le-refl}
-use mathlib.Core.List.{List, [], _∷_, _++_}
+use mathlib.Core.List.{List}
 use mathlib.Core.Bool.{Bool, true, false, _&&_}
-use lib.Dec.{ltb, eqb}
+use lib.Dec.{ltb}
 use borrow.Author.Tests.{ltb-false, le-ltb}
 use Rattle.rules.specs.declared.Entry.{Entry}
-use Rattle.rules.specs.declared.Refusal.{Refusal}
-use Rattle.rules.specs.declared.Refusal.the-variants.{EventTookNoBits, ClockWentBack, ListFull}
-use Rattle.rules.specs.Limits.{wordsPerEntry}
+use Rattle.rules.specs.declared.Refusal.the-variants.{ClockWentBack, ListFull}
 use Rattle.rules.specs.Place.{bitPlace}
 use Rattle.rules.specs.Entry.{eventStarts}
-use Rattle.rules.specs.Step.{State, Out, stop, go, Step, onto, after, _⨾_, check, due, listed, change, withLast}
+use Rattle.rules.specs.Step.{State, Out, stop, go, Step, _⨾_, check, due, listed, change, withLast}
 use Rattle.rules.specs.Table.{StreamClass, Asked}
 use Rattle.rules.specs.Field.{Env}
-use Rattle.rules.specs.Packet.{mark, readRoot, startEvent, readEvent, endPacket, readEvents}
+use Rattle.rules.specs.Packet.{mark, startEvent, readEvent, endPacket, readEvents}
 use Rattle.laws.specs.Between.{Between}
 use Rattle.laws.proofs.Triple.{Ok}
 use Rattle.laws.proofs.Between.{Held, In, At, NoMore, Holding}
 use Rattle.packet_alone.proofs.Far.{away, farEntry, farAll, far, farOut, far-append, Exact, Rel}
 use Rattle.packet_alone.proofs.Pair.{Like, Pair, pair-root, exact-change, exact-due}
 use Rattle.packet_alone.proofs.Through.{Split, split, join, passed, pass-check, do-change}
-use Rattle.packet_alone.proofs.Beside.{same, P, held-here, held-change, held-check, pair-due, pair-found, pair-moved, pair-event}
+use Rattle.packet_alone.proofs.Beside.{same, Alike, held-here, held-change, held-check, pair-due, pair-found, pair-moved, pair-event}
 use Rattle.packet_alone.proofs.Beside.{_⨾ᵖ_, body, end-same, before-bound, loops}
 
 -- a last clock that is lower, where there is a clock
@@ -122,7 +120,7 @@ module _ (e e′ : Env) (y : Like e e′) (l : ℕ → ℕ) where
     unfolding withLast
     still s b = b
 
-    lowers-back : {m m′ : Step} → P e e′ y m m′ → Lowers (back ⨾ change ownClock ⨾ m) (back ⨾ change ownClock ⨾ m′)
+    lowers-back : {m m′ : Step} → Alike e e′ y m m′ → Lowers (back ⨾ change ownClock ⨾ m) (back ⨾ change ownClock ⨾ m′)
     lowers-back {m} {m′} h = record {
       at = λ s es u b q.
           let t : wentBack s ≡ false = passed wentBack ClockWentBack (change ownClock ⨾ m) s es u q in

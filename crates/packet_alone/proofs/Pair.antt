@@ -4,14 +4,12 @@ use mathlib.Core.Logic.{_⊎_, inl, inr, ⊎-elim}
 use Prim.Native.Nat.{ℕ, _+_, _-_, _*_, _/_, _%_, _^_, _≤_, _<_}
 use native.Mathlib.Omega.{arith}
 use native.Mathlib.Nat.{le-refl}
-use lib.Pow.{pow-pos}
-use mathlib.Core.List.{List, [], _∷_, _++_, append-nil}
+use mathlib.Core.List.{List, [], _++_, append-nil}
 use mathlib.Core.Bool.{Bool, true, false, not, _&&_}
 use mathlib.Core.Option.{Option, none, some}
 use lib.ListN.{length, take, drop, length-take, length-drop}
 use lib.Seq.{take-add}
-use lib.Dec.{ltb, eqb}
-use Rattle.rules.specs.declared.BitPlace.{BitPlace}
+use lib.Dec.{eqb}
 use Rattle.rules.specs.declared.ByteLength.{ByteLength}
 use Rattle.rules.specs.declared.Order.{Order}
 use Rattle.rules.specs.declared.LastOrder.{LastOrder}
@@ -28,12 +26,10 @@ use Rattle.rules.specs.declared.Refusal.{Refusal}
 use Rattle.rules.specs.declared.Refusal.the-variants.{PastBound, OrderChanged, LebTooLarge, NoZeroByte, SlotUnset, SlotOfWrongSort}
 use Rattle.rules.specs.declared.Refusal.the-variants.{LengthTooLarge, SelectorInNoOption, WrongMagic, WrongUuid, ClockTooLarge, ListFull}
 use Rattle.rules.specs.declared.Stop.{Stop}
-use Rattle.rules.specs.Limits.{lengthLimit, magicNumber, wordsPerEntry}
 use Rattle.rules.specs.Bits.{bits}
 use Rattle.rules.specs.Leb128.{lebUnsigned, lebSigned}
 use Rattle.rules.specs.Clock.{clockAfter}
 use Rattle.rules.specs.Text.{textLength, zeroAt}
-use Rattle.rules.specs.Place.{bitPlace, alignFrom}
 use Rattle.rules.specs.Slots.{slotAt}
 use Rattle.rules.specs.Entry.{entry, clockAdvanced}
 use Rattle.rules.specs.Verdict.{stopAt}
@@ -47,14 +43,13 @@ use Rattle.rules.specs.Field.{otherOrder, turned, ahead, bytesAt, readFixed, re
 use Rattle.rules.specs.Packet.{readRoot}
 use Rattle.facts.proofs.Steps.{onto-nil, onto-onto, after-onto}
 use Rattle.facts.proofs.Numbers.{lt-or-ge}
-use Rattle.laws.specs.All.{All}
 use Rattle.laws.specs.Between.{Between}
-use Rattle.laws.proofs.Law.{Any, any-slot, FieldKind, Law}
+use Rattle.laws.proofs.Law.{Any, Law}
 use Rattle.laws.proofs.Triple.{Ok, Triple, ok-after, then, passing, changing, refusing, checks, dued}
 use Rattle.laws.proofs.Between.{Kept, Held, In, At, NoMore, Holding, held-law}
-use Rattle.laws.proofs.Places.{start-le, alignFrom-le, align-one, ahead-fits}
+use Rattle.laws.proofs.Places.{align-one}
 use Rattle.packet_alone.proofs.Two.{Law2, two-root}
-use Rattle.packet_alone.proofs.Far.{away, farEntry, farAll, farStop, far, farOut, far-append, far-onto, Exact, exact-seq}
+use Rattle.packet_alone.proofs.Far.{away, farEntry, farAll, far, farOut, far-append, far-onto, Exact, exact-seq}
 use Rattle.packet_alone.proofs.Far.{aligned-far, start-aligned, exact-field, exact-refuse, exact-pass, Cut, Rel, rel-check, rel-due}
 use Rattle.packet_alone.proofs.Far.{rel-fit}
 use Rattle.packet_alone.proofs.Agree.{piece, bits-same, leb-more, leb-signed-more, zero-more}
@@ -162,21 +157,21 @@ reach-field x k a n v rest h s fs t q =
     subst (Ok Whatever Wherever Why (λ u. at ≤ u .place .0)) q ok .1
 
 module _ (e e′ : Env) (y : Like e e′) where
-  abbrev pub R : (ℕ → ℕ) → Out → Out → Type 0
-  R l o o′ = Rel e e′ l o o′
+  abbrev pub Beside : (ℕ → ℕ) → Out → Out → Type 0
+  Beside l o o′ = Rel e e′ l o o′
 
-  abbrev pub F : (ℕ → ℕ) → State → State
-  F l s = far e e′ l s
+  abbrev pub there : (ℕ → ℕ) → State → State
+  there l s = far e e′ l s
 
   fits : (l : ℕ → ℕ) (a n : ℕ) (m m′ : Step) (s : State)
-      → ((aligned e a s) .0 + n ≤ e .bound .0 → R l (m s) (m′ (F l s)))
-      → ((aligned e′ a (F l s)) .0 + n ≤ e′ .bound .0 → (fs : List Entry) (t : State) → m′ (F l s) ≡ go fs t
-      → (aligned e′ a (F l s)) .0 + n ≤ t .place .0)
-      → R l ((fit e a n ⨾ m) s) ((fit e′ a n ⨾ m′) (F l s))
+      → ((aligned e a s) .0 + n ≤ e .bound .0 → Beside l (m s) (m′ (there l s)))
+      → ((aligned e′ a (there l s)) .0 + n ≤ e′ .bound .0 → (fs : List Entry) (t : State) → m′ (there l s) ≡ go fs t
+      → (aligned e′ a (there l s)) .0 + n ≤ t .place .0)
+      → Beside l ((fit e a n ⨾ m) s) ((fit e′ a n ⨾ m′) (there l s))
   fits = rel-fit e e′ (y .inside) (y .inside′) (y .narrower)
 
   pub record Pair (l : ℕ → ℕ) (m m′ : Step) : Type 0 where
-    pub rel : (s : State) → Between e (s .place .0) → R l (m s) (m′ (F l s))
+    pub rel : (s : State) → Between e (s .place .0) → Beside l (m s) (m′ (there l s))
     pub held : (q : ℕ) → Holding e (λ p d. q ≤ p) m
     pub held′ : (q : ℕ) → Holding e′ (λ p d. q ≤ p) m′
 
@@ -187,11 +182,11 @@ module _ (e e′ : Env) (y : Like e e′) where
   from x q = held-law x (at-least x q)
 
   -- the state there is between its start and bound
-  pub there-between : (l : ℕ → ℕ) (s : State) → Between e (s .place .0) → Between e′ ((F l s) .place .0)
+  pub there-between : (l : ℕ → ℕ) (s : State) → Between e (s .place .0) → Between e′ ((there l s) .place .0)
   unfolding far
   there-between l s b = omega (arith, b .0, b .1, y .inside, y .inside′, y .narrower)
 
-  pub rel-onto : (l : ℕ → ℕ) (es : List Entry) (o o′ : Out) → R l o o′ → R l (onto es o) (onto (farAll e e′ es) o′)
+  pub rel-onto : (l : ℕ → ℕ) (es : List Entry) (o o′ : Out) → Beside l o o′ → Beside l (onto es o) (onto (farAll e e′ es) o′)
   rel-onto l es o o′ (inl p) = inl (ap (onto (farAll e e′ es)) p ∙ far-onto e e′ l es o)
   rel-onto l es o o′ (inr c) = inr (record {
     es = es ++ c .es;
@@ -207,10 +202,10 @@ module _ (e e′ : Env) (y : Like e e′) where
 
   -- behind outcomes that stand beside each other
   same-after : (l : ℕ → ℕ) (o : Out) (n n′ : Step) → Ok (In e) (At e) (NoMore e) (Held e (λ p d. 0 ≤ p)) o → Pair l n n′
-      → R l (after o n) (after (farOut e e′ l o) n′)
+      → Beside l (after o n) (after (farOut e e′ l o) n′)
   unfolding after farOut
   same-after l (stop es v) n n′ ok k = inl refl
-  same-after l (go es t) n n′ ok k = rel-onto l es (n t) (n′ (F l t)) (k .rel t (ok .1 .from, ok .1 .to))
+  same-after l (go es t) n n′ ok k = rel-onto l es (n t) (n′ (there l t)) (k .rel t (ok .1 .from, ok .1 .to))
 
   beyond-after : (a : ℕ) (o′ : Out) (n′ : Step) → Ok (In e′) (At e′) (NoMore e′) (Held e′ (λ p d. 0 ≤ p)) o′
       → ((q : ℕ) → Holding e′ (λ p d. q ≤ p) n′)
@@ -225,9 +220,9 @@ module _ (e e′ : Env) (y : Like e e′) where
       let m : u .place .0 ≤ t .place .0 = x .1 .kept in
       omega (arith, h es u refl)
 
-  rel-after : (l : ℕ → ℕ) (o o′ : Out) (n n′ : Step) → R l o o′ → Ok (In e) (At e) (NoMore e) (Held e (λ p d. 0 ≤ p)) o
-      → Ok (In e′) (At e′) (NoMore e′) (Held e′ (λ p d. 0 ≤ p)) o′ → Pair l n n′ → R l (after o n) (after o′ n′)
-  rel-after l o o′ n n′ (inl p) ok ok′ k = subst (λ x. R l (after o n) (after x n′)) (sym p) (same-after l o n n′ ok k)
+  rel-after : (l : ℕ → ℕ) (o o′ : Out) (n n′ : Step) → Beside l o o′ → Ok (In e) (At e) (NoMore e) (Held e (λ p d. 0 ≤ p)) o
+      → Ok (In e′) (At e′) (NoMore e′) (Held e′ (λ p d. 0 ≤ p)) o′ → Pair l n n′ → Beside l (after o n) (after o′ n′)
+  rel-after l o o′ n n′ (inl p) ok ok′ k = subst (λ x. Beside l (after o n) (after x n′)) (sym p) (same-after l o n n′ ok k)
   rel-after l o o′ n n′ (inr c) ok ok′ k = inr (record {
     es = c .es;
     v = c .v;
@@ -241,16 +236,19 @@ module _ (e e′ : Env) (y : Like e e′) where
 
   -- Steps that do the same
 
-  pub exact-check : (t t′ : State → Bool) (r : Refusal) → ((l : ℕ → ℕ) (s : State) → t′ (F l s) ≡ t s) → Exact e e′ (check t r) (check t′ r)
+  pub exact-check : (t t′ : State → Bool) (r : Refusal) → ((l : ℕ → ℕ) (s : State) → t′ (there l s) ≡ t s)
+      → Exact e e′ (check t r) (check t′ r)
   unfolding check
-  exact-check t t′ r h = record { at = λ l s. ap (λ b. elim b [ true ↦ refuse r (F l s) | false ↦ pass (F l s) ]) (h l s) ∙ by l s (t s) }
+  exact-check t t′ r h =
+      record { at = λ l s. ap (λ b. elim b [ true ↦ refuse r (there l s) | false ↦ pass (there l s) ]) (h l s) ∙ by l s (t s) }
     where
       by : (l : ℕ → ℕ) (s : State) (b : Bool)
-          → elim b [ true ↦ refuse r (F l s) | false ↦ pass (F l s) ] ≡ farOut e e′ l (elim b [ true ↦ refuse r s | false ↦ pass s ])
+          → elim b [ true ↦ refuse r (there l s) | false ↦ pass (there l s) ]
+          ≡ farOut e e′ l (elim b [ true ↦ refuse r s | false ↦ pass s ])
       by l s true = exact-refuse e e′ r .at l s
       by l s false = exact-pass e e′ .at l s
 
-  pub exact-change : (f : State → State) → ((l : ℕ → ℕ) (s : State) → f (F l s) ≡ F l (f s)) → Exact e e′ (change f) (change f)
+  pub exact-change : (f : State → State) → ((l : ℕ → ℕ) (s : State) → f (there l s) ≡ there l (f s)) → Exact e e′ (change f) (change f)
   unfolding change farOut farAll
   exact-change f h = record { at = λ l s. ap (go []) (h l s) }
 
@@ -283,7 +281,7 @@ module _ (e e′ : Env) (y : Like e e′) where
   exact-role clock w v = exact-seq e e′ exact-due (record { at = λ l s. ticks l s })
     where
       ticks : (l : ℕ → ℕ) (s : State)
-          → newClock w (clockAfter ((F l s) .clock) w v) (F l s) ≡ farOut e e′ l (newClock w (clockAfter (s .clock) w v) s)
+          → newClock w (clockAfter ((there l s) .clock) w v) (there l s) ≡ farOut e e′ l (newClock w (clockAfter (s .clock) w v) s)
       ticks l s = exact-clock w (clockAfter (s .clock) w v) .at l s
   exact-role endClock w v = exact-say _
   exact-role discarded w v = exact-pass e e′
@@ -315,17 +313,17 @@ module _ (e e′ : Env) (y : Like e e′) where
   -- Fields
 
   -- where a field stands, q bits behind the start
-  stand : (a : ℕ) (l : ℕ → ℕ) (s : State) → (aligned e′ a (F l s)) .0 ≡ e′ .start .0 + ((aligned e a s) .0 - e .start .0)
+  stand : (a : ℕ) (l : ℕ → ℕ) (s : State) → (aligned e′ a (there l s)) .0 ≡ e′ .start .0 + ((aligned e a s) .0 - e .start .0)
   stand a l s = aligned-far e e′ a l s
 
-  turned-same : (a : ℕ) (o : Order) (l : ℕ → ℕ) (s : State) → turned e′ a o (F l s) ≡ turned e a o s
+  turned-same : (a : ℕ) (o : Order) (l : ℕ → ℕ) (s : State) → turned e′ a o (there l s) ≡ turned e a o s
   unfolding turned
   turned-same a o l s =
-      let p : (aligned e′ a (F l s)) .0 - e′ .start .0 ≡ (aligned e a s) .0 - e .start .0 = omega (arith, stand a l s) in
-      ap (λ x. not (eqb (x % 8) 0) && otherOrder o ((F l s) .order)) p ∙ unfold far in refl
+      let p : (aligned e′ a (there l s)) .0 - e′ .start .0 ≡ (aligned e a s) .0 - e .start .0 = omega (arith, stand a l s) in
+      ap (λ x. not (eqb (x % 8) 0) && otherOrder o ((there l s) .order)) p ∙ unfold far in refl
 
   bits-there : (a n : ℕ) (o : Order) (l : ℕ → ℕ) (s : State) → (aligned e a s) .0 + n ≤ e .bound .0
-      → bits o (e′ .bytes) ((aligned e′ a (F l s)) .0) n ≡ bits o (e .bytes) ((aligned e a s) .0) n
+      → bits o (e′ .bytes) ((aligned e′ a (there l s)) .0) n ≡ bits o (e .bytes) ((aligned e a s) .0) n
   bits-there a n o l s f =
       let q : ℕ = (aligned e a s) .0 - e .start .0 in
       let g : e .start .0 ≤ (aligned e a s) .0 = start-aligned e e′ a s in
@@ -337,13 +335,13 @@ module _ (e e′ : Env) (y : Like e e′) where
       ∙ ap (λ x. bits o (e .bytes) x n) u
 
   bytes-there : (n : ℕ) (l : ℕ → ℕ) (s : State) → (aligned e 8 s) .0 + 8 * n ≤ e .bound .0
-      → bytesAt e′ (aligned e′ 8 (F l s)) n ≡ bytesAt e (aligned e 8 s) n
+      → bytesAt e′ (aligned e′ 8 (there l s)) n ≡ bytesAt e (aligned e 8 s) n
   unfolding bytesAt
   bytes-there n l s f =
       let q : ℕ = (aligned e 8 s) .0 - e .start .0 in
       let g : e .start .0 ≤ (aligned e 8 s) .0 = start-aligned e e′ 8 s in
       let u : (aligned e 8 s) .0 / 8 ≡ e .start .0 / 8 + q / 8 = omega (arith, y .whole) in
-      let u′ : (aligned e′ 8 (F l s)) .0 / 8 ≡ e′ .start .0 / 8 + q / 8 = omega (arith, y .whole′, stand 8 l s) in
+      let u′ : (aligned e′ 8 (there l s)) .0 / 8 ≡ e′ .start .0 / 8 + q / 8 = omega (arith, y .whole′, stand 8 l s) in
       let k : q / 8 + n ≤ length (y .w) = omega (arith, y .covers) in
       ap (λ x. take n (drop x (e′ .bytes))) u′ ∙ piece (y .w) (e′ .bytes) (y .post′) (e′ .start .0 / 8) (y .there) (q / 8) n k
       ∙ sym (ap (λ x. take n (drop x (e .bytes))) u ∙ piece (y .w) (e .bytes) (y .post) (e .start .0 / 8) (y .here) (q / 8) n k)
@@ -366,33 +364,33 @@ module _ (e e′ : Env) (y : Like e e′) where
     abbrev value : Env → State → ℕ
     value x s = bits o (x .bytes) ((aligned x a s) .0) n
 
-    rel-fixed : (l : ℕ → ℕ) (s : State) → R l (readFixed e k n o a i r s) (readFixed e′ k n o a i r (F l s))
+    rel-fixed : (l : ℕ → ℕ) (s : State) → Beside l (readFixed e k n o a i r s) (readFixed e′ k n o a i r (there l s))
     unfolding readFixed
     rel-fixed l s =
         rel-due e e′ l _ _ s
         (fits l a 0 _ _ s
         (λ f. rel-check e e′ l (turned e a o) (turned e′ a o) OrderChanged _ _ s (turned-same a o l s)
         (fits l a n (λ u. body e (value e u) u) (λ u. body e′ (value e′ u) u) s
-        (λ g. inl (ap (λ v. body e′ v (F l s)) (bits-there a n o l s g) ∙ body-exact (value e s) .at l s))
-        (λ g fs t q. body-reach (value e′ (F l s)) (F l s) fs t q)))
+        (λ g. inl (ap (λ v. body e′ v (there l s)) (bits-there a n o l s g) ∙ body-exact (value e s) .at l s))
+        (λ g fs t q. body-reach (value e′ (there l s)) (there l s) fs t q)))
         (λ f fs t q.
-        let q₁ = through (turned e′ a o) OrderChanged _ (F l s) fs t q in
-        let q₂ = through-fit e′ a n (λ u. body e′ (value e′ u) u) (F l s) fs t q₁ in
-        let z : (aligned e′ a (F l s)) .0 + n ≤ t .place .0 = body-reach (value e′ (F l s)) (F l s) fs t q₂ in
+        let q₁ = through (turned e′ a o) OrderChanged _ (there l s) fs t q in
+        let q₂ = through-fit e′ a n (λ u. body e′ (value e′ u) u) (there l s) fs t q₁ in
+        let z : (aligned e′ a (there l s)) .0 + n ≤ t .place .0 = body-reach (value e′ (there l s)) (there l s) fs t q₂ in
         omega arith))
 
   -- kinds 21 and 22
   more : (l : ℕ → ℕ) (s : State) → List ℕ
-  more l s = take ((e′ .bound .0 - (aligned e′ 8 (F l s)) .0) / 8 - (e .bound .0 - (aligned e 8 s) .0) / 8)
-      (drop ((e .bound .0 - (aligned e 8 s) .0) / 8) (drop ((aligned e′ 8 (F l s)) .0 / 8) (e′ .bytes)))
+  more l s = take ((e′ .bound .0 - (aligned e′ 8 (there l s)) .0) / 8 - (e .bound .0 - (aligned e 8 s) .0) / 8)
+      (drop ((e .bound .0 - (aligned e 8 s) .0) / 8) (drop ((aligned e′ 8 (there l s)) .0 / 8) (e′ .bytes)))
 
   -- what is ahead there: what is ahead here, and more
   ahead-there : (l : ℕ → ℕ) (s : State) → (aligned e 8 s) .0 ≤ e .bound .0
-      → ahead e′ (aligned e′ 8 (F l s)) ≡ ahead e (aligned e 8 s) ++ more l s
+      → ahead e′ (aligned e′ 8 (there l s)) ≡ ahead e (aligned e 8 s) ++ more l s
   unfolding ahead more
   ahead-there l s f =
       let p : ℕ = (aligned e 8 s) .0 in
-      let p′ : ℕ = (aligned e′ 8 (F l s)) .0 in
+      let p′ : ℕ = (aligned e′ 8 (there l s)) .0 in
       let k : ℕ = (e .bound .0 - p) / 8 in
       let k′ : ℕ = (e′ .bound .0 - p′) / 8 in
       let g : e .start .0 ≤ p = start-aligned e e′ 8 s in
@@ -409,7 +407,7 @@ module _ (e e′ : Env) (y : Like e e′) where
   unfolding more
   no-more l s f h =
       let p : ℕ = (aligned e 8 s) .0 in
-      let p′ : ℕ = (aligned e′ 8 (F l s)) .0 in
+      let p′ : ℕ = (aligned e′ 8 (there l s)) .0 in
       let g : e .start .0 ≤ p = start-aligned e e′ 8 s in
       let z : p′ ≡ e′ .start .0 + (p - e .start .0) = stand 8 l s in
       let u : (e′ .bound .0 - p′) / 8 - (e .bound .0 - p) / 8 ≡ 0 = omega (arith, y .inside, y .inside′) in
@@ -448,19 +446,19 @@ module _ (e e′ : Env) (y : Like e e′) where
     leb-cut : (l : ℕ → ℕ) (s : State) (x x′ : Leb) → (aligned e 8 s) .0 ≤ e .bound .0
         → e .bound .0 - e .start .0 < e′ .bound .0 - e′ .start .0
         → x ≡ Past → ((v : ℕ) (n : ByteLength) → x′ ≡ Value v n → (e .bound .0 - (aligned e 8 s) .0) / 8 < n .0)
-        → Cut e e′ (readLeb e k c i r x s) (readLeb e′ k c i r x′ (F l s))
+        → Cut e e′ (readLeb e k c i r x s) (readLeb e′ k c i r x′ (there l s))
     leb-cut l s x x′ f w p h = record {
       es = [];
       v = stopAt PastBound (s .place);
       stops = unfold readLeb refuse in ap (λ z. readLeb e k c i r z s) p;
       short = inl refl;
-      rest = readLeb e′ k c i r x′ (F l s);
+      rest = readLeb e′ k c i r x′ (there l s);
       goes = unfold farAll in sym (onto-nil _);
       wider = w;
       beyond = λ fs t q.
-          let g = leb-reach x′ (F l s) fs t q in
+          let g = leb-reach x′ (there l s) fs t q in
           let u : (e .bound .0 - (aligned e 8 s) .0) / 8 < g .1 .0 = h (g .0) (g .1) (g .2) in
-          let d : (aligned e′ 8 (F l s)) .0 + 8 * g .1 .0 ≤ t .place .0 = g .3 in
+          let d : (aligned e′ 8 (there l s)) .0 + 8 * g .1 .0 ≤ t .place .0 = g .3 in
           let j : e .start .0 ≤ (aligned e 8 s) .0 = start-aligned e e′ 8 s in
           omega (arith, stand 8 l s);
     }
@@ -470,25 +468,25 @@ module _ (e e′ : Env) (y : Like e e′) where
         → ((xs ys : List ℕ) → (read (xs ++ ys) ≡ read xs)
         ⊎ ((read xs ≡ Past) × ((v : ℕ) (n : ByteLength) → read (xs ++ ys) ≡ Value v n → length xs < n .0)))
         → (l : ℕ → ℕ) (s : State)
-        → R l ((fit e 8 0 ⨾ λ u. readLeb e k c i r (read (ahead e (aligned e 8 u))) u) s)
-        ((fit e′ 8 0 ⨾ λ u. readLeb e′ k c i r (read (ahead e′ (aligned e′ 8 u))) u) (F l s))
+        → Beside l ((fit e 8 0 ⨾ λ u. readLeb e k c i r (read (ahead e (aligned e 8 u))) u) s)
+        ((fit e′ 8 0 ⨾ λ u. readLeb e′ k c i r (read (ahead e′ (aligned e′ 8 u))) u) (there l s))
     rel-leb read longer l s = fits l 8 0 _ _ s (λ f. by (omega arith)) (λ f fs t q. reaches fs t q)
       where
-        reaches : (fs : List Entry) (t : State) → readLeb e′ k c i r (read (ahead e′ (aligned e′ 8 (F l s)))) (F l s) ≡ go fs t
-            → (aligned e′ 8 (F l s)) .0 + 0 ≤ t .place .0
+        reaches : (fs : List Entry) (t : State) → readLeb e′ k c i r (read (ahead e′ (aligned e′ 8 (there l s)))) (there l s) ≡ go fs t
+            → (aligned e′ 8 (there l s)) .0 + 0 ≤ t .place .0
         reaches fs t q =
-            let g = leb-reach (read (ahead e′ (aligned e′ 8 (F l s)))) (F l s) fs t q in
-            let d : (aligned e′ 8 (F l s)) .0 + 8 * g .1 .0 ≤ t .place .0 = g .3 in
+            let g = leb-reach (read (ahead e′ (aligned e′ 8 (there l s)))) (there l s) fs t q in
+            let d : (aligned e′ 8 (there l s)) .0 + 8 * g .1 .0 ≤ t .place .0 = g .3 in
             omega arith
 
-        same : read (ahead e′ (aligned e′ 8 (F l s))) ≡ read (ahead e (aligned e 8 s))
-            → R l (readLeb e k c i r (read (ahead e (aligned e 8 s))) s)
-            (readLeb e′ k c i r (read (ahead e′ (aligned e′ 8 (F l s)))) (F l s))
-        same p = inl (ap (λ x. readLeb e′ k c i r x (F l s)) p ∙ leb-exact (read (ahead e (aligned e 8 s))) .at l s)
+        same : read (ahead e′ (aligned e′ 8 (there l s))) ≡ read (ahead e (aligned e 8 s))
+            → Beside l (readLeb e k c i r (read (ahead e (aligned e 8 s))) s)
+            (readLeb e′ k c i r (read (ahead e′ (aligned e′ 8 (there l s)))) (there l s))
+        same p = inl (ap (λ x. readLeb e′ k c i r x (there l s)) p ∙ leb-exact (read (ahead e (aligned e 8 s))) .at l s)
 
         by : (aligned e 8 s) .0 ≤ e .bound .0
-            → R l (readLeb e k c i r (read (ahead e (aligned e 8 s))) s)
-            (readLeb e′ k c i r (read (ahead e′ (aligned e′ 8 (F l s)))) (F l s))
+            → Beside l (readLeb e k c i r (read (ahead e (aligned e 8 s))) s)
+            (readLeb e′ k c i r (read (ahead e′ (aligned e′ 8 (there l s)))) (there l s))
         by f = ⊎-elim
             (λ (w : e .bound .0 - e .start .0 < e′ .bound .0 - e′ .start .0). further f w (longer (ahead e (aligned e 8 s)) (more l s)))
             (λ (w : e′ .bound .0 - e′ .start .0 ≤ e .bound .0 - e .start .0). same
@@ -500,8 +498,8 @@ module _ (e e′ : Env) (y : Like e e′) where
                 ⊎ ((read (ahead e (aligned e 8 s)) ≡ Past)
                 × ((v : ℕ) (n : ByteLength) → read (ahead e (aligned e 8 s) ++ more l s) ≡ Value v n
                 → length (ahead e (aligned e 8 s)) < n .0))
-                → R l (readLeb e k c i r (read (ahead e (aligned e 8 s))) s)
-                (readLeb e′ k c i r (read (ahead e′ (aligned e′ 8 (F l s)))) (F l s))
+                → Beside l (readLeb e k c i r (read (ahead e (aligned e 8 s))) s)
+                (readLeb e′ k c i r (read (ahead e′ (aligned e′ 8 (there l s)))) (there l s))
             further f w (inl p) = same (ap read (ahead-there l s f) ∙ p)
             further f w (inr p) = inr (leb-cut l s _ _ f w (p .0) (λ v n q.
                 let u : length (ahead e (aligned e 8 s)) < n .0 = p .1 v n (sym (ap read (ahead-there l s f)) ∙ q) in
@@ -527,36 +525,37 @@ module _ (e e′ : Env) (y : Like e e′) where
   zero-reach (After n) s fs t q = (n, refl, reach-only e′ 23 8 (8 * (n .0 + 1)) (n .0) s fs t q)
   zero-reach Never s fs t q = unfold refuse in let z : _≡_ {A = ℕ} 0 1 = cc in absurd (omega arith)
 
-  rel-zero : (l : ℕ → ℕ) (s : State) → R l ((fit e 8 0 ⨾ λ u. readZero e (zeroAt (ahead e (aligned e 8 u))) u) s)
-      ((fit e′ 8 0 ⨾ λ u. readZero e′ (zeroAt (ahead e′ (aligned e′ 8 u))) u) (F l s))
+  rel-zero : (l : ℕ → ℕ) (s : State) → Beside l ((fit e 8 0 ⨾ λ u. readZero e (zeroAt (ahead e (aligned e 8 u))) u) s)
+      ((fit e′ 8 0 ⨾ λ u. readZero e′ (zeroAt (ahead e′ (aligned e′ 8 u))) u) (there l s))
   rel-zero l s = fits l 8 0 _ _ s (λ f. by (omega arith)) (λ f fs t q. reaches fs t q)
     where
-      reaches : (fs : List Entry) (t : State) → readZero e′ (zeroAt (ahead e′ (aligned e′ 8 (F l s)))) (F l s) ≡ go fs t
-          → (aligned e′ 8 (F l s)) .0 + 0 ≤ t .place .0
+      reaches : (fs : List Entry) (t : State) → readZero e′ (zeroAt (ahead e′ (aligned e′ 8 (there l s)))) (there l s) ≡ go fs t
+          → (aligned e′ 8 (there l s)) .0 + 0 ≤ t .place .0
       reaches fs t q =
-          let g = zero-reach (zeroAt (ahead e′ (aligned e′ 8 (F l s)))) (F l s) fs t q in
-          let d : (aligned e′ 8 (F l s)) .0 + 8 * (g .0 .0 + 1) ≤ t .place .0 = g .2 in
+          let g = zero-reach (zeroAt (ahead e′ (aligned e′ 8 (there l s)))) (there l s) fs t q in
+          let d : (aligned e′ 8 (there l s)) .0 + 8 * (g .0 .0 + 1) ≤ t .place .0 = g .2 in
           omega arith
 
-      same : zeroAt (ahead e′ (aligned e′ 8 (F l s))) ≡ zeroAt (ahead e (aligned e 8 s))
-          → R l (readZero e (zeroAt (ahead e (aligned e 8 s))) s) (readZero e′ (zeroAt (ahead e′ (aligned e′ 8 (F l s)))) (F l s))
-      same p = inl (ap (λ x. readZero e′ x (F l s)) p ∙ zero-exact (zeroAt (ahead e (aligned e 8 s))) .at l s)
+      same : zeroAt (ahead e′ (aligned e′ 8 (there l s))) ≡ zeroAt (ahead e (aligned e 8 s))
+          → Beside l (readZero e (zeroAt (ahead e (aligned e 8 s))) s)
+          (readZero e′ (zeroAt (ahead e′ (aligned e′ 8 (there l s)))) (there l s))
+      same p = inl (ap (λ x. readZero e′ x (there l s)) p ∙ zero-exact (zeroAt (ahead e (aligned e 8 s))) .at l s)
 
       cut : (aligned e 8 s) .0 ≤ e .bound .0 → e .bound .0 - e .start .0 < e′ .bound .0 - e′ .start .0
           → (x x′ : Ended) → x ≡ Never → ((n : ByteLength) → x′ ≡ After n → (e .bound .0 - (aligned e 8 s) .0) / 8 ≤ n .0)
-          → Cut e e′ (readZero e x s) (readZero e′ x′ (F l s))
+          → Cut e e′ (readZero e x s) (readZero e′ x′ (there l s))
       cut f w x x′ p h = record {
         es = [];
         v = stopAt NoZeroByte (s .place);
         stops = unfold readZero refuse in ap (λ z. readZero e z s) p;
         short = inr (inl refl);
-        rest = readZero e′ x′ (F l s);
+        rest = readZero e′ x′ (there l s);
         goes = unfold farAll in sym (onto-nil _);
         wider = w;
         beyond = λ fs t q.
-            let g = zero-reach x′ (F l s) fs t q in
+            let g = zero-reach x′ (there l s) fs t q in
             let u : (e .bound .0 - (aligned e 8 s) .0) / 8 ≤ g .0 .0 = h (g .0) (g .1) in
-            let d : (aligned e′ 8 (F l s)) .0 + 8 * (g .0 .0 + 1) ≤ t .place .0 = g .2 in
+            let d : (aligned e′ 8 (there l s)) .0 + 8 * (g .0 .0 + 1) ≤ t .place .0 = g .2 in
             let j : e .start .0 ≤ (aligned e 8 s) .0 = start-aligned e e′ 8 s in
             omega (arith, stand 8 l s);
       }
@@ -565,14 +564,16 @@ module _ (e e′ : Env) (y : Like e e′) where
           → (zeroAt (ahead e (aligned e 8 s) ++ more l s) ≡ zeroAt (ahead e (aligned e 8 s)))
           ⊎ ((zeroAt (ahead e (aligned e 8 s)) ≡ Never)
           × ((n : ByteLength) → zeroAt (ahead e (aligned e 8 s) ++ more l s) ≡ After n → length (ahead e (aligned e 8 s)) ≤ n .0))
-          → R l (readZero e (zeroAt (ahead e (aligned e 8 s))) s) (readZero e′ (zeroAt (ahead e′ (aligned e′ 8 (F l s)))) (F l s))
+          → Beside l (readZero e (zeroAt (ahead e (aligned e 8 s))) s)
+          (readZero e′ (zeroAt (ahead e′ (aligned e′ 8 (there l s)))) (there l s))
       further f w (inl p) = same (ap zeroAt (ahead-there l s f) ∙ p)
       further f w (inr p) = inr (cut f w _ _ (p .0) (λ n q.
           let u : length (ahead e (aligned e 8 s)) ≤ n .0 = p .1 n (sym (ap zeroAt (ahead-there l s f)) ∙ q) in
           omega (arith, ahead-length s f)))
 
       by : (aligned e 8 s) .0 ≤ e .bound .0
-          → R l (readZero e (zeroAt (ahead e (aligned e 8 s))) s) (readZero e′ (zeroAt (ahead e′ (aligned e′ 8 (F l s)))) (F l s))
+          → Beside l (readZero e (zeroAt (ahead e (aligned e 8 s))) s)
+          (readZero e′ (zeroAt (ahead e′ (aligned e′ 8 (there l s)))) (there l s))
       by f = ⊎-elim
           (λ (w : e .bound .0 - e .start .0 < e′ .bound .0 - e′ .start .0). further f w (zero-more (ahead e (aligned e 8 s)) (more l s)))
           (λ (w : e′ .bound .0 - e′ .start .0 ≤ e .bound .0 - e .start .0). same
@@ -580,16 +581,16 @@ module _ (e e′ : Env) (y : Like e e′) where
           (lt-or-ge (e .bound .0 - e .start .0) (e′ .bound .0 - e′ .start .0))
 
   -- kinds 24 to 27
-  rel-text : (k n : ℕ) (l : ℕ → ℕ) (s : State) → R l (readText e k n s) (readText e′ k n (F l s))
+  rel-text : (k n : ℕ) (l : ℕ → ℕ) (s : State) → Beside l (readText e k n s) (readText e′ k n (there l s))
   unfolding readText
   rel-text k n l s =
       fits l 8 0 _ _ s
       (λ f. fits l 8 (8 * n) (λ u. put e (text e u) u) (λ u. put e′ (text e′ u) u) s
-      (λ g. inl (ap (λ b. put e′ (textLength b) (F l s)) (bytes-there n l s g) ∙ exact-field e e′ k 8 (8 * n) (text e s) .at l s))
-      (λ g fs t q. reach-only e′ k 8 (8 * n) (text e′ (F l s)) (F l s) fs t q))
+      (λ g. inl (ap (λ b. put e′ (textLength b) (there l s)) (bytes-there n l s g) ∙ exact-field e e′ k 8 (8 * n) (text e s) .at l s))
+      (λ g fs t q. reach-only e′ k 8 (8 * n) (text e′ (there l s)) (there l s) fs t q))
       (λ f fs t q.
-      let q₂ = through-fit e′ 8 (8 * n) (λ u. put e′ (text e′ u) u) (F l s) fs t q in
-      let z : (aligned e′ 8 (F l s)) .0 + 8 * n ≤ t .place .0 = reach-only e′ k 8 (8 * n) (text e′ (F l s)) (F l s) fs t q₂ in
+      let q₂ = through-fit e′ 8 (8 * n) (λ u. put e′ (text e′ u) u) (there l s) fs t q in
+      let z : (aligned e′ 8 (there l s)) .0 + 8 * n ≤ t .place .0 = reach-only e′ k 8 (8 * n) (text e′ (there l s)) (there l s) fs t q₂ in
       omega arith)
     where
       text : Env → State → ℕ
@@ -613,18 +614,18 @@ module _ (e e′ : Env) (y : Like e e′) where
   onward-blob x sequence b = onward-pass
   onward-blob x eventClassId b = onward-pass
 
-  rel-blob : (k n : ℕ) (r : Role) (l : ℕ → ℕ) (s : State) → R l (readBlob e k n r s) (readBlob e′ k n r (F l s))
+  rel-blob : (k n : ℕ) (r : Role) (l : ℕ → ℕ) (s : State) → Beside l (readBlob e k n r s) (readBlob e′ k n r (there l s))
   unfolding readBlob
   rel-blob k n r l s =
       fits l 8 0 _ _ s
       (λ f. fits l 8 (8 * n) (λ u. put e (of e u) u) (λ u. put e′ (of e′ u) u) s
-      (λ g. inl (ap (λ b. put e′ b (F l s)) (bytes-there n l s g)
+      (λ g. inl (ap (λ b. put e′ b (there l s)) (bytes-there n l s g)
       ∙ exact-seq e e′ (exact-field e e′ k 8 (8 * n) n) (exact-blob r (of e s)) .at l s))
-      (λ g fs t q. reach-field e′ k 8 (8 * n) n _ (onward-blob e′ r (of e′ (F l s))) (F l s) fs t q))
+      (λ g fs t q. reach-field e′ k 8 (8 * n) n _ (onward-blob e′ r (of e′ (there l s))) (there l s) fs t q))
       (λ f fs t q.
-      let q₂ = through-fit e′ 8 (8 * n) (λ u. put e′ (of e′ u) u) (F l s) fs t q in
-      let z : (aligned e′ 8 (F l s)) .0 + 8 * n ≤ t .place .0 =
-      reach-field e′ k 8 (8 * n) n _ (onward-blob e′ r (of e′ (F l s))) (F l s) fs t q₂ in
+      let q₂ = through-fit e′ 8 (8 * n) (λ u. put e′ (of e′ u) u) (there l s) fs t q in
+      let z : (aligned e′ 8 (there l s)) .0 + 8 * n ≤ t .place .0 =
+      reach-field e′ k 8 (8 * n) n _ (onward-blob e′ r (of e′ (there l s))) (there l s) fs t q₂ in
       omega arith)
     where
       of : Env → State → List ℕ
@@ -641,15 +642,15 @@ module _ (e e′ : Env) (y : Like e e′) where
   held-field x q k a v s f t h = ((omega arith, tt), record { from = omega arith; to = t; kept = omega arith })
 
   rel-inside : (l : ℕ → ℕ) (k a v : ℕ) (m m′ : Step) → Pair l m m′ → (s : State) → (aligned e a s) .0 + 0 ≤ e .bound .0
-      → R l ((field e k a 0 v ⨾ m) s) ((field e′ k a 0 v ⨾ m′) (F l s))
+      → Beside l ((field e k a 0 v ⨾ m) s) ((field e′ k a 0 v ⨾ m′) (there l s))
   unfolding _⨾_
   rel-inside l k a v m m′ h s f =
       let g : e .start .0 ≤ (aligned e a s) .0 = start-aligned e e′ a s in
-      let z : (aligned e′ a (F l s)) .0 ≡ e′ .start .0 + ((aligned e a s) .0 - e .start .0) = stand a l s in
-      let g′ : e′ .start .0 ≤ (aligned e′ a (F l s)) .0 = omega arith in
-      let f′ : (aligned e′ a (F l s)) .0 + 0 ≤ e′ .bound .0 = omega (arith, y .inside, y .inside′, y .narrower) in
-      rel-after l (field e k a 0 v s) (field e′ k a 0 v (F l s)) m m′ (inl (exact-field e e′ k a 0 v .at l s))
-      (held-field e 0 k a v s g f (omega arith)) (held-field e′ 0 k a v (F l s) g′ f′ (omega arith)) h
+      let z : (aligned e′ a (there l s)) .0 ≡ e′ .start .0 + ((aligned e a s) .0 - e .start .0) = stand a l s in
+      let g′ : e′ .start .0 ≤ (aligned e′ a (there l s)) .0 = omega arith in
+      let f′ : (aligned e′ a (there l s)) .0 + 0 ≤ e′ .bound .0 = omega (arith, y .inside, y .inside′, y .narrower) in
+      rel-after l (field e k a 0 v s) (field e′ k a 0 v (there l s)) m m′ (inl (exact-field e e′ k a 0 v .at l s))
+      (held-field e 0 k a v s g f (omega arith)) (held-field e′ 0 k a v (there l s) g′ f′ (omega arith)) h
 
   reach-inside : (k a v : ℕ) (m′ : Step) → ((q : ℕ) → Holding e′ (λ p d. q ≤ p) m′) → (s : State) → e′ .start .0 ≤ (aligned e′ a s) .0
       → (aligned e′ a s) .0 + 0 ≤ e′ .bound .0
@@ -665,11 +666,11 @@ module _ (e e′ : Env) (y : Like e e′) where
       omega arith
 
   rel-head : (l : ℕ → ℕ) (k a v : ℕ) (m m′ : Step) → Pair l m m′ → (s : State)
-      → R l ((fit e a 0 ⨾ field e k a 0 v ⨾ m) s) ((fit e′ a 0 ⨾ field e′ k a 0 v ⨾ m′) (F l s))
+      → Beside l ((fit e a 0 ⨾ field e k a 0 v ⨾ m) s) ((fit e′ a 0 ⨾ field e′ k a 0 v ⨾ m′) (there l s))
   rel-head l k a v m m′ h s =
       fits l a 0 _ _ s (λ f. rel-inside l k a v m m′ h s f)
-      (λ f fs t q. let g′ : e′ .start .0 ≤ (aligned e′ a (F l s)) .0 = start-aligned e′ e a (F l s) in
-      reach-inside k a v m′ (h .held′) (F l s) g′ f fs t q)
+      (λ f fs t q. let g′ : e′ .start .0 ≤ (aligned e′ a (there l s)) .0 = start-aligned e′ e a (there l s) in
+      reach-inside k a v m′ (h .held′) (there l s) g′ f fs t q)
 
   at-place : (s : State) → Between e (s .place .0) → (aligned e 1 s) .0 + 0 ≤ e .bound .0
   unfolding aligned
@@ -682,12 +683,12 @@ module _ (e e′ : Env) (y : Like e e′) where
     held′ = λ q. from e′ q .seq (h .held′ q) (k .held′ q);
   }
     where
-      by : (s : State) → Between e (s .place .0) → R l ((m ⨾ n) s) ((m′ ⨾ n′) (F l s))
+      by : (s : State) → Between e (s .place .0) → Beside l ((m ⨾ n) s) ((m′ ⨾ n′) (there l s))
       by s b = unfold _⨾_ in
-          let c : Between e′ ((F l s) .place .0) = there-between l s b in
-          rel-after l (m s) (m′ (F l s)) n n′ (h .rel s b)
+          let c : Between e′ ((there l s) .place .0) = there-between l s b in
+          rel-after l (m s) (m′ (there l s)) n n′ (h .rel s b)
           (h .held 0 .at s (record { from = b .0; to = b .1; kept = omega arith }))
-          (h .held′ 0 .at (F l s) (record { from = c .0; to = c .1; kept = omega arith })) k
+          (h .held′ 0 .at (there l s) (record { from = c .0; to = c .1; kept = omega arith })) k
 
   pub pairs : (l : ℕ → ℕ) → Law2 e e′ (Pair l)
   pairs l = record {
@@ -759,7 +760,8 @@ module _ (e e′ : Env) (y : Like e e′) where
   }
     where
       rel-slot : (i : ℕ) (f f′ : Content → Step) (l : ℕ → ℕ) (s : State)
-          → R l (f (slotAt (s .slots) i) s) (f′ (slotAt (s .slots) i) (F l s)) → R l (fromSlot i f s) (fromSlot i f′ (F l s))
+          → Beside l (f (slotAt (s .slots) i) s) (f′ (slotAt (s .slots) i) (there l s))
+          → Beside l (fromSlot i f s) (fromSlot i f′ (there l s))
       rel-slot i f f′ l s h = unfold fromSlot far in h
 
   -- a root's reading over bytes that agree

@@ -1,11 +1,11 @@
 -- A packet that goes through, part by part: header, class, context, lengths and events, with the state behind each. It is taken apart and
 -- put
 -- together once, so that whatever else is said of such a packet is said of its parts.
-use mathlib.Core.Path.{_≡_, refl, sym, ap, _∙_, subst}
-use Prim.Native.Nat.{ℕ, _+_, _-_, _*_, _≤_}
+use mathlib.Core.Path.{_≡_, refl, sym, ap, _∙_}
+use Prim.Native.Nat.{ℕ, _+_, _-_, _*_}
 use native.Mathlib.Omega.{arith}
-use mathlib.Core.List.{List, [], _∷_, _++_}
-use mathlib.Core.Bool.{Bool, true, false}
+use mathlib.Core.List.{List, _∷_, _++_}
+use mathlib.Core.Bool.{Bool, false}
 use mathlib.Core.Option.{Option, none, some}
 use lib.ListN.{length}
 use lib.Dec.{ltb}
@@ -15,7 +15,7 @@ use Rattle.rules.specs.declared.Entry.{Entry}
 use Rattle.rules.specs.declared.Refusal.the-variants.{StreamClassChanged, LengthsContradict, ClocksContradict}
 use Rattle.rules.specs.Limits.{wordsPerEntry}
 use Rattle.rules.specs.Entry.{entry, packetStarts, streamClassFound, lengthsSettled}
-use Rattle.rules.specs.Step.{State, Out, go, Step, _⨾_, refuse, check, due, change}
+use Rattle.rules.specs.Step.{State, go, Step, _⨾_, refuse, check, due}
 use Rattle.rules.specs.Table.{StreamClass, Asked}
 use Rattle.rules.specs.Packet.{mark, readRoot, above, readContent, withStream, differs, startPacket, readPacket}
 use Rattle.packet_alone.specs.Behind.{toEnd, less, totalOf, contentOf, contradict, eventsOf, contentStep, ofClass, ofStream, packet}

@@ -31,22 +31,22 @@ use Rattle.rules.specs.Text.{textLength, zeroAt}
 use Rattle.rules.specs.Clock.{clockAfter}
 use Rattle.rules.specs.Slots.{slotAt}
 use Rattle.rules.specs.Entry.{entry, clockAdvanced}
-use Rattle.rules.specs.Step.{State, go, Step, _⨾_, refuse, check, due, listed, change, pass, withSlots, withOrder, withClock, withSaid}
+use Rattle.rules.specs.Step.{State, Step, _⨾_, refuse, check, due, listed, change, pass, withSlots, withOrder, withClock, withSaid}
 use Rattle.rules.specs.Class.{Role, noRole, magic, streamClassId, streamId, uuid, totalLength, contentLength, clock, endClock, discarded}
 use Rattle.rules.specs.Class.{sequence, eventClassId}
-use Rattle.rules.specs.Class.{Sort, kindOf, Sign, plain, signed as withSign, anyHolds, alignOf, Range, Class, fixed, leb128, signedLeb128}
+use Rattle.rules.specs.Class.{Sort, kindOf, Sign, plain, signed as withSign, anyHolds, Class, fixed, leb128, signedLeb128}
 use Rattle.rules.specs.Class.{string, staticString, staticBlob, dynamicString, dynamicBlob}
 use Rattle.rules.specs.Class.{structure, staticArray, dynamicArray, flagged, optional, variant, Classes, noMember, member, Options}
 use Rattle.rules.specs.Class.{noOption, option as anOption, count}
 use Rattle.rules.specs.Field.{Env, aligned, fit, field, store, newClock, say, role, blobRole as roleOfBytes, fromSlot, asFlag, asNumber}
-use Rattle.rules.specs.Field.{asLength, valueOf, slotOf, ahead, bytesAt, turned, readFixed, readLeb, readZero, readText, readBlob, times}
+use Rattle.rules.specs.Field.{asLength, valueOf, slotOf, ahead, bytesAt, readFixed, readLeb, readZero, readText, readBlob, times}
 use Rattle.rules.specs.Field.{present, read, readMembers, readOption}
 use Rattle.rules.specs.Packet.{readRoot}
 use Rattle.rules.specs.Record.{Shape, bitField, lebField, signedLebField, zeroString, text, blob, textOf, blobOf, members, elements}
 use Rattle.rules.specs.Record.{elementsOf, option?, options, Says, Fragment, preamble, traceClass, clockClass, streamClass, eventClass}
 use Rattle.rules.specs.Record.{Record, unknown, fragment, root, class, range, option, recordOf, behind, size}
 use Rattle.rules.specs.Table.{StreamClass, EventClass, Table, asked, findStream, findEvent, Asked}
-use Rattle.rules.specs.Parse.{Parsed, bad, good, Parser, then, sound, missing, one, Ranges, rangeOf, countOf, parseRanges, parseMembers}
+use Rattle.rules.specs.Parse.{Parsed, bad, good, Parser, then, sound, missing, one, Ranges, countOf, parseRanges, parseMembers}
 use Rattle.rules.specs.Parse.{parseOptions, selected, parseShape, parseBody, parseClass, isRoot, anyRoot, parseRoots, noTable, rootOf}
 use Rattle.rules.specs.Parse.{rootNumbers, isTimed, hasUuid, add, parseFragment, parseOpened, parseFragments, parse}
 use Rattle.rules.specs.Faults.{pick, Seen, recordFault, Spot, top, inside, memberSpot, Under, roleOf, roles, numberRole, blobRole, badRole}
@@ -54,7 +54,7 @@ use Rattle.rules.specs.Faults.{badSlot, badNumber, classFault, isTop, optionFau
 use Rattle.facts.proofs.Truth.{and-left}
 use Rattle.facts.proofs.Faults.{pick-zero, pick-false}
 use Rattle.laws.proofs.Sound.{no-fault}
-use Rattle.laws.proofs.Triple.{Ok, Triple, then as thenᵗ, passing, changing, refusing, checks, untested, dued}
+use Rattle.laws.proofs.Triple.{Triple, then as thenᵗ, passing, changing, refusing, checks, untested, dued}
 
 -- Classes whose numbers have no role of the stream class id
 

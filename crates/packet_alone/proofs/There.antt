@@ -1,12 +1,12 @@
 -- A packet that goes through goes through at another place in another stream, where the bytes are the same; also from a lower last clock.
 -- What it
 -- lists is moved, and the state behind it too.
-use mathlib.Core.Path.{_≡_, refl, sym, ap, _∙_, subst}
+use mathlib.Core.Path.{_≡_, refl, sym, ap, _∙_}
 use Prim.Native.Nat.{ℕ, _+_, _-_, _*_, _%_, _≤_}
 use native.Mathlib.Omega.{arith}
-use mathlib.Core.List.{List, [], _∷_, _++_, map}
-use mathlib.Core.Bool.{Bool, true, false, not}
-use mathlib.Core.Option.{Option, none, some}
+use mathlib.Core.List.{List, _∷_, _++_}
+use mathlib.Core.Bool.{false, not}
+use mathlib.Core.Option.{Option}
 use lib.ListN.{length}
 use lib.Dec.{ltb, eqb}
 use borrow.Author.Tests.{ltb-false}
@@ -14,8 +14,8 @@ use Rattle.rules.specs.declared.BitPlace.{BitPlace}
 use Rattle.rules.specs.declared.Stated.{Stated}
 use Rattle.rules.specs.declared.Entry.{Entry}
 use Rattle.rules.specs.Place.{bitPlace, further}
-use Rattle.rules.specs.Entry.{entry, streamClassFound, lengthsSettled}
-use Rattle.rules.specs.Step.{State, Out, go}
+use Rattle.rules.specs.Entry.{entry, streamClassFound}
+use Rattle.rules.specs.Step.{State, go}
 use Rattle.rules.specs.Class.{Class}
 use Rattle.rules.specs.Table.{StreamClass, Asked}
 use Rattle.rules.specs.Field.{Env}
@@ -24,7 +24,7 @@ use Rattle.laws.specs.Between.{Between}
 use Rattle.packet_alone.specs.Behind.{upTo, toEnd, less, totalOf, contentOf, contradict, eventsOf}
 use Rattle.packet_alone.proofs.Far.{away, farEntry, farAll, far, far-append}
 use Rattle.packet_alone.proofs.Pair.{Like, pair-root}
-use Rattle.packet_alone.proofs.Beside.{like, four, bad-same, entries-same}
+use Rattle.packet_alone.proofs.Beside.{like, none-of-four, contradict-same, entries-same}
 use Rattle.packet_alone.proofs.Lower.{Low, Lowered, out-of, still-in, lowers-events}
 use Rattle.packet_alone.proofs.Ran.{RanContent, Ran}
 
@@ -125,7 +125,7 @@ module _ (t : Asked) (b b′ : List ℕ) (p p′ : BitPlace) (y : Like (toEnd t 
 
     fits : (content ≤ total) × (p .0 + total ≤ 8 * length b) × (r .s₂ .place .0 ≤ p .0 + content)
     fits =
-        let f = four (not (eqb (total % 8) 0)) (ltb total content) (ltb (8 * length b) (p .0 + total))
+        let f = none-of-four (not (eqb (total % 8) 0)) (ltb total content) (ltb (8 * length b) (p .0 + total))
         (ltb (p .0 + content) (r .s₂ .place .0)) (r .content .lengths) in
         (ltb-false _ _ (f .0), ltb-false _ _ (f .1), ltb-false _ _ (f .2))
 
@@ -138,9 +138,9 @@ module _ (t : Asked) (b b′ : List ℕ) (p p′ : BitPlace) (y : Like (toEnd t 
     lengths-there : contradict b′ p′ total content (there (r .s₂)) ≡ false
     unfolding far
     lengths-there =
-        let f = four (not (eqb (total % 8) 0)) (ltb total content) (ltb (8 * length b) (p .0 + total))
+        let f = none-of-four (not (eqb (total % 8) 0)) (ltb total content) (ltb (8 * length b) (p .0 + total))
         (ltb (p .0 + content) (r .s₂ .place .0)) (r .content .lengths) in
-        bad-same t b b′ p p′ y (r .c) total content (r .s₂) (d₂ .0) (f .1) ∙ r .content .lengths
+        contradict-same t b b′ p p′ y (r .c) total content (r .s₂) (d₂ .0) (f .1) ∙ r .content .lengths
 
     later : EventsThere (r .c) low total content (r .s₂) (r .content .rest) u
     later = events-there (r .c) low total content (r .s₂) (r .content .rest) u (d₂ .0) (fits .2) inStream (r .content .events)

@@ -7,14 +7,13 @@ use mathlib.Core.Path.{_≡_, refl, sym, ap, _∙_, subst}
 use mathlib.Core.Logic.{_⊎_, inl, inr, ⊎-elim}
 use Prim.Native.Nat.{ℕ, zero, suc, _+_, _-_, _*_, _/_, _%_, _≤_, _<_}
 use native.Mathlib.Omega.{arith}
-use mathlib.Core.List.{List, [], _∷_, _++_, map, append-assoc}
+use mathlib.Core.List.{List, [], _++_, map, append-assoc}
 use mathlib.Core.Bool.{Bool, true, false, _||_}
-use mathlib.Core.Option.{Option, none, some}
+use mathlib.Core.Option.{none, some}
 use lib.ListN.{length, take, drop, length-drop, length-append, take-append-drop}
 use lib.Seq.{length-take-le, drop-drop, drop-at}
 use lib.Dec.{ltb, eqb}
-use borrow.Author.Tests.{ltb-true, ltb-false, lt-ltb, le-ltb, eqb-false, ne-eqb}
-use Rattle.rules.specs.declared.BitPlace.{BitPlace}
+use borrow.Author.Tests.{ltb-true, ltb-false, lt-ltb, le-ltb, ne-eqb}
 use Rattle.rules.specs.declared.Stated.{Stated}
 use Rattle.rules.specs.declared.Stated.the-variants.{Missing, As}
 use Rattle.rules.specs.declared.Entry.{Entry}
@@ -24,7 +23,7 @@ use Rattle.rules.specs.Limits.{streamLimit}
 use Rattle.rules.specs.Place.{bitPlace}
 use Rattle.rules.specs.Verdict.{stopAt, refusalNumber, numberOf}
 use Rattle.rules.specs.Step.{State, Out, stop, go, Step, _⨾_, pass}
-use Rattle.rules.specs.Table.{Table, StreamClass, Asked, asked}
+use Rattle.rules.specs.Table.{Table, Asked, asked}
 use Rattle.rules.specs.Packet.{differs, readPacket, readPackets}
 use Rattle.rules.specs.Parse.{Parsed, bad, good, parse}
 use Rattle.rules.specs.Read.{Reading, ended, begin, readStream, readParsed, readAll}
@@ -34,7 +33,7 @@ use Rattle.facts.proofs.Refusals.{refusalNumber-bounds}
 use Rattle.laws.proofs.Law.{Any}
 use Rattle.laws.proofs.Accepted.{Fitting}
 use Rattle.packet_alone.specs.Behind.{less}
-use Rattle.packet_alone.proofs.Through.{Split, split, join}
+use Rattle.packet_alone.proofs.Through.{split, join}
 use Rattle.packet_alone.proofs.Roles.{HeaderOnly, header-only}
 use Rattle.packet_alone.proofs.Ends.{ends-class, ends-found, ends-no-earlier}
 use Rattle.packet_alone.proofs.Before.{same-packet}
@@ -44,7 +43,7 @@ use Rattle.promises.proofs.Rising.{Onward}
 use Rattle.promises.proofs.Laws.{accepted-positive}
 use Rattle.promises.proofs.Spent.{packet-spent}
 use Rattle.promises.proofs.Whole.{Whole, whole-packet}
-use Rattle.promises.proofs.Onwards.{Gap, Onwards, Rest, onward-packets, no-other}
+use Rattle.promises.proofs.Onwards.{Gap, Onwards, Rest, onward-packets}
 use Rattle.promises.proofs.Cut.{before-skip, from-skip, packet-passed, before-at, from-at, place-at, packets-at, total-at}
 
 module _ (t : Asked) (w : Fitting Positive (λ r. Any) Any t) (only : HeaderOnly t) (b : List ℕ) where

@@ -1,19 +1,18 @@
 -- Two calls that meet the contract, of a stream and of that stream without a packet: what the first listed is what the rules list, and so
 -- are result
 -- and list of the second.
-use mathlib.Core.Path.{_≡_, refl, sym, ap, subst, _∙_}
+use mathlib.Core.Path.{_≡_, sym, ap, subst, _∙_}
 use Prim.Native.Nat.{ℕ, _-_, _*_, _<_}
-use mathlib.Core.List.{List, _++_}
-use lib.ListN.{length, drop}
+use mathlib.Core.List.{List}
+use lib.ListN.{length}
 use Rattle.rules.specs.declared.Entry.{Entry}
 use Rattle.rules.specs.declared.Result.{Result}
 use Rattle.rules.specs.declared.Verdict.the-variants.{Accepted}
 use Rattle.rules.specs.Place.{bitPlace}
-use Rattle.rules.specs.Entry.{words}
 use Rattle.rules.specs.Verdict.{numberOf, placeOf, firstOf, secondOf}
 use Rattle.rules.specs.Read.{Reading, readAll, resultOf, listAfter}
-use Rattle.promises.specs.Demands.{Call, call, listedBy, cameBehind, Contract}
-use Rattle.promises.specs.Apart.{fromPacket, totalIn, packetsIn, listWithout, bytesWithout, resultWithout, PacketRemoved, ApartCalls}
+use Rattle.promises.specs.Demands.{Call, call, listedBy, Contract}
+use Rattle.promises.specs.Apart.{fromPacket, totalIn, packetsIn, listWithout, bytesWithout, PacketRemoved}
 use Rattle.promises.specs.Apart.{ApartOfCalls, TwoStreams}
 use Rattle.promises.proofs.Calls.{lists-entries}
 use Rattle.promises.proofs.Promised.{Ensured, contract}

@@ -7,14 +7,14 @@ use Prim.Native.Nat.{ℕ, zero, suc, _+_, _-_, _*_, _/_, _%_, _≤_, _<_}
 use native.Mathlib.Omega.{arith}
 use mathlib.Core.List.{List, [], _∷_, _++_, map, append-nil}
 use mathlib.Core.Bool.{Bool, true, false, not}
-use mathlib.Core.Option.{Option, none, some}
+use mathlib.Core.Option.{none, some}
 use lib.ListN.{length, drop, length-drop}
 use lib.Dec.{ltb, eqb}
 use borrow.Author.Tests.{eqb-true, eq-eqb, ne-eqb, not-false, ltb-true, ltb-false, lt-ltb, le-ltb}
 use Rattle.rules.specs.declared.BitPlace.{BitPlace}
 use Rattle.rules.specs.declared.LastOrder.the-variants.{Nothing}
 use Rattle.rules.specs.declared.Stated.{Stated}
-use Rattle.rules.specs.declared.Stated.the-variants.{Missing, As}
+use Rattle.rules.specs.declared.Stated.the-variants.{As}
 use Rattle.rules.specs.declared.Entry.{Entry}
 use Rattle.rules.specs.Limits.{wordsPerEntry}
 use Rattle.rules.specs.Place.{bitPlace}
@@ -25,14 +25,13 @@ use Rattle.rules.specs.Table.{StreamClass, Asked}
 use Rattle.rules.specs.Field.{Env}
 use Rattle.rules.specs.Packet.{differs, nothingSaid, startPacket, readPacket, readPackets}
 use Rattle.laws.specs.All.{All}
-use Rattle.laws.specs.Between.{Between}
 use Rattle.laws.proofs.Law.{Any}
 use Rattle.laws.proofs.Accepted.{Fitting}
 use Rattle.packet_alone.specs.Behind.{toEnd, less, packet}
 use Rattle.packet_alone.proofs.Far.{farEntry, farAll, far}
 use Rattle.packet_alone.proofs.Pair.{Like}
 use Rattle.packet_alone.proofs.Through.{Split, split, join, do-change}
-use Rattle.packet_alone.proofs.Ran.{Ran, RanWhole, run, run-whole, headed}
+use Rattle.packet_alone.proofs.Ran.{Ran, run, run-whole, headed}
 use Rattle.packet_alone.proofs.Lower.{Low}
 use Rattle.packet_alone.proofs.Roles.{HeaderOnly}
 use Rattle.packet_alone.proofs.Ends.{ends-class, ends-found, any-first}

@@ -2,7 +2,7 @@
 -- and no entry
 -- stands before its place.
 use mathlib.Core.Path.{_≡_, refl, sym, ap, _∙_, subst}
-use mathlib.Core.Logic.{_⊎_, inl, inr}
+use mathlib.Core.Logic.{inl, inr}
 use Prim.Native.Nat.{ℕ, zero, suc, _+_, _-_, _*_, _%_, _≤_, _<_}
 use native.Mathlib.Omega.{arith}
 use mathlib.Core.List.{List, [], _∷_, _++_}
@@ -16,7 +16,7 @@ use Rattle.rules.specs.declared.Stated.{Stated}
 use Rattle.rules.specs.declared.Entry.{Entry}
 use Rattle.rules.specs.declared.Refusal.the-variants.{EventClassUnknown, EventTookNoBits, ClockWentBack}
 use Rattle.rules.specs.Limits.{wordsPerEntry}
-use Rattle.rules.specs.Entry.{entry, packetStarts, streamClassFound, lengthsSettled, eventStarts, eventClassFound, clockAdvanced}
+use Rattle.rules.specs.Entry.{entry, packetStarts, streamClassFound, lengthsSettled, eventStarts, eventClassFound}
 use Rattle.rules.specs.Entry.{packetEnds}
 use Rattle.rules.specs.Step.{State, Out, go, Step, _⨾_}
 use Rattle.rules.specs.Class.{Class}
@@ -33,10 +33,10 @@ use Rattle.packet_alone.proofs.Ran.{Ran, RanWhole, ran, ran-whole}
 use Rattle.packet_alone.proofs.Ends.{ends-behind}
 use Rattle.promises.specs.Laws.{Rising}
 use Rattle.promises.specs.Apart.{totalIn}
-use Rattle.promises.proofs.Each.{Each, each-λ, each-refuse, each-check, each-due, each-change, each-listed, _⨾ᵉ_, FieldEntry}
+use Rattle.promises.proofs.Each.{Each, each-refuse, each-check, each-due, each-change, each-listed, _⨾ᵉ_, FieldEntry}
 use Rattle.promises.proofs.Each.{fields-root}
 use Rattle.promises.proofs.Rising.{RiseOut, Onward}
-use Rattle.promises.proofs.Packets.{Positive, Goes, Behind, go-packet}
+use Rattle.promises.proofs.Packets.{Positive, Behind, go-packet}
 
 all-map : {P Q : Entry → Type 0} → ((x : Entry) → P x → Q x) → (es : List Entry) → All P es → All Q es
 all-map f [] h = tt
