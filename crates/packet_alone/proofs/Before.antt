@@ -1,6 +1,5 @@
 -- A packet that ends where two streams still agree, or before, reads the same in both: it reads among the bytes that they share, and from
--- there
--- in the other. What stands for its lengths, were none stated, is the whole rest of its stream, which it does not take.
+-- there in the other. What stands for its lengths, were none stated, is the whole rest of its stream, which it does not take.
 use mathlib.Core.Path.{_≡_, refl, sym, ap, _∙_}
 use Prim.Native.Nat.{ℕ, _+_, _-_, _*_, _/_, _%_, _≤_, _<_}
 use native.Mathlib.Omega.{arith}

@@ -1,9 +1,7 @@
 -- A packet beside the same packet in another stream. In order: its parts and an event, as pairs of steps; all events, as one equation
--- where both
--- bounds are as far; lengths and events; and THE LAW, `tail-packet`: a whole packet behind its entry 1, for any two places and any two
--- streams
--- that hold the same bytes there, with the exception that `Far` says (`Cut`). A content's steps come last: they may go behind the first
--- bound.
+-- where both bounds are as far; lengths and events; and THE LAW, `tail-packet`: a whole packet behind its entry 1, for any two places and
+-- any two streams that hold the same bytes there, with the exception that `Far` says (`Cut`). A content's steps come last: they may go
+-- behind the first bound.
 use mathlib.Core.Path.{_≡_, refl, sym, ap, _∙_, subst}
 use mathlib.Core.Logic.{inl, inr}
 use Prim.Native.Nat.{ℕ, zero, suc, _+_, _-_, _*_, _%_, _≤_, _<_}

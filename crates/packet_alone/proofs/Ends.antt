@@ -1,8 +1,6 @@
 -- How a packet that goes through ends: behind its total length; with the stream class id that its header said; and, where there is a
--- clock, with
--- a last clock that is no lower than the one it began with (39). So it does not matter what stands for lengths that are not stated,
--- unless the
--- packet ends just there; nor which packet was the first, as long as it is of that class.
+-- clock, with a last clock that is no lower than the one it began with (39). So it does not matter what stands for lengths that are not
+-- stated, unless the packet ends just there; nor which packet was the first, as long as it is of that class.
 use mathlib.Core.Path.{_≡_, refl, sym, ap, _∙_, subst}
 use mathlib.Core.Logic.{_⊎_, inl, inr}
 use Prim.Native.Nat.{ℕ, zero, suc, _+_, _-_, _≤_}

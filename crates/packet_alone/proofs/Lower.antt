@@ -1,5 +1,6 @@
--- An event that goes through does so at another place too, and where the last event's clock was lower; it lists the same. 39 alone looks at
--- that clock, and behind 39 it is the event's own in both. So do all events of a packet; where there is none, the last clock stays lower.
+-- An event that goes through does so at another place too, and where the last event's clock was lower; it lists the same. 39 alone looks
+-- at that clock, and behind 39 it is the event's own in both. So do all events of a packet; where there is none, the last clock stays
+-- lower.
 use mathlib.Core.Path.{_≡_, refl, sym, ap, _∙_, subst}
 use mathlib.Core.Logic.{inl, inr}
 use Prim.Native.Nat.{ℕ, zero, suc, _+_, _-_, _≤_}

@@ -1,6 +1,5 @@
 -- A packet that goes through, part by part: header, class, context, lengths and events, with the state behind each. It is taken apart and
--- put
--- together once, so that whatever else is said of such a packet is said of its parts.
+-- put together once, so that whatever else is said of such a packet is said of its parts.
 use mathlib.Core.Path.{_≡_, refl, sym, ap, _∙_}
 use Prim.Native.Nat.{ℕ, _+_, _-_, _*_}
 use native.Mathlib.Omega.{arith}

@@ -1,6 +1,6 @@
 -- An accepted table has the role of the stream class id in packet headers alone (12 refuses others), so that no field behind a header
--- changes
--- the stream class id that the header said. In order: roles of a class; what an accepted table's classes are, along the parse; readings.
+-- changes the stream class id that the header said. In order: roles of a class; what an accepted table's classes are, along the parse;
+-- readings.
 use mathlib.Core.Path.{_≡_, refl, sym, ap, _∙_, subst}
 use Prim.Native.Nat.{ℕ, zero, suc, _+_, _*_, _^_, _≤_}
 use native.Mathlib.Omega.{arith}

@@ -1,6 +1,5 @@
 -- A packet that goes through goes through at another place in another stream, where the bytes are the same; also from a lower last clock.
--- What it
--- lists is moved, and the state behind it too.
+-- What it lists is moved, and the state behind it too.
 use mathlib.Core.Path.{_≡_, refl, sym, ap, _∙_}
 use Prim.Native.Nat.{ℕ, _+_, _-_, _*_, _%_, _≤_}
 use native.Mathlib.Omega.{arith}

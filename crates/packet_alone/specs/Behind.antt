@@ -1,6 +1,5 @@
 -- A packet behind its entry 1, as `readPacket` has it; what stands for lengths that are not stated is a number of its own, `rest`. In
--- order:
--- the environments of a packet; its parts, from the events up; the packet.
+-- order: the environments of a packet; its parts, from the events up; the packet.
 use Prim.Native.Nat.{ℕ, _+_, _-_, _*_, _%_}
 use mathlib.Core.List.{List}
 use mathlib.Core.Bool.{Bool, not, _||_}

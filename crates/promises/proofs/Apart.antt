@@ -1,8 +1,6 @@
 -- Packets stand on their own. Along the packets of an accepted stream: those before the removed one read as they did, since they end
--- before the
--- streams part; then it is passed over; those behind it go on by `Onwards`. In order: a round of the packet loop; what the list shows of
--- a packet;
--- the stream without it; the reading; all of it.
+-- before the streams part; then it is passed over; those behind it go on by `Onwards`. In order: a round of the packet loop; what the
+-- list shows of a packet; the stream without it; the reading; all of it; figures.
 use mathlib.Core.Path.{_≡_, refl, sym, ap, _∙_, subst}
 use mathlib.Core.Logic.{_⊎_, inl, inr, ⊎-elim}
 use Prim.Native.Nat.{ℕ, zero, suc, _+_, _-_, _*_, _/_, _%_, _≤_, _<_}
@@ -19,6 +17,7 @@ use Rattle.rules.specs.declared.Stated.the-variants.{Missing, As}
 use Rattle.rules.specs.declared.Entry.{Entry}
 use Rattle.rules.specs.declared.Refusal.the-variants.{StreamSize}
 use Rattle.rules.specs.declared.Verdict.the-variants.{Accepted, Refused}
+use Rattle.rules.specs.Opened.{opened}
 use Rattle.rules.specs.Limits.{streamLimit}
 use Rattle.rules.specs.Place.{bitPlace}
 use Rattle.rules.specs.Verdict.{stopAt, refusalNumber, numberOf}
@@ -37,7 +36,8 @@ use Rattle.packet_alone.proofs.Through.{split, join}
 use Rattle.packet_alone.proofs.Roles.{HeaderOnly, header-only}
 use Rattle.packet_alone.proofs.Ends.{ends-class, ends-found, ends-no-earlier}
 use Rattle.packet_alone.proofs.Before.{same-packet}
-use Rattle.promises.specs.Apart.{beforePacket, fromPacket, placeIn, totalIn, packetsIn, lower, listWithout, bytesWithout, Apart}
+use Rattle.promises.specs.Apart.{startsPacket, beforePacket, fromPacket, placeIn, totalIn, packetsIn, numberLower, lower}
+use Rattle.promises.specs.Apart.{listWithout, bytesWithout, Apart, threePackets, ApartFigures}
 use Rattle.promises.proofs.Packets.{Positive, packet-rounds, go-packets}
 use Rattle.promises.proofs.Rising.{Onward}
 use Rattle.promises.proofs.Laws.{accepted-positive}
@@ -529,3 +529,9 @@ apart x b room k = by (parse x) refl
     by : (p : Parsed Table) → parse x ≡ p → OfParsed x b room k p
     by (bad n y) e = unfold readParsed numberOf in λ z. absurd (omega arith)
     by (good t y) e = unfold readParsed in stream-without (asked t) (accepted-positive x t y e) (header-only x t y e) b room k
+
+-- Figures, by computation
+
+pub apart-figures : ApartFigures
+unfolding opened threePackets startsPacket beforePacket fromPacket placeIn totalIn packetsIn numberLower lower listWithout bytesWithout
+apart-figures = record { three = refl; without-first = refl; without-middle = refl; without-last = refl; list = refl }

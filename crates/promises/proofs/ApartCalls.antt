@@ -1,6 +1,5 @@
 -- Two calls that meet the contract, of a stream and of that stream without a packet: what the first listed is what the rules list, and so
--- are result
--- and list of the second.
+-- are result and list of the second.
 use mathlib.Core.Path.{_≡_, sym, ap, subst, _∙_}
 use Prim.Native.Nat.{ℕ, _-_, _*_, _<_}
 use mathlib.Core.List.{List}

@@ -1,6 +1,5 @@
 -- A list is cut by its own entries: entry 1 of a number begins a packet, and no other entry does. So a packet's entries in front of
--- others are
--- passed over or found, and show their place and their total length.
+-- others are passed over or found, and show their place and their total length.
 use mathlib.Core.Path.{_≡_, refl, sym, ap, _∙_, subst}
 use Prim.Native.Nat.{ℕ, suc, _+_, _<_}
 use native.Mathlib.Omega.{arith}

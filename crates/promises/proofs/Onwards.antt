@@ -1,7 +1,6 @@
 -- Behind a removed packet: the reading of the whole stream beside that of the stream without it. From packet to packet one record says
--- how the two
--- states differ (`Onwards`): place, room, number, first class and last clock. Each packet goes through in both, and lists the same,
--- lowered.
+-- how the two states differ (`Onwards`): place, room, number, first class and last clock. Each packet goes through in both, and lists the
+-- same, lowered.
 use mathlib.Core.Path.{_≡_, refl, sym, ap, _∙_, subst}
 use Prim.Native.Nat.{ℕ, zero, suc, _+_, _-_, _*_, _/_, _%_, _≤_, _<_}
 use native.Mathlib.Omega.{arith}

@@ -35,6 +35,7 @@ all-promises = record {
   bits-cut = bits-cut;
   leb-settled = leb-settled;
   apart = apart;
+  apart-figures = apart-figures;
   apart-calls = apart-calls;
   check-tied = check-tied;
   table-stands = table-stands;

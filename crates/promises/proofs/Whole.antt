@@ -1,6 +1,5 @@
 -- A packet that goes through, as its entries show it: entry 1 comes first and nowhere else, its first entry 3 says how far it reaches,
--- and no entry
--- stands before its place.
+-- and no entry stands before its place.
 use mathlib.Core.Path.{_≡_, refl, sym, ap, _∙_, subst}
 use mathlib.Core.Logic.{inl, inr}
 use Prim.Native.Nat.{ℕ, zero, suc, _+_, _-_, _*_, _%_, _≤_, _<_}

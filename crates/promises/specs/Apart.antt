@@ -1,6 +1,6 @@
 -- Packets stand on their own: from an accepted stream of two or more packets one whole packet is removed, and the rest reads as it did.
--- In order:
--- a packet in a list, by its number; the list and the stream without it; the statement, of the rules; and of two calls of the reader.
+-- In order: a packet in a list, by its number; the list and the stream without it; the statement, of the rules; figures; and of two calls
+-- of the reader.
 use mathlib.Core.Path.{_≡_}
 use Prim.Native.Nat.{ℕ, suc, _+_, _-_, _*_, _/_, _<_}
 use mathlib.Core.List.{List, [], _∷_, _++_, map}
@@ -14,6 +14,7 @@ use Rattle.rules.specs.declared.Result.{Result}
 use Rattle.rules.specs.Entry.{entry, words, packetStarts, lengthsSettled}
 use Rattle.rules.specs.Verdict.{numberOf}
 use Rattle.rules.specs.Read.{readAll}
+use Rattle.promises.specs.Cases.{stamped}
 use Rattle.promises.specs.Demands.{Call, listedBy, cameBehind, Contract}
 
 -- A packet in a list
@@ -63,8 +64,7 @@ bytesWithout k es b =
     take (placeIn (fromPacket k es) / 8) b ++ drop ((placeIn (fromPacket k es) + totalIn (fromPacket k es)) / 8) b
 
 -- "From an accepted stream of two or more packets remove one whole packet. The remaining stream is accepted with the same room": a table
--- x, a
--- stream b, a room, and the number k of any of its packets
+-- x, a stream b, a room, and the number k of any of its packets
 
 abbrev pub Apart : Type 0
 Apart = (x b : List ℕ) (room k : ℕ) → numberOf ((readAll x b room) .verdict) ≡ 0
@@ -75,9 +75,23 @@ Apart = (x b : List ℕ) (room k : ℕ) → numberOf ((readAll x b room) .verdic
       verdict = Accepted (bitPlace (8 * length b - totalIn (fromPacket k ((readAll x b room) .entries))));
     }
 
+-- On one stream: three packets of two bytes, each with one event of a stamp; what is left without each, and the list without the middle one
+
+unfoldable pub threePackets : List ℕ
+threePackets = 16 ∷ 10 ∷ 16 ∷ 20 ∷ 16 ∷ 30 ∷ []
+
+abbrev pub theirList : List Entry
+theirList = (readAll stamped threePackets 400) .entries
+
+pub record ApartFigures : Type 0 where
+  pub three : packetsIn theirList ≡ 3
+  pub without-first : bytesWithout 0 theirList threePackets ≡ 16 ∷ 20 ∷ 16 ∷ 30 ∷ []
+  pub without-middle : bytesWithout 1 theirList threePackets ≡ 16 ∷ 10 ∷ 16 ∷ 30 ∷ []
+  pub without-last : bytesWithout 2 theirList threePackets ≡ 16 ∷ 10 ∷ 16 ∷ 20 ∷ []
+  pub list : listWithout 1 theirList ≡ (readAll stamped (16 ∷ 10 ∷ 16 ∷ 30 ∷ []) 400) .entries
+
 -- The same of two calls, by one table: of a stream b, and of a stream b′ that is b without the packet k of the first call's list, with
--- lists of one
--- length. The first was accepted, with two packets or more
+-- lists of one length. The first was accepted, with two packets or more
 
 abbrev pub resultWithout : ℕ → List ℕ → List Entry → Result
 resultWithout k b es = record {

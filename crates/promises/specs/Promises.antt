@@ -36,6 +36,7 @@ pub record Promises : Type 0 where
   pub the-laws : TheLaws
   -- packets stand on their own: of the rules alone, and of every two calls that meet the contract of `read`
   pub apart : Apart
+  pub apart-figures : ApartFigures
   pub apart-calls : ApartOfCalls
   -- of the code
   pub bits-cut : BitsCut
