@@ -14,8 +14,8 @@ use Rattle.rules.specs.Table.{Asked}
 use Rattle.rules.specs.Field.{Env}
 use Rattle.laws.specs.Between.{Between}
 use Rattle.packet_alone.specs.Behind.{packet}
-use Rattle.packet_alone.proofs.Far.{away, farAll, farStop, far, farOut, Short, Rel}
-use Rattle.packet_alone.proofs.Pair.{Like}
+use Rattle.laws.specs.Far.{away, farAll, farStop, far, farOut, Short, Rel}
+use Rattle.laws.specs.Far.{Like}
 use Rattle.packet_alone.proofs.Beside.{same, e₀, e₁, tail-packet}
 
 module _ (t : Asked) (b b′ : List ℕ) (p p′ : BitPlace) (y : Like (e₀ t b b′ p p′) (e₁ t b b′ p p′)) (rest : ℕ) (i : Stated) where

@@ -17,8 +17,8 @@ use Rattle.rules.specs.Field.{Env}
 use Rattle.rules.specs.Packet.{readPacket}
 use Rattle.laws.specs.Between.{Between}
 use Rattle.packet_alone.specs.Behind.{toEnd, less, packet}
-use Rattle.packet_alone.proofs.Far.{farEntry, farAll, far}
-use Rattle.packet_alone.proofs.Pair.{Like}
+use Rattle.laws.specs.Far.{farEntry, farAll, far}
+use Rattle.laws.specs.Far.{Like}
 use Rattle.packet_alone.proofs.Beside.{same}
 use Rattle.packet_alone.proofs.Alone.{Went, reads-alone, reads-there}
 use Rattle.packet_alone.proofs.Ran.{RanWhole, ran, run, ran-whole, run-whole}

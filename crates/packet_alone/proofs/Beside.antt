@@ -1,7 +1,7 @@
 -- A packet beside the same packet in another stream. In order: its parts and an event, as pairs of steps; all events, as one equation
 -- where both bounds are as far; lengths and events; and THE LAW, `tail-packet`: a whole packet behind its entry 1, for any two places and
--- any two streams that hold the same bytes there, with the exception that `Far` says (`Cut`). A content's steps come last: they may go
--- behind the first bound.
+-- any two streams that hold the same bytes there, with the exception that `Far` (crate laws) says, `Cut`. A content's steps come last:
+-- they may go behind the first bound.
 use mathlib.Core.Path.{_≡_, refl, sym, ap, _∙_, subst}
 use mathlib.Core.Logic.{inl, inr}
 use Prim.Native.Nat.{ℕ, zero, suc, _+_, _-_, _*_, _%_, _≤_, _<_}
@@ -33,10 +33,13 @@ use Rattle.laws.specs.Between.{Between}
 use Rattle.laws.proofs.Triple.{Ok, changing, checks, refusing}
 use Rattle.laws.proofs.Between.{Held, In, At, NoMore, Holding}
 use Rattle.packet_alone.specs.Behind.{upTo, toEnd, contradict, eventsOf, contentStep, ofClass, ofStream, packet}
-use Rattle.packet_alone.proofs.Far.{away, farEntry, farAll, far, farOut, far-onto, Exact, exact-refuse}
-use Rattle.packet_alone.proofs.Far.{exact-pass, Cut, Rel, rel-check, rel-due}
-use Rattle.packet_alone.proofs.Pair.{Like, Pair, pairs, pair-root, onto-go, through}
-use Rattle.packet_alone.proofs.Pair.{from, there-between, rel-onto, seq-pair}
+use Rattle.laws.specs.Far.{away, farEntry, farAll, far, farOut}
+use Rattle.laws.proofs.Far.{far-onto, Exact, exact-refuse}
+use Rattle.laws.specs.Far.{Cut, Rel}
+use Rattle.laws.proofs.Far.{exact-pass, rel-check, rel-due}
+use Rattle.laws.specs.Far.{Like}
+use Rattle.laws.proofs.Pair.{Pair, pairs, pair-root, onto-go, through}
+use Rattle.laws.proofs.Pair.{from, there-between, rel-onto, seq-pair}
 
 -- the last event's clock as it is
 abbrev pub same : ℕ → ℕ

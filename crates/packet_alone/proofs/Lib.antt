@@ -1,7 +1,3 @@
-pub mod Two
-pub mod Far
-pub mod Agree
-pub mod Pair
 pub mod Through
 pub mod Beside
 pub mod Alone

@@ -21,8 +21,10 @@ use Rattle.rules.specs.Packet.{mark, startEvent, readEvent, endPacket, readEven
 use Rattle.laws.specs.Between.{Between}
 use Rattle.laws.proofs.Triple.{Ok}
 use Rattle.laws.proofs.Between.{Held, In, At, NoMore, Holding}
-use Rattle.packet_alone.proofs.Far.{away, farEntry, farAll, far, farOut, far-append, Exact, Rel}
-use Rattle.packet_alone.proofs.Pair.{Like, Pair, pair-root, exact-change, exact-due}
+use Rattle.laws.specs.Far.{away, farEntry, farAll, far, farOut, Rel}
+use Rattle.laws.proofs.Far.{far-append, Exact}
+use Rattle.laws.specs.Far.{Like}
+use Rattle.laws.proofs.Pair.{Pair, pair-root, exact-change, exact-due}
 use Rattle.packet_alone.proofs.Through.{Split, split, join, passed, pass-check, do-change}
 use Rattle.packet_alone.proofs.Beside.{same, Alike, held-here, held-change, held-check, pair-due, pair-found, pair-moved, pair-event}
 use Rattle.packet_alone.proofs.Beside.{_⨾ᵖ_, body, end-same, before-bound, loops}

@@ -18,7 +18,7 @@ use Rattle.rules.specs.Step.{State, go, Step, _⨾_, refuse, check, due}
 use Rattle.rules.specs.Table.{StreamClass, Asked}
 use Rattle.rules.specs.Packet.{mark, readRoot, above, readContent, withStream, differs, startPacket, readPacket}
 use Rattle.packet_alone.specs.Behind.{toEnd, less, totalOf, contentOf, contradict, eventsOf, contentStep, ofClass, ofStream, packet}
-use Rattle.packet_alone.proofs.Pair.{through}
+use Rattle.laws.proofs.Pair.{through}
 use Rattle.packet_alone.proofs.Through.{Split, split, join, passed, pass-check, do-change, has-room, past-due, pass-due, marked}
 use Rattle.packet_alone.proofs.Through.{pass-mark}
 use Rattle.packet_alone.proofs.Beside.{packet-is}

@@ -21,8 +21,10 @@ use Rattle.rules.specs.Field.{Env}
 use Rattle.rules.specs.Packet.{readRoot, readEvents, startPacket}
 use Rattle.laws.specs.Between.{Between}
 use Rattle.packet_alone.specs.Behind.{upTo, toEnd, less, totalOf, contentOf, contradict, eventsOf}
-use Rattle.packet_alone.proofs.Far.{away, farEntry, farAll, far, far-append}
-use Rattle.packet_alone.proofs.Pair.{Like, pair-root}
+use Rattle.laws.specs.Far.{away, farEntry, farAll, far}
+use Rattle.laws.proofs.Far.{far-append}
+use Rattle.laws.specs.Far.{Like}
+use Rattle.laws.proofs.Pair.{pair-root}
 use Rattle.packet_alone.proofs.Beside.{like, none-of-four, contradict-same, entries-same}
 use Rattle.packet_alone.proofs.Lower.{Low, Lowered, out-of, still-in, lowers-events}
 use Rattle.packet_alone.proofs.Ran.{RanContent, Ran}

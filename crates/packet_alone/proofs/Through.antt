@@ -14,7 +14,7 @@ use Rattle.rules.specs.Step.{State, Out, stop, go, Step, onto, after, _⨾_, re
 use Rattle.rules.specs.Packet.{mark}
 use Rattle.facts.proofs.Steps.{onto-nil}
 use Rattle.packet_alone.specs.Behind.{less}
-use Rattle.packet_alone.proofs.Pair.{through, onto-go}
+use Rattle.laws.proofs.Pair.{through, onto-go}
 
 joined : (fs : List Entry) (o : Out) (es : List Entry) (u : State) (gs : List Entry) → onto fs o ≡ go es u → o ≡ go gs u → es ≡ fs ++ gs
 unfolding onto

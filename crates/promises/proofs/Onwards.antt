@@ -27,8 +27,8 @@ use Rattle.laws.specs.All.{All}
 use Rattle.laws.proofs.Law.{Any}
 use Rattle.laws.proofs.Accepted.{Fitting}
 use Rattle.packet_alone.specs.Behind.{toEnd, less, packet}
-use Rattle.packet_alone.proofs.Far.{farEntry, farAll, far}
-use Rattle.packet_alone.proofs.Pair.{Like}
+use Rattle.laws.specs.Far.{farEntry, farAll, far}
+use Rattle.laws.specs.Far.{Like}
 use Rattle.packet_alone.proofs.Through.{Split, split, join, do-change}
 use Rattle.packet_alone.proofs.Ran.{Ran, run, run-whole, headed}
 use Rattle.packet_alone.proofs.Lower.{Low}

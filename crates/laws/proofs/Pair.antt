@@ -43,31 +43,18 @@ use Rattle.rules.specs.Field.{otherOrder, turned, ahead, bytesAt, readFixed, re
 use Rattle.rules.specs.Packet.{readRoot}
 use Rattle.facts.proofs.Steps.{onto-nil, onto-onto, after-onto}
 use Rattle.facts.proofs.Numbers.{lt-or-ge}
 use Rattle.laws.specs.Between.{Between}
 use Rattle.laws.proofs.Law.{Any, Law}
 use Rattle.laws.proofs.Triple.{Ok, Triple, ok-after, then, passing, changing, refusing, checks, dued}
 use Rattle.laws.proofs.Between.{Kept, Held, In, At, NoMore, Holding, held-law}
 use Rattle.laws.proofs.Places.{align-one}
-use Rattle.packet_alone.proofs.Two.{Law2, two-root}
-use Rattle.packet_alone.proofs.Far.{away, farEntry, farAll, far, farOut, far-append, far-onto, Exact, exact-seq}
-use Rattle.packet_alone.proofs.Far.{aligned-far, start-aligned, exact-field, exact-refuse, exact-pass, Cut, Rel, rel-check, rel-due}
-use Rattle.packet_alone.proofs.Far.{rel-fit}
-use Rattle.packet_alone.proofs.Agree.{piece, bits-same, leb-more, leb-signed-more, zero-more}
-
--- the packet's bytes from both starts are w, as far as the nearer bound; that one is as far as the other, or nearer
-pub record Like (e e′ : Env) : Type 0 where
-  pub w : List ℕ
-  pub post : List ℕ
-  pub post′ : List ℕ
-  pub here : drop (e .start .0 / 8) (e .bytes) ≡ w ++ post
-  pub there : drop (e′ .start .0 / 8) (e′ .bytes) ≡ w ++ post′
-  pub whole : e .start .0 % 8 ≡ 0
-  pub whole′ : e′ .start .0 % 8 ≡ 0
-  pub covers : e .bound .0 ≤ e .start .0 + 8 * length w
-  pub inside : e .start .0 ≤ e .bound .0
-  pub inside′ : e′ .start .0 ≤ e′ .bound .0
-  pub narrower : e .bound .0 - e .start .0 ≤ e′ .bound .0 - e′ .start .0
-  pub uuids : e′ .uuid ≡ e .uuid
+use Rattle.laws.proofs.Two.{Law2, two-root}
+use Rattle.laws.specs.Far.{Like, away, farEntry, farAll, far, farOut}
+use Rattle.laws.proofs.Far.{far-append, far-onto, Exact, exact-seq}
+use Rattle.laws.specs.Far.{Cut, Rel}
+use Rattle.laws.proofs.Far.{aligned-far, start-aligned, exact-field, exact-refuse, exact-pass, rel-check, rel-due}
+use Rattle.laws.proofs.Far.{rel-fit}
+use Rattle.laws.proofs.Agree.{piece, bits-same, leb-more, leb-signed-more, zero-more}
 
 -- where a step goes on, the place is at or behind where it was
 abbrev Whatever : Entry → Type 0
