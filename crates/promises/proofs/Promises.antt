@@ -14,7 +14,7 @@ use Rattle.promises.proofs.Rejected.{rejected}
 use Rattle.promises.proofs.Standard.{as-standard}
 use Rattle.promises.proofs.Numbers.{numbers}
 use Rattle.promises.proofs.Parts.{bits-cut, leb-settled, check-tied, table-stands}
-use Rattle.promises.proofs.Apart.{apart}
+use Rattle.promises.proofs.Apart.{apart, apart-figures}
 use Rattle.promises.proofs.ApartCalls.{apart-calls}
 
 pub all-promises : Promises

@@ -13,7 +13,7 @@ use Rattle.promises.specs.Figures.{Figures}
 use Rattle.promises.specs.Cases.{Cases}
 use Rattle.promises.specs.Laws.{TheLaws}
 use Rattle.promises.specs.Parts.{BitsCut, LebSettled, CheckTied, TableStands}
-use Rattle.promises.specs.Apart.{Apart, ApartOfCalls}
+use Rattle.promises.specs.Apart.{Apart, ApartFigures, ApartOfCalls}
 
 pub record Promises : Type 0 where
   -- the three demands, of every call that meets the contract of `read`
