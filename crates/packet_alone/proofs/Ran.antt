@@ -52,6 +52,9 @@ pub record Ran (t : Asked) (b : List ℕ) (p : BitPlace) (rest : ℕ) (i : State
   pub content : RanContent t c b p (totalOf rest s₂) (contentOf rest s₂) s₂ es₃ u
   pub list : es ≡ es₁ ++ (entry streamClassFound (s₁ .place) 0 (s₁ .said .stream) ∷ (es₂ ++ es₃))
 
+in-order : (es₁ fs gs es₂ es₃ es : List Entry) (x : Entry) → es ≡ es₁ ++ fs → fs ≡ x ∷ gs → gs ≡ es₂ ++ es₃ → es ≡ es₁ ++ (x ∷ (es₂ ++ es₃))
+in-order es₁ fs gs es₂ es₃ es x p q r = p ∙ ap (λ l. es₁ ++ l) (q ∙ ap (λ l. x ∷ l) r)
+
 module _ (t : Asked) (b : List ℕ) (p : BitPlace) where
   module _ (c : StreamClass) (total content : ℕ) where
     abbrev clocked : Step
@@ -147,8 +150,7 @@ module _ (t : Asked) (b : List ℕ) (p : BitPlace) where
               context = k .goes;
               es₃ = k .second;
               content = ran-content c (totalOf rest (k .middle)) (contentOf rest (k .middle)) (k .middle) (k .second) u (k .goes-on);
-              list = h .list ∙ ap (λ l. h .first ++ l) (m .2
-                  ∙ ap (λ l. entry streamClassFound (s₁ .place) 0 (s₁ .said .stream) ∷ l) (k .list));
+              list = in-order (h .first) (h .second) (m .0) (k .first) (k .second) es _ (h .list) (m .2) (k .list);
             }
 
     pub run : (s : State) (es : List Entry) (u : State) → Ran t b p rest i s es u → packet t b p rest i s ≡ go es u
