@@ -37,7 +37,7 @@ use Rattle.packet_alone.proofs.Roles.{HeaderOnly, header-only}
 use Rattle.packet_alone.proofs.Ends.{ends-class, ends-found, ends-no-earlier}
 use Rattle.packet_alone.proofs.Before.{same-packet}
 use Rattle.promises.specs.Apart.{startsPacket, beforePacket, fromPacket, placeIn, totalIn, packetsIn, numberLower, lower}
-use Rattle.promises.specs.Apart.{listWithout, bytesWithout, Apart, threePackets, ApartFigures}
+use Rattle.promises.specs.Apart.{listWithout, bytesWithout, Apart, threePackets, lastUnstated, ApartFigures}
 use Rattle.promises.proofs.Packets.{Positive, packet-rounds, go-packets}
 use Rattle.promises.proofs.Rising.{Onward}
 use Rattle.promises.proofs.Laws.{accepted-positive}
@@ -533,5 +533,15 @@ apart x b room k = by (parse x) refl
 -- Figures, by computation
 
 pub apart-figures : ApartFigures
-unfolding opened threePackets startsPacket beforePacket fromPacket placeIn totalIn packetsIn numberLower lower listWithout bytesWithout
-apart-figures = record { three = refl; without-first = refl; without-middle = refl; without-last = refl; list = refl }
+unfolding opened threePackets lastUnstated startsPacket beforePacket fromPacket placeIn totalIn packetsIn numberLower lower listWithout
+    bytesWithout
+apart-figures = record {
+  three = refl;
+  without-first = refl;
+  without-middle = refl;
+  without-last = refl;
+  list = refl;
+  two = refl;
+  without-stated = refl;
+  without-unstated = refl;
+}

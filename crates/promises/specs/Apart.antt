@@ -14,7 +14,7 @@ use Rattle.rules.specs.declared.Result.{Result}
 use Rattle.rules.specs.Entry.{entry, words, packetStarts, lengthsSettled}
 use Rattle.rules.specs.Verdict.{numberOf}
 use Rattle.rules.specs.Read.{readAll}
-use Rattle.promises.specs.Cases.{stamped}
+use Rattle.promises.specs.Cases.{preamble, streamClass, eventClass, root, structure, boolean, optional, plain, stamped}
 use Rattle.promises.specs.Demands.{Call, listedBy, cameBehind, Contract}
 
 -- A packet in a list
@@ -75,7 +75,8 @@ Apart = (x b : List ℕ) (room k : ℕ) → numberOf ((readAll x b room) .verdic
       verdict = Accepted (bitPlace (8 * length b - totalIn (fromPacket k ((readAll x b room) .entries))));
     }
 
--- On one stream: three packets of two bytes, each with one event of a stamp; what is left without each, and the list without the middle one
+-- Figures. Three packets of two bytes, each with one event of a stamp: what is left without each, and the list without the middle one.
+-- And a packet that states its total length before one that states none
 
 unfoldable pub threePackets : List ℕ
 threePackets = 16 ∷ 10 ∷ 16 ∷ 20 ∷ 16 ∷ 30 ∷ []
@@ -83,12 +84,27 @@ threePackets = 16 ∷ 10 ∷ 16 ∷ 20 ∷ 16 ∷ 30 ∷ []
 abbrev pub theirList : List Entry
 theirList = (readAll stamped threePackets 400) .entries
 
+-- a packet context of a flag and, where it is set, a total length; events of a byte
+abbrev pub maybeStated : List ℕ
+maybeStated =
+    preamble ++ streamClass 0 255 ++ root 1 ++ structure 2 ++ boolean 0 ++ optional 0 0 ++ plain 255 5
+    ++ eventClass 0 0 ++ root 5 ++ structure 1 ++ plain 255 0
+
+unfoldable pub lastUnstated : List ℕ
+lastUnstated = 1 ∷ 24 ∷ 5 ∷ 0 ∷ 7 ∷ []
+
+abbrev pub unstatedList : List Entry
+unstatedList = (readAll maybeStated lastUnstated 400) .entries
+
 pub record ApartFigures : Type 0 where
   pub three : packetsIn theirList ≡ 3
   pub without-first : bytesWithout 0 theirList threePackets ≡ 16 ∷ 20 ∷ 16 ∷ 30 ∷ []
   pub without-middle : bytesWithout 1 theirList threePackets ≡ 16 ∷ 10 ∷ 16 ∷ 30 ∷ []
   pub without-last : bytesWithout 2 theirList threePackets ≡ 16 ∷ 10 ∷ 16 ∷ 20 ∷ []
   pub list : listWithout 1 theirList ≡ (readAll stamped (16 ∷ 10 ∷ 16 ∷ 30 ∷ []) 400) .entries
+  pub two : packetsIn unstatedList ≡ 2
+  pub without-stated : bytesWithout 0 unstatedList lastUnstated ≡ 0 ∷ 7 ∷ []
+  pub without-unstated : bytesWithout 1 unstatedList lastUnstated ≡ 1 ∷ 24 ∷ 5 ∷ []
 
 -- The same of two calls, by one table: of a stream b, and of a stream b′ that is b without the packet k of the first call's list, with
 -- lists of one length. The first was accepted, with two packets or more
