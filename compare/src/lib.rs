@@ -1,6 +1,7 @@
 //! A second reader for CTF 2 data streams, and what is needed to compare
 //! another reader with it.
 
+pub mod apart;
 pub mod bits;
 pub mod case;
 pub mod class;

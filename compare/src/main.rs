@@ -11,7 +11,7 @@ use std::time::{Duration, Instant, SystemTime, UNIX_EPOCH};
 const USE: &str = "use:
   compare answers < case file
   compare cases SEED COUNT > case file
-  compare run [--each N] SEED COUNT PROGRAM [ARGS...]
+  compare run [--each N] [--removed N] SEED COUNT PROGRAM [ARGS...]
   compare soak SECONDS PROGRAM [ARGS...]";
 
 const BATCH: usize = 1000;
@@ -22,9 +22,10 @@ fn main() -> ExitCode {
     let done = match words[..] {
         ["answers"] => answers(),
         ["cases", seed, count] => cases(seed, count),
-        ["run", "--each", each, seed, count, ref program @ ..] => run(each, seed, count, program),
-        ["run", seed, count, "--each", each, ref program @ ..] => run(each, seed, count, program),
-        ["run", seed, count, ref program @ ..] => run("0", seed, count, program),
+        ["run", "--each", each, "--removed", removed, ref rest @ ..] => run(each, removed, rest),
+        ["run", "--each", each, ref rest @ ..] => run(each, "0", rest),
+        ["run", "--removed", removed, ref rest @ ..] => run("0", removed, rest),
+        ["run", ref rest @ ..] => run("0", "0", rest),
         ["soak", seconds, ref program @ ..] => soak(seconds, program),
         _ => None,
     };
@@ -68,10 +69,12 @@ fn cases(seed: &str, count: &str) -> Option<ExitCode> {
     Some(if written.is_ok() { ExitCode::SUCCESS } else { ExitCode::FAILURE })
 }
 
-fn run(each: &str, seed: &str, count: &str, words: &[&str]) -> Option<ExitCode> {
+/// Each number is to occur so often at least, and so many packets are to be removed.
+fn run(each: &str, removed: &str, words: &[&str]) -> Option<ExitCode> {
+    let [seed, count, ref words @ ..] = *words else { return None };
     let program = program(words)?;
-    let (each, seed, count): (usize, u64, usize) =
-        (each.parse().ok()?, seed.parse().ok()?, count.parse().ok()?);
+    let (each, removed): (usize, usize) = (each.parse().ok()?, removed.parse().ok()?);
+    let (seed, count): (u64, usize) = (seed.parse().ok()?, count.parse().ok()?);
     println!("seed {seed}");
     let mut tally = Tally::default();
     if !try_cases(&program, &generate(seed, count), &mut tally) {
@@ -81,6 +84,10 @@ fn run(each: &str, seed: &str, count: &str, words: &[&str]) -> Option<ExitCode> 
     let rare = tally.rarer_than(each);
     if !rare.is_empty() {
         println!("occurred fewer than {each} times: {rare:?}");
+        return Some(ExitCode::FAILURE);
+    }
+    if tally.packets_removed() < removed {
+        println!("fewer than {removed} packets removed");
         return Some(ExitCode::FAILURE);
     }
     Some(ExitCode::SUCCESS)

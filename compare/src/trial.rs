@@ -1,5 +1,6 @@
 //! Tries a program against this reader and tells what it found.
 
+use crate::apart::without_each;
 use crate::case::{Answer, Case};
 use crate::demand::demand;
 use crate::generate::NUMBERS;
@@ -21,6 +22,7 @@ pub struct Tally {
     numbers: BTreeMap<u64, usize>,
     pairs_with: usize,
     pairs_without: usize,
+    packets_removed: usize,
 }
 
 impl Tally {
@@ -41,6 +43,11 @@ impl Tally {
         let all = std::iter::once(0).chain(NUMBERS);
         all.filter(|&number| self.times(number) < each).collect()
     }
+
+    /// How many pairs of a stream and that stream without one of its packets were tried.
+    pub fn packets_removed(&self) -> usize {
+        self.packets_removed
+    }
 }
 
 impl fmt::Display for Tally {
@@ -52,7 +59,11 @@ impl fmt::Display for Tally {
         }
         writeln!(f)?;
         let (with, without) = (self.pairs_with, self.pairs_without);
-        writeln!(f, "classes left out: {with} pairs where one was found, {without} where none was")
+        writeln!(
+            f,
+            "classes left out: {with} pairs where one was found, {without} where none was"
+        )?;
+        writeln!(f, "packets removed: {} pairs", self.packets_removed)
     }
 }
 
@@ -79,7 +90,7 @@ pub fn try_cases(program: &Program, cases: &[Case], tally: &mut Tally) -> bool {
             }
         }
     }
-    let Some(fault) = fault else { return true };
+    let Some(fault) = fault else { return try_without(program, cases, &answers, tally) };
     println!("{fault}; {} of {} answers came", answers.len(), cases.len());
     // Answers may be lost in a buffer, so the case that ended it may be a later one.
     let at_fault = cases[answers.len()..].iter().find(|case| differs(program, case));
@@ -87,6 +98,33 @@ pub fn try_cases(program: &Program, cases: &[Case], tally: &mut Tally) -> bool {
         report(program, case);
     }
     false
+}
+
+/// Runs the program over each accepted case without each of its packets; false, after a report,
+/// if an answer is not the one that is due.
+fn try_without(program: &Program, cases: &[Case], answers: &[Answer], tally: &mut Tally) -> bool {
+    let all = cases.iter().zip(answers).enumerate();
+    let pairs: Vec<(usize, Case, Answer)> = all
+        .flat_map(|(index, (case, full))| {
+            without_each(case, full).into_iter().map(move |(shorter, due)| (index, shorter, due))
+        })
+        .collect();
+    let shorter: Vec<Case> = pairs.iter().map(|(_, shorter, _)| shorter.clone()).collect();
+    let Run { answers: given, fault } = program.run(&shorter, ALL_CASES);
+    for ((index, shorter, due), answer) in pairs.iter().zip(&given) {
+        if answer != due || *answer != shorter.answer() {
+            println!("case {index} with a packet removed");
+            print!("whole\n{}removed\n{}", shown(&cases[*index]), shown(shorter));
+            print!("due\n{}answer\n{}", text(due), text(answer));
+            return false;
+        }
+        tally.packets_removed += 1;
+    }
+    if let Some(fault) = fault {
+        println!("{fault}; {} of {} answers came, packets removed", given.len(), shorter.len());
+        return false;
+    }
+    true
 }
 
 fn single(program: &Program, case: &Case) -> Result<Answer, String> {

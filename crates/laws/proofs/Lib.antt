@@ -8,3 +8,7 @@ pub mod Moved
 pub mod Sound
 pub mod Accepted
 pub mod Kept
+pub mod Two
+pub mod Far
+pub mod Agree
+pub mod Pair

@@ -1,3 +1,4 @@
 pub mod All
 pub mod Between
 pub mod Kept
+pub mod Far

@@ -70,6 +70,12 @@ leaf-first again d t at n some w kind =
       reads = λ e. rw (← ends, ← leaf-class t at d (first .stands) kind) (first .reads e);
     }
 
+-- the one class again stands where it stood
+onward-again : (again : Bool) (at next : ℕ) → again ≡ true → onward again at next ≡ at
+unfolding onward
+onward-again true at next e = refl
+onward-again false at next e = absurd (clash e)
+
 -- where leaves go on behind one
 pub record Onward (t : List ℕ) (next n room slot role : ℕ) : Type 0 where
   pub some : 0 < n
@@ -120,6 +126,7 @@ pub record LeavesWent (again : Bool) (d : ℕ) (t b u : List ℕ) (f : Frame) (a
   pub some : 4 ≤ y .leaves .used
   pub less : y .leaves .todo < n
   pub framed : Framed b f (y .leaves .place)
+  pub same : again ≡ true → y .leaves .at ≡ at
   pub stands : whole d t (y .leaves .at)
   pub kind : u8 t (y .leaves .at) < 28
   pub rest : wholeFields again d t (onward again (y .leaves .at) (nextAt d t (y .leaves .at))) (y .leaves .todo)
@@ -241,6 +248,7 @@ module _ (again : Bool) (d : ℕ) (t b u : List ℕ) (f : Frame) (x : Content) (
         some = omega arith;
         less = omega (arith, h .some);
         framed = framed-behind;
+        same = λ a. refl;
         stands = h .first .stands;
         kind = h .kind;
         rest = rw (h .first .ends) (h .first .rest);
@@ -294,6 +302,7 @@ module _ (again : Bool) (d : ℕ) (t b u : List ℕ) (f : Frame) (x : Content) (
               some = omega (arith, g .some);
               less = omega (arith, g .less);
               framed = g .framed;
+              same = λ a. g .same a ∙ onward-again again at (nextAt 1 t at) a;
               stands = g .stands;
               kind = g .kind;
               rest = g .rest;

@@ -36,7 +36,7 @@ use Rattle.promises.proofs.Listed.{reading-words, list-words}
 positive : Tells Positive (λ r. Any) Any (λ z. Unit {0})
 positive = record { bits = λ n a b. a; slots = λ r i h. tt; values = λ x y g e k l. tt; on = λ x g. tt }
 
-accepted-positive : (x : List ℕ) (t : Table) (y : List ℕ) → parse x ≡ good t y → Fitting Positive (λ r. Any) Any (asked t)
+pub accepted-positive : (x : List ℕ) (t : Table) (y : List ℕ) → parse x ≡ good t y → Fitting Positive (λ r. Any) Any (asked t)
 accepted-positive x t y p = accepted-fits positive x t y tt p
 
 ok-within : (e : Env) (o : Out) → Ok (In e) (At e) (NoMore e) (Inside e) o → Within e o

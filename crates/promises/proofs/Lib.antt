@@ -31,4 +31,9 @@ mod Rejected
 mod Standard
 mod Numbers
 mod Parts
+mod Whole
+mod Onwards
+mod Cut
+mod Apart
+pub mod ApartCalls
 pub mod Promises

@@ -247,6 +247,11 @@ no-slack = record {
     p .first .list ∙ sym (q .first .list),
     p .second .list ∙ sym (q .second .list),
   );
+  streams = λ x b b′ ws vs r r′ wr wr′ vr vr′ p q. (
+    (λ i. record { first = (p .first .result ∙ sym (q .first .result)) i; second = (p .second .result ∙ sym (q .second .result)) i }),
+    p .first .list ∙ sym (q .first .list),
+    p .second .list ∙ sym (q .second .list),
+  );
   role = λ m st ws. record { same = role-same m st ws };
   leaf = λ x st ws. record { same = leaf-same x st ws };
   leaf-at = λ m i x held st ws. record { same = reads-same m i x held st ws };

@@ -37,10 +37,10 @@ demands = record {
 }
 
 -- what `read` ensures of a table, a stream, a result, and the list before and after
-abbrev Ensured : List ℕ → List ℕ → Result → List ℕ → List ℕ → Type 0
+abbrev pub Ensured : List ℕ → List ℕ → Result → List ℕ → List ℕ → Type 0
 Ensured x b r ws ws′ = (r ≡ resultOf (readAll x b (length ws))) × (ws′ ≡ listAfter (readAll x b (length ws)) ws)
 
-contract : (x b : List ℕ) (r : Result) (ws ws′ : List ℕ) → Ensured x b r ws ws′ → Contract x b (call r ws ws′)
+pub contract : (x b : List ℕ) (r : Result) (ws ws′ : List ℕ) → Ensured x b r ws ws′ → Contract x b (call r ws ws′)
 contract x b r ws ws′ e = record { result = e .0; list = e .1 }
 
 pub one-call : (x b : List ℕ) (r : Result) (ws ws′ : List ℕ) → Ensured x b r ws ws′ → OneCall x b (call r ws ws′)

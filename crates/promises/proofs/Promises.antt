@@ -14,6 +14,8 @@ use Rattle.promises.proofs.Rejected.{rejected}
 use Rattle.promises.proofs.Standard.{as-standard}
 use Rattle.promises.proofs.Numbers.{numbers}
 use Rattle.promises.proofs.Parts.{bits-cut, leb-settled, check-tied, table-stands}
+use Rattle.promises.proofs.Apart.{apart, apart-figures}
+use Rattle.promises.proofs.ApartCalls.{apart-calls}
 
 pub all-promises : Promises
 all-promises = record {
@@ -32,6 +34,9 @@ all-promises = record {
   the-laws = the-laws;
   bits-cut = bits-cut;
   leb-settled = leb-settled;
+  apart = apart;
+  apart-figures = apart-figures;
+  apart-calls = apart-calls;
   check-tied = check-tied;
   table-stands = table-stands;
 }

@@ -10,6 +10,7 @@ use lib.Dec.{ltb, eqb}
 use borrow.Author.Tests.{ltb-false, le-ltb}
 use Rattle.rules.specs.declared.BitPlace.{BitPlace}
 use Rattle.rules.specs.declared.Entry.{Entry}
+use Rattle.rules.specs.declared.Stated.{Stated}
 use Rattle.rules.specs.declared.Stated.the-variants.{Missing}
 use Rattle.rules.specs.declared.Refusal.{Refusal}
 use Rattle.rules.specs.declared.Refusal.the-variants.{StreamSize, ListFull}
@@ -21,17 +22,17 @@ use Rattle.rules.specs.Slots.{slotAt}
 use Rattle.rules.specs.Step.{State, Out, stop, go, Step, onto, after, _⨾_, refuse, check, due, listed, change, pass, withSlots, withOrder, withClock, withLast, withSaid}
 use Rattle.rules.specs.Table.{Asked, asked}
 use Rattle.rules.specs.Field.{Env, aligned, field, store, say, fromSlot}
-use Rattle.rules.specs.Packet.{readPackets, mark, startEvent, startPacket, endPacket}
+use Rattle.rules.specs.Packet.{readPacket, readPackets, mark, startEvent, startPacket, endPacket}
 use Rattle.rules.specs.Parse.{Parsed, bad, good, parse}
 use Rattle.rules.specs.Read.{Reading, ended, begin, readStream, readAll, readParsed}
 use Rattle.facts.proofs.Steps.{onto-nil, onto-onto, after-onto}
 use Rattle.promises.specs.Laws.{RanOut}
 use Rattle.laws.proofs.Law.{Any}
 use Rattle.laws.proofs.Simple.{Simple, View, view}
-use Rattle.promises.proofs.Simple.{SimplePackets, simple-packets}
+use Rattle.promises.proofs.Simple.{SimplePackets, simple-packet, simple-packets}
 
 -- a state with d more words of room
-unfoldable more : ℕ → State → State
+unfoldable pub more : ℕ → State → State
 more d s = record { place = s .place; room = s .room + d; slots = s .slots; order = s .order; clock = s .clock; last = s .last; said = s .said }
 
 unfoldable wide : ℕ → Out → Out
@@ -166,6 +167,16 @@ wide-packets = record {
   lasts = record { at = λ d s. inl refl };
   ends = λ to n. due-wide (record { at = λ d s r. inl (listed-wide _ _ d s r) });
 }
+
+-- a packet that goes through
+
+pub room-packet : (t : Asked) (b : List ℕ) (k : ℕ) (i : Stated) (d : ℕ) (s : State) (es : List Entry) (u : State) → readPacket t b k i s ≡ go es u
+    → readPacket t b k i (more d s) ≡ go es (more d u)
+room-packet t b k i d s es u q = by (simple-packet wide-packets t b k i .at d s)
+  where
+    by : Wider d (readPacket t b k i s) (readPacket t b k i (more d s)) → readPacket t b k i (more d s) ≡ go es (more d u)
+    by (inl p) = unfold wide in p ∙ ap (wide d) q
+    by (inr c) = let z : stop (c .es) (stopAt ListFull (c .place)) ≡ go es u = sym (c .stops) ∙ q in let n : _≡_ {A = ℕ} 0 1 = cc in absurd (omega arith)
 
 -- readings
 

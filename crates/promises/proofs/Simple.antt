@@ -76,7 +76,7 @@ module _ {L R : Step → Type 0} (h : SimplePackets L R) (t : Asked) where
       (q .seqʳ (h .marks lengthsSettled total content)
       (q .looks (λ x. readEvents t c e (further p total) 0 (p .0 + content - x .place .0)) (λ x. simple-events c e (further p total) 0 _)))))
 
-  simple-packet : (b : List ℕ) (k : ℕ) (i : Stated) → L (readPacket t b k i)
+  pub simple-packet : (b : List ℕ) (k : ℕ) (i : Stated) → L (readPacket t b k i)
   unfolding readPacket refusalNumber
   simple-packet b k i =
       h .simple (env (bitPlace 0)) .looks

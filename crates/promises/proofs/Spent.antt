@@ -1,5 +1,5 @@
 -- Each entry takes its words of the room; and a reading that is refused by 40 has too few left for one more.
-use mathlib.Core.Path.{_≡_, refl}
+use mathlib.Core.Path.{_≡_, refl, subst}
 use Prim.Native.Nat.{ℕ, _+_, _-_, _*_, _≤_, _<_}
 use native.Mathlib.Omega.{arith}
 use mathlib.Core.List.{List, []}
@@ -9,6 +9,7 @@ use lib.Dec.{ltb, eqb}
 use borrow.Author.Tests.{ltb-false, ltb-true}
 use Rattle.rules.specs.declared.BitPlace.{BitPlace}
 use Rattle.rules.specs.declared.Entry.{Entry}
+use Rattle.rules.specs.declared.Stated.{Stated}
 use Rattle.rules.specs.declared.Stated.the-variants.{Missing}
 use Rattle.rules.specs.declared.Refusal.{Refusal}
 use Rattle.rules.specs.declared.Refusal.the-variants.{StreamSize, ListFull}
@@ -21,14 +22,14 @@ use Rattle.rules.specs.Slots.{slotAt}
 use Rattle.rules.specs.Step.{State, Out, stop, go, Step, onto, after, _⨾_, refuse, check, due, listed, change, pass, withSlots, withOrder, withClock, withLast, withSaid}
 use Rattle.rules.specs.Table.{Asked, asked}
 use Rattle.rules.specs.Field.{Env, field, store, say, fromSlot}
-use Rattle.rules.specs.Packet.{readPackets, mark, startEvent, startPacket, endPacket}
+use Rattle.rules.specs.Packet.{readPacket, readPackets, mark, startEvent, startPacket, endPacket}
 use Rattle.rules.specs.Parse.{Parsed, bad, good, parse}
 use Rattle.rules.specs.Read.{ended, begin, readStream, readAll, readParsed}
 use Rattle.facts.proofs.Steps.{onto-nil}
 use Rattle.promises.specs.Laws.{SpentReading}
 use Rattle.laws.proofs.Law.{Any}
 use Rattle.laws.proofs.Simple.{Simple, view}
-use Rattle.promises.proofs.Simple.{SimplePackets, simple-packets}
+use Rattle.promises.proofs.Simple.{SimplePackets, simple-packet, simple-packets}
 
 record Stopped (room : ℕ) (es : List Entry) (v : Stop) : Type 0 where
   within : wordsPerEntry * length es ≤ room
@@ -133,6 +134,13 @@ spent-packets = record {
   lasts = spent-change _ (λ s. refl);
   ends = λ to n. due-spent (record { at = λ s r. spent-listed _ _ s r });
 }
+
+-- a packet that goes through leaves no more room
+
+pub packet-spent : (t : Asked) (b : List ℕ) (k : ℕ) (i : Stated) (s : State) (es : List Entry) (u : State) → readPacket t b k i s ≡ go es u → u .room ≤ s .room
+packet-spent t b k i s es u q =
+    let h : u .room + wordsPerEntry * length es ≡ s .room = subst (SpentOut s) q (simple-packet spent-packets t b k i .at s) in
+    omega arith
 
 -- readings
 

@@ -4,6 +4,7 @@ pub mod Edition
 pub mod Missing
 pub mod Clocks
 pub mod Demands
+pub mod Apart
 pub mod Results
 pub mod Only
 pub mod OnlyRan

@@ -16,6 +16,7 @@ use Rattle.field_read.specs.Reads.{FieldReads}
 use Rattle.class_layout.specs.Sizes.{Opens}
 use Rattle.class_layout.specs.Notes.{Notes, Made, Reaches}
 use Rattle.promises.specs.declared.Both.{Both}
+use Rattle.promises.specs.Apart.{TwoStreams}
 use Rattle.promises.specs.Demands.{call, Contract, OneCall, TwoCalls}
 use Rattle.promises.specs.Results.{Answer, Of}
 
@@ -40,6 +41,9 @@ pub record NoSlack : Type 0 where
   pub both : (x x′ b ws vs : List ℕ) (r r′ : Both) (wr wr′ vr vr′ : List ℕ)
       → TwoCalls x x′ b (call (r .first) ws wr) (call (r .second) vs vr)
       → TwoCalls x x′ b (call (r′ .first) ws wr′) (call (r′ .second) vs vr′) → (r ≡ r′) × (wr ≡ wr′) × (vr ≡ vr′)
+  pub streams : (x b b′ ws vs : List ℕ) (r r′ : Both) (wr wr′ vr vr′ : List ℕ)
+      → TwoStreams x b b′ (call (r .first) ws wr) (call (r .second) vs vr)
+      → TwoStreams x b b′ (call (r′ .first) ws wr′) (call (r′ .second) vs vr′) → (r ≡ r′) × (wr ≡ wr′) × (vr ≡ vr′)
   -- a role, a leaf, a field
   pub role : (m : Step) (st : State) (ws : List ℕ) → OnlyBoth (λ r ws′. RoleDid m st r ws ws′)
   pub leaf : (x : Seen) (st : State) (ws : List ℕ) → OnlyBoth (λ r ws′. LeafDid x st r ws ws′)

@@ -13,6 +13,7 @@ use Rattle.promises.specs.Figures.{Figures}
 use Rattle.promises.specs.Cases.{Cases}
 use Rattle.promises.specs.Laws.{TheLaws}
 use Rattle.promises.specs.Parts.{BitsCut, LebSettled, CheckTied, TableStands}
+use Rattle.promises.specs.Apart.{Apart, ApartFigures, ApartOfCalls}
 
 pub record Promises : Type 0 where
   -- the three demands, of every call that meets the contract of `read`
@@ -33,6 +34,10 @@ pub record Promises : Type 0 where
   pub figures : Figures
   pub cases : Cases
   pub the-laws : TheLaws
+  -- packets stand on their own: of the rules alone, and of every two calls that meet the contract of `read`
+  pub apart : Apart
+  pub apart-figures : ApartFigures
+  pub apart-calls : ApartOfCalls
   -- of the code
   pub bits-cut : BitsCut
   pub leb-settled : LebSettled

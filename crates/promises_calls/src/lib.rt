@@ -3,6 +3,7 @@
 use promises::Both;
 use reader::read;
 use rules::Result;
+ghost use Rattle.promises.specs.Apart.{TwoStreams};
 ghost use Rattle.promises.specs.Demands.{call, OneCall, TwoCalls};
 ghost use Rattle.promises.specs.Promises.{Promises};
 
@@ -32,4 +33,26 @@ pub fn read_both(
     let first = read(table, stream, list);
     let second = read(short, stream, other);
     Both { first, second }
+}
+
+// Reads two streams by a table. What a removed packet does, where the second stream is the first without one of its packets.
+pub fn read_without(
+    table: &[u8],
+    stream: &[u8],
+    shorter: &[u8],
+    list: &mut [u64],
+    other: &mut [u64],
+) -> Both
+    ensures { λ r. ⌜
+        TwoStreams (now (table .entry)) (now (stream .entry)) (now (shorter .entry))
+        (call (r .first) (now (list .entry)) (now (list .exit)))
+        (call (r .second) (now (other .entry)) (now (other .exit)))
+        ⌝ }
+{
+    let whole = read(table, stream, list);
+    let rest = read(table, shorter, other);
+    Both {
+        first: whole,
+        second: rest,
+    }
 }

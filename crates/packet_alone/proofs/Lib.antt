@@ -1,0 +1,9 @@
+pub mod Through
+pub mod Beside
+pub mod Alone
+pub mod Ran
+pub mod Lower
+pub mod Roles
+pub mod Ends
+pub mod There
+pub mod Before
