@@ -33,3 +33,10 @@ needs() {
 needs_built() {
     [ -x "$1/target/bin/$2" ] || refuse "needs target/bin/$2; run \`rt check $2\` first"
 }
+
+# writes FOLDER: a script that builds puts it there, and says so where it may not.
+writes() {
+    local at=$1
+    while [ ! -e "$at" ]; do at=$(dirname "$at"); done
+    [ -w "$at" ] || refuse "needs to write into $1, and may not"
+}
