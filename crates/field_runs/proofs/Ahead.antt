@@ -1,13 +1,12 @@
 -- What a run still reads, by what was made of it. In order: steps; the runs that a walk starts with; its end; what comes forward; a first
--- member, and a first element taken as one; behind fields. What a first member holds is in Openings.
+-- member, and a first element taken as one; fields of the first one's sort, and behind some of them. What a first member holds is in
+-- Openings.
 use mathlib.Core.Path.{_≡_, refl, sym, ap, _∙_}
 use mathlib.Core.Logic.{_⊎_, inl, inr}
 use Prim.Native.Nat.{ℕ, zero, suc, _+_, _-_, _<_, _≤_}
-use native.Mathlib.Nat.{suc-add, zero-add}
 use native.Mathlib.Omega.{arith}
 use mathlib.Core.List.{List}
-use mathlib.Core.Bool.{true}
-use lib.ListN.{getD}
+use mathlib.Core.Bool.{true, false}
 use lib.Dec.{eqb}
 use borrow.Author.Tests.{eqb-true}
 use Rattle.rules.specs.Step.{State, Step, after, _⨾_, pass}
@@ -15,23 +14,18 @@ use Rattle.rules.specs.Field.{Env, read, readMembers, times}
 use Rattle.facts.proofs.Numbers.{lt-or-ge}
 use Rattle.facts.proofs.Truth.{and-left, and-right}
 use Rattle.facts.proofs.Steps.{after-after, seq-assoc, pass-seq, seq-pass}
-use Rattle.class_layout.specs.Trees.{Stood, stoodAt, classAt, nextAt, membersAt, behindMembers, whole, wholeMembers}
+use Rattle.class_layout.specs.Trees.{Stood, stoodAt, classAt, nextAt, membersAt, whole, wholeMembers}
+use Rattle.class_layout.specs.Fields.{readFields, wholeFields, onward}
 use Rattle.class_layout.specs.Notes.{SizedClasses}
 use Rattle.class_layout.proofs.Standing.{no-member, first}
-use Rattle.class_layout.proofs.Split.{read-split, behind-split, whole-split}
 use Rattle.field_runs.specs.declared.Run.{Run}
-use Rattle.field_runs.specs.Run.{run, membersRun, elementsRun, over, firstAt, countOf, forwardRun, behindRun, takenRun}
-use Rattle.field_runs.specs.Ahead.{ahead, WholeRun, front, placeAt}
+use Rattle.field_runs.specs.Run.{noArray, membersRun, elementsRun, over, element, firstAt, countOf, forwardRun, behindRun, takenRun}
+use Rattle.field_runs.specs.Ahead.{ahead, WholeRun}
 use Rattle.field_runs.proofs.Cases.{element-no, first-member, count-members, forward-members, behind-members, taken-members}
 use Rattle.field_runs.proofs.Cases.{element-yes, first-element, count-elements, some-element}
 use Rattle.field_runs.proofs.Cases.{forward-elements, forward-later, behind-elements, taken-element}
 
 -- Steps
-
-times-split : (k n : ℕ) (m : Step) → times (k + n) m ≡ (times k m ⨾ times n m)
-unfolding times
-times-split zero n m = rw zero-add (sym (pass-seq _))
-times-split (suc k) n m = rw (suc-add, times-split k n m) (sym (seq-assoc _ _ _))
 
 pub no-times : (n : ℕ) (m : Step) → n ≤ 0 → times n m ≡ pass
 unfolding times
@@ -90,8 +84,9 @@ module _ (d : ℕ) (t : List ℕ) where
   pub over-reads : (e : Env) (r : Run) → over r ≡ true → ahead d t e r ≡ pass
   unfolding ahead over
   over-reads e r h =
-      let f = and-right (eqb (r .todo) 0) _ h in
-      let a = eqb-true (r .todo) 0 (and-left (eqb (r .todo) 0) _ h) in
+      let g = and-right (eqb (r .array) noArray) _ h in
+      let f = and-right (eqb (r .todo) 0) _ g in
+      let a = eqb-true (r .todo) 0 (and-left (eqb (r .todo) 0) _ g) in
       let b = eqb-true (r .more) 0 (and-left (eqb (r .more) 0) _ f) in
       let c = eqb-true (r .rest) 0 (and-right (eqb (r .more) 0) _ f) in
       rw (
@@ -170,62 +165,70 @@ module _ (d : ℕ) (t : List ℕ) where
       by (inl k) = rw (taken-members r k, first-member r k) (k, refl)
       by (inr k) = rw (taken-element r k, first-element r k) (omega arith, refl)
 
-  -- Behind fields of the first one's sort
+  -- Fields of the first one's sort, and what is behind them
 
-  -- a run reads m, and then what another one does, which stands whole
-  pub record Goes (m : Env → Step) (r r′ : Run) : Type 0 where
-    pub reads : (e : Env) → ahead d t e r ≡ (m e ⨾ ahead d t e r′)
-    pub stands : WholeRun d t r′
+  unfoldable pub tailRead : Env → Run → Step
+  tailRead e r = elim (element r) [
+    | true ↦ membersRead e (r .later) (r .rest)
+    | false ↦ elementsRead e (r .again) (r .more) ⨾ membersRead e (r .later) (r .rest)
+  ]
 
-  -- the member behind k of them: it stands whole, and ends where k + 1 do
-  kth-whole : (at k : ℕ) → Members at (k + 1) → whole d t (behindMembers stood at k)
-  unfolding wholeMembers
-  kth-whole at k w = whole-split stood (whole d t) k 1 at w .1 .0
+  pub sort-reads : (e : Env) (r : Run) → ahead d t e r ≡ (readFields (element r) d t (firstAt r) (countOf r) e ⨾ tailRead e r)
+  unfolding ahead tailRead readFields
+  sort-reads e r = by (lt-or-ge 0 (r .todo))
+    where
+      by : (0 < r .todo) ⊎ (r .todo ≤ 0) → ahead d t e r ≡ (readFields (element r) d t (firstAt r) (countOf r) e ⨾ tailRead e r)
+      by (inl h) = rw (element-no r h, first-member r h, count-members r h, tailRead, readFields) refl
+      by (inr h) =
+          rw (element-yes r h, first-element r h, count-elements r h, tailRead, readFields, no-members e (r .next) (r .todo) h) (pass-seq _)
 
-  kth-ends : (at k : ℕ) → behindMembers stood at (k + 1) ≡ nextAt d t (behindMembers stood at k)
-  unfolding behindMembers
-  kth-ends at k = behind-split stood k 1 at
+  pub sort-stands : (r : Run) → WholeRun d t r → 0 < countOf r → wholeFields (element r) d t (firstAt r) (countOf r)
+  unfolding wholeFields
+  sort-stands r w some = by (lt-or-ge 0 (r .todo))
+    where
+      by : (0 < r .todo) ⊎ (r .todo ≤ 0) → wholeFields (element r) d t (firstAt r) (countOf r)
+      by (inl h) = rw (element-no r h, first-member r h, count-members r h, wholeFields) (w .members)
+      by (inr h) = rw (element-yes r h, first-element r h, wholeFields) (w .elements (some-element r h some))
 
-  module _ (s : List ℕ) (sized : SizedClasses t s) (r : Run) (w : WholeRun d t r) (k left : ℕ) where
-    behind-members-goes : r .todo ≡ k + 1 + left → (last : ℕ) → last ≡ behindMembers stood (r .next) k
-        → Goes (λ e. membersRead e (r .next) (k + 1)) r
-        (run (last + getD s last 0) left (r .again) (r .more) (r .later) (r .rest) (r .array))
-    unfolding ahead
-    behind-members-goes n last h =
-        let v = whole-split stood (whole d t) (k + 1) left (r .next) (rw n at (w .members)) in
-        let u : whole d t last = rw h (kth-whole (r .next) k (v .0)) in
-        let end : behindMembers stood (r .next) (k + 1) ≡ last + getD s last 0 =
-        kth-ends (r .next) k ∙ ap (nextAt d t) (sym h) ∙ sym (sized d last u)
-        in
-        record {
-          reads = λ e. rw (n, read-split stood e (k + 1) left (r .next), end) (seq-assoc _ _ _);
-          stands = record { members = rw end at (v .1); elements = w .elements; later = w .later };
-        }
+  -- Behind some of them: the last one's class stands at a byte, that of an element where all do
 
-    behind-elements-goes : r .todo ≤ 0 → r .more ≡ k + 1 + left
-        → Goes (λ e. elementsRead e (r .again) (k + 1)) r (run (r .next) 0 (r .again) left (r .later) (r .rest) (r .array))
-    unfolding ahead
-    behind-elements-goes h n =
-        let some : 0 < r .more = omega arith in
-        record {
-          reads = λ e.
-              rw (
-                no-members e (r .next) (r .todo) h,
-                no-members e (r .next) 0 (omega arith),
-                n,
-                times-split (k + 1) left (read e (classAt d t (r .again))),
-              )
-              (pass-seq _ ∙ seq-assoc _ _ _ ∙ ap (λ m. elementsRead e (r .again) (k + 1) ⨾ m) (sym (pass-seq _)));
-          stands = record { members = none-whole (r .next); elements = λ _. w .elements some; later = w .later };
-        }
+  module _ (s : List ℕ) (sized : SizedClasses t s) (r : Run) (last left : ℕ) (there : whole d t last)
+      (same : r .todo ≤ 0 → last ≡ r .again) where
+    abbrev pub nextField : ℕ
+    nextField = onward (element r) last (nextAt d t last)
 
-    pub behind-goes : countOf r ≡ k + 1 + left → (last : ℕ) → last ≡ placeAt d t r k
-        → Goes (λ e. front d t e r (k + 1)) r (behindRun r s last left)
-    unfolding front placeAt
-    behind-goes n last p = by (lt-or-ge 0 (r .todo))
+    pub behind-reads : (e : Env)
+        → ahead d t e (behindRun r s last left) ≡ (readFields (element r) d t nextField left e ⨾ tailRead e r)
+    unfolding ahead tailRead readFields onward
+    behind-reads e = by (lt-or-ge 0 (r .todo))
       where
-        by : (0 < r .todo) ⊎ (r .todo ≤ 0) → Goes (λ e. front d t e r (k + 1)) r (behindRun r s last left)
-        by (inl h) =
-            rw (behind-members r h s last left, element-no r h, front)
-            (behind-members-goes (sym (count-members r h) ∙ n) last (p ∙ rw (element-no r h, placeAt) refl))
-        by (inr h) = rw (behind-elements r h s last left, element-yes r h, front) (behind-elements-goes h (sym (count-elements r h) ∙ n))
+        by : (0 < r .todo) ⊎ (r .todo ≤ 0)
+            → ahead d t e (behindRun r s last left) ≡ (readFields (element r) d t nextField left e ⨾ tailRead e r)
+        by (inl h) = rw (behind-members r h s last left, element-no r h, sized d last there, tailRead, readFields, onward) refl
+        by (inr h) =
+            rw (
+              behind-elements r h s last left,
+              element-yes r h,
+              tailRead,
+              readFields,
+              onward,
+              same h,
+              no-members e (r .next) 0 (omega arith),
+            )
+            (pass-seq _)
+
+    pub behind-stands : WholeRun d t r → wholeFields (element r) d t nextField left → WholeRun d t (behindRun r s last left)
+    unfolding wholeFields onward
+    behind-stands w rest = by (lt-or-ge 0 (r .todo))
+      where
+        by : (0 < r .todo) ⊎ (r .todo ≤ 0) → WholeRun d t (behindRun r s last left)
+        by (inl h) = rw (behind-members r h s last left) record {
+          members = rw (sized d last there) (rw (element-no r h, wholeFields, onward) at rest);
+          elements = w .elements;
+          later = w .later;
+        }
+        by (inr h) = rw (behind-elements r h s last left) record {
+          members = none-whole (r .next);
+          elements = λ _. rw (same h) at there;
+          later = w .later;
+        }

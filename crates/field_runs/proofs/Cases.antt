@@ -1,5 +1,5 @@
 -- What is made of a run, by whether its first field is an element.
-use mathlib.Core.Path.{_≡_, refl}
+use mathlib.Core.Path.{_≡_, refl, sym, _∙_}
 use Prim.Native.Nat.{ℕ, _+_, _-_, _<_, _≤_}
 use native.Mathlib.Omega.{arith}
 use mathlib.Core.List.{List}
@@ -8,9 +8,10 @@ use lib.ListN.{getD}
 use mathlib.Core.Logic.{_⊎_, inl, inr}
 use lib.Dec.{eqb}
 use Rattle.facts.proofs.Numbers.{lt-or-ge}
+use Rattle.facts.proofs.Truth.{clash}
 use borrow.Author.Tests.{eq-eqb, ne-eqb}
 use Rattle.field_runs.specs.declared.Run.{Run}
-use Rattle.field_runs.specs.Run.{variantKind, run, noArray, membersRun, free, over, element, firstAt, countOf}
+use Rattle.field_runs.specs.Run.{optionalKind, variantKind, canOpen, run, noArray, membersRun, free, over, element, firstAt, countOf}
 use Rattle.field_runs.specs.Run.{forwardRun, behindRun, takenRun, openedRun, putOffRun, intoRun}
 
 some-eqb : (n : ℕ) → 0 < n → eqb n 0 ≡ false
@@ -45,9 +46,9 @@ module _ (r : Run) (h : 0 < r .todo) where
   unfolding takenRun element
   taken-members = rw (some-eqb (r .todo) h, takenRun) refl
 
-  pub not-over : over r ≡ false
+  pub not-over : r .array ≡ noArray → over r ≡ false
   unfolding over
-  not-over = rw (some-eqb (r .todo) h) refl
+  not-over a = rw (eq-eqb (r .array) noArray a, some-eqb (r .todo) h) refl
 
 module _ (r : Run) (h : r .todo ≤ 0) where
   pub element-yes : element r ≡ true
@@ -82,13 +83,37 @@ module _ (r : Run) (h : r .todo ≤ 0) where
   unfolding takenRun element
   taken-element = rw (none-eqb (r .todo) h, takenRun) refl
 
-  pub more-over : 0 < r .more → over r ≡ false
+  pub more-over : r .array ≡ noArray → 0 < r .more → over r ≡ false
   unfolding over
-  more-over k = rw (none-eqb (r .todo) h, some-eqb (r .more) k) refl
+  more-over a k = rw (eq-eqb (r .array) noArray a, none-eqb (r .todo) h, some-eqb (r .more) k) refl
 
-  pub over-rest : r .more ≤ 0 → over r ≡ eqb (r .rest) 0
+  pub over-rest : r .array ≡ noArray → r .more ≤ 0 → over r ≡ eqb (r .rest) 0
   unfolding over
-  over-rest k = rw (none-eqb (r .todo) h, none-eqb (r .more) k) refl
+  over-rest a k = rw (eq-eqb (r .array) noArray a, none-eqb (r .todo) h, none-eqb (r .more) k) refl
+
+members-over : (at n : ℕ) → n ≤ 0 → over (membersRun at n) ≡ true
+unfolding over membersRun
+members-over at n h = rw (none-eqb n h) refl
+
+pub array-over : (r : Run) → (r .array ≡ noArray → ⊥) → over r ≡ false
+unfolding over
+array-over r h = rw (ne-eqb (r .array) noArray h) refl
+
+-- what came forward and is not over has a first field
+pub forward-some : (r : Run) → over (forwardRun r) ≡ false → 0 < countOf (forwardRun r)
+forward-some r not = by (lt-or-ge 0 (r .todo)) (lt-or-ge 0 (r .more))
+  where
+    later : (at n : ℕ) → over (membersRun at n) ≡ false → 0 < countOf (membersRun at n)
+    later at n e = more (lt-or-ge 0 n)
+      where
+        more : (0 < n) ⊎ (n ≤ 0) → 0 < countOf (membersRun at n)
+        more (inl m) = rw (count-members (membersRun at n) (unfold membersRun in m)) (unfold membersRun in m)
+        more (inr m) = absurd (clash (sym e ∙ members-over at n m))
+
+    by : (0 < r .todo) ⊎ (r .todo ≤ 0) → (0 < r .more) ⊎ (r .more ≤ 0) → 0 < countOf (forwardRun r)
+    by (inl h) k = rw (forward-members r h, count-members r h) h
+    by (inr h) (inl k) = rw (forward-elements r h k, count-elements r h) k
+    by (inr h) (inr k) = rw (forward-later r h k) (later (r .later) (r .rest) (rw (forward-later r h k) at not))
 
 pub more-free : (r : Run) → 0 < r .more → free r ≡ false
 unfolding free
@@ -102,6 +127,14 @@ module _ (r : Run) (h : r .more ≤ 0) where
   pub free-array : r .rest ≤ 0 → free r ≡ eqb (r .array) noArray
   unfolding free
   free-array k = rw (none-eqb (r .more) h, none-eqb (r .rest) k) refl
+
+pub open-optional : (k : ℕ) (r : Run) → k ≡ optionalKind → canOpen k r ≡ true
+unfolding canOpen
+open-optional k r e = rw (eq-eqb k optionalKind e, canOpen) refl
+
+pub open-free : (k : ℕ) (r : Run) → (k ≡ optionalKind → ⊥) → canOpen k r ≡ free r
+unfolding canOpen
+open-free k r e = rw (ne-eqb k optionalKind e, canOpen) refl
 
 -- what `into` picks
 pub into-elements : (k : ℕ) (r : Run) (s : List ℕ) (from n : ℕ) (b : Bool) → b ≡ true → intoRun k r s from n b ≡ putOffRun r s from n from

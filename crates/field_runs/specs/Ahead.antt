@@ -1,12 +1,10 @@
 -- What a run still reads, by the classes that stand at its bytes of the table t, d depths each; and that these stand whole.
 use Prim.Native.Nat.{ℕ, _<_}
 use mathlib.Core.List.{List}
-use mathlib.Core.Bool.{true, false}
 use Rattle.rules.specs.Step.{Step, _⨾_}
 use Rattle.rules.specs.Field.{Env, read, readMembers, times}
-use Rattle.class_layout.specs.Trees.{stoodAt, classAt, membersAt, behindMembers, whole, wholeMembers}
+use Rattle.class_layout.specs.Trees.{stoodAt, classAt, membersAt, whole, wholeMembers}
 use Rattle.field_runs.specs.declared.Run.{Run}
-use Rattle.field_runs.specs.Run.{element}
 
 unfoldable pub ahead : ℕ → List ℕ → Env → Run → Step
 ahead d t e r =
@@ -18,11 +16,3 @@ pub record WholeRun (d : ℕ) (t : List ℕ) (r : Run) : Type 0 where
   pub members : wholeMembers (whole d t) (stoodAt d t) (r .next) (r .todo)
   pub elements : 0 < r .more → whole d t (r .again)
   pub later : wholeMembers (whole d t) (stoodAt d t) (r .later) (r .rest)
-
--- the first k fields of the first one's sort; and where the class of the one behind k of them stands
-unfoldable pub front : ℕ → List ℕ → Env → Run → ℕ → Step
-front d t e r k =
-    elim (element r) [ true ↦ times k (read e (classAt d t (r .again))) | false ↦ readMembers e (membersAt (stoodAt d t) (r .next) k) ]
-
-unfoldable pub placeAt : ℕ → List ℕ → Run → ℕ → ℕ
-placeAt d t r k = elim (element r) [ true ↦ r .again | false ↦ behindMembers (stoodAt d t) (r .next) k ]

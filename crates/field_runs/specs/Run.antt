@@ -6,7 +6,10 @@ use lib.ListN.{getD}
 use lib.Dec.{eqb}
 use Rattle.field_runs.specs.declared.Run.{Run}
 
--- the kind of a variant's record
+-- the kinds of an optional's and of a variant's record
+abbrev pub optionalKind : ℕ
+optionalKind = 31
+
 abbrev pub variantKind : ℕ
 variantKind = 32
 
@@ -25,12 +28,16 @@ membersRun at n = run at n at 0 at 0 noArray
 unfoldable pub elementsRun : ℕ → ℕ → Run
 elementsRun at n = run at 0 at n at 0 at
 
--- nothing comes behind the members, and no element ends with them; nothing is left at all
+-- nothing comes behind the members, and no element ends with them; nothing is left at all, and no element is open
 unfoldable pub free : Run → Bool
 free r = eqb (r .more) 0 && (eqb (r .rest) 0 && eqb (r .array) noArray)
 
 unfoldable pub over : Run → Bool
-over r = eqb (r .todo) 0 && (eqb (r .more) 0 && eqb (r .rest) 0)
+over r = eqb (r .array) noArray && (eqb (r .todo) 0 && (eqb (r .more) 0 && eqb (r .rest) 0))
+
+-- what a first member of the kind k holds can be read in its run
+unfoldable pub canOpen : ℕ → Run → Bool
+canOpen k r = elim (eqb k optionalKind) [ true ↦ true | false ↦ free r ]
 
 -- the first field: an element or a member, where its class stands, and how many there are of its sort
 unfoldable pub element : Run → Bool
@@ -42,7 +49,7 @@ firstAt r = elim (element r) [ true ↦ r .again | false ↦ r .next ]
 unfoldable pub countOf : Run → ℕ
 countOf r = elim (element r) [ true ↦ r .more | false ↦ r .todo ]
 
--- what was put off comes forward where nothing else is left
+-- what was put off comes forward where nothing else is left, and no element is open any more
 unfoldable pub forwardRun : Run → Run
 forwardRun r = elim (eqb (countOf r) 0) [ true ↦ membersRun (r .later) (r .rest) | false ↦ r ]
 

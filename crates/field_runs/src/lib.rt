@@ -7,7 +7,7 @@ ghost use mathlib.Core.Path.{_≡_};
 ghost use Prim.Native.Nat.{_+_, _<_, _^_};
 ghost use lib.ListN.{length};
 ghost use Rattle.field_runs.specs.Run.{membersRun, elementsRun, free, over, element, firstAt, countOf};
-ghost use Rattle.field_runs.specs.Run.{forwardRun, behindRun, takenRun, openedRun, putOffRun, intoRun};
+ghost use Rattle.field_runs.specs.Run.{canOpen, forwardRun, behindRun, takenRun, openedRun, putOffRun, intoRun};
 
 // `todo` classes one behind the other from the byte `next` on; then the class at `again`, `more` times; then `rest` classes from `later`
 // on. What comes before these is in elements of the class at `array`, or in no array's, where that is 0.
@@ -20,6 +20,8 @@ pub struct Run {
     pub rest: usize,
     pub array: usize,
 }
+
+const OPTIONAL: u8 = 31;
 
 const VARIANT: u8 = 32;
 
@@ -56,10 +58,13 @@ pub fn elements(at: usize, count: usize) -> Run
     }
 }
 
-// Whether nothing is left.
+// Whether nothing is left, and no element is open: `forward` closes one behind which nothing is left.
 pub fn is_over(run: Run) -> bool
     ensures { λ r. ⌜ r ≡ over run ⌝ }
 {
+    if run.array != NO_ARRAY {
+        return false;
+    }
     if 0 < run.todo {
         return false;
     }
@@ -82,7 +87,17 @@ pub fn is_free(run: Run) -> bool
     run.array == NO_ARRAY
 }
 
-// What was put off comes forward where nothing else is left.
+// Whether what the first member of a kind holds can be read in its run: an optional's class always, in its place.
+pub fn is_open(kind: u8, run: Run) -> bool
+    ensures { λ r. ⌜ r ≡ canOpen kind run ⌝ }
+{
+    if kind == OPTIONAL {
+        return true;
+    }
+    is_free(run)
+}
+
+// What was put off comes forward where nothing else is left, and the array whose last element was read is closed.
 pub fn forward(run: Run) -> Run
     ensures { λ r. ⌜ r ≡ forwardRun run ⌝ }
 {
