@@ -20,16 +20,18 @@ use Rattle.leaf_find_number.specs.declared.Frame.{Frame}
 use Rattle.leaf_find_number.specs.Framed.{Framed}
 use Rattle.leaf_find_number.specs.Found.{alignedAt}
 use Rattle.slots.specs.Taken.{lengthOf, numberOf}
-use Rattle.class_layout.specs.Trees.{shapeOf, shapes, recordSize, rangesAt, signAt, optionClass, Stood, stoodAt, wholeMembers, wholeOptions, wholeIn, whole}
+use Rattle.class_layout.specs.Trees.{shapeOf, shapes, recordSize, rangesAt, signAt, optionClass, Stood, stoodAt, nextAt, behindMembers}
+use Rattle.class_layout.specs.Trees.{wholeMembers, wholeOptions, wholeIn, whole}
 use Rattle.class_layout.specs.Notes.{Notes, Prepared}
+use Rattle.class_layout.proofs.InPlace.{structure-in-place, optional-in-place}
 use Rattle.field_choice.specs.declared.Choice.{Choice}
 use Rattle.field_choice.specs.declared.Choice.the-variants.{Class, Nothing, Refused as NotTold}
 use Rattle.slots.specs.declared.Number.{Number}
 use Rattle.slots.specs.declared.Number.the-variants.{Of as Told, NotOf as NoNumber}
 use Rattle.field_inside.specs.declared.look.Inside.{Inside}
-use Rattle.field_inside.specs.declared.look.Inside.the-variants.{Members, Refused}
+use Rattle.field_inside.specs.declared.look.Inside.the-variants.{Members, Elements, Refused}
 use Rattle.field_choice.specs.Choice.{byNumber, presentAt, byFlag, byRanges, optionalClass, optionalAt, optionFrom, variantIn}
-use Rattle.field_inside.specs.Inside.{within, standing, byLength, optionalInside, variantInside, bitsNoted, insideIn, insideOf}
+use Rattle.field_inside.specs.Inside.{within, standing, byLength, optionalInside, variantInside, bitsNoted, behindNoted, insideIn, insideOf}
 use Rattle.field_inside.specs.Held.{Placed, Held}
 use Rattle.field_inside.proofs.Holders.{five}
 use Rattle.field_inside.proofs.Opened.{variant-noted}
@@ -128,7 +130,7 @@ module _ (b : List ℕ) (f : Frame) (d : ℕ) (t : List ℕ) (x : Notes) (at : �
       (λ p l. standing-has Here (λ r. tt) f _ from _ (λ h. record { place = aligned h; classes = p .1 }))
       (λ p l. standing-has Here (λ r. tt) f _ from _ (λ h. record { place = aligned h; class = p .1 }))
       (λ p l. length-has Here (λ r. tt) c _ (λ n u. standing-has Here (λ r. tt) f _ from _ (λ h. record { place = aligned h; class = p .1 })))
-      (λ p l. optional-has Here (λ r. tt) from at (optionalClass t at) (record { place = here; classes = (p .1, tt) })
+      (λ p l. optional-has Here (λ r. tt) from (behindNoted x at) (optionalClass t at) (record { place = here; classes = (p .1, tt) })
       (record { place = here; classes = tt }) c (signAt t (at + 3)) (rangesAt t (at + 3) (u8 t (at + 2))))
       (λ p l. rw (variant-noted d t x at c ready (p .1))
       (variant-has Here (λ r. tt) from (whole d t) (stoodAt d t) t at c (p .1) (λ class i u h. record { place = here; classes = (u, tt) })))
@@ -139,3 +141,36 @@ module _ (b : List ℕ) (f : Frame) (d : ℕ) (t : List ℕ) (x : Notes) (at : �
 
       here : Placed f from from
       here = placed-here f from (framed .begun) (framed .within)
+
+-- How what is told takes a field's place in a run: members of any kind but a variant end where the field ends, and a variant's is one; an
+-- optional has no elements
+
+unfoldable pub Ends : ℕ → List ℕ → ℕ → ℕ → Inside → Type 0
+Ends d t at k (Members p v from n) = (k ≡ 32 → n ≡ 1) × ((k ≡ 32 → ⊥) → behindMembers (stoodAt d t) from n ≡ nextAt d t at)
+Ends d t at k (Elements p v from n) = k ≡ 31 → ⊥
+Ends d t at k (Refused r) = Unit {0}
+
+module _ (f : Frame) (d : ℕ) (t : List ℕ) (x : Notes) (at : ℕ) (c : Content) (from : BitPlace) (w : whole (suc d) t at) (ready : Prepared t x)
+  where
+    abbrev Here-ends : ℕ → Inside → Type 0
+    Here-ends k = Ends (suc d) t at k
+
+    abbrev Ending : ℕ → Type 0
+    Ending k = u8 t at ≡ k → wholeIn (whole d t) (stoodAt d t) t at (shapeOf k) → Here-ends k (insideIn t x at f from c (shapeOf k))
+
+    pub inside-ends : 28 ≤ u8 t at → Here-ends (u8 t at) (insideOf t x at f from c)
+    unfolding whole insideOf insideIn wholeIn shapeOf shapes optionalAt Ends behindMembers
+    inside-ends k =
+        five Ending
+        (λ e p. standing-has (Here-ends 28) (λ r. tt) f _ from _
+        (λ h. (λ z. absurd (omega arith), λ z. structure-in-place (suc d) t at w (rw e refl) .ends)))
+        (λ e p. standing-has (Here-ends 29) (λ r. tt) f _ from _ (λ h z. absurd (omega arith)))
+        (λ e p. length-has (Here-ends 30) (λ r. tt) c _ (λ n u. standing-has (Here-ends 30) (λ r. tt) f _ from _ (λ h z. absurd (omega arith))))
+        (λ e p. optional-has (Here-ends 31) (λ r. tt) from (behindNoted x at) (optionalClass t at)
+        (λ z. absurd (omega arith), λ z. optional-in-place (suc d) t at w (rw e refl) .ends)
+        (λ z. absurd (omega arith), λ z. ready .classes (suc d) at w .size)
+        c (signAt t (at + 3)) (rangesAt t (at + 3) (u8 t (at + 2))))
+        (λ e p. rw (variant-noted d t x at c ready (p .1))
+        (variant-has (Here-ends 32) (λ r. tt) from (whole d t) (stoodAt d t) t at c (p .1)
+        (λ class i u h. (λ z. refl, λ z. absurd (z refl)))))
+        (u8 t at) k (w .high) refl (w .parts)

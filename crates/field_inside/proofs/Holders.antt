@@ -18,7 +18,7 @@ use Rattle.class_layout.specs.Trees.{shapeOf, shapes, recordSize, wholeIn}
 use Rattle.class_layout.specs.Notes.{Notes, endNoted}
 use Rattle.field_inside.specs.declared.look.Inside.the-variants.{Refused}
 use Rattle.field_choice.specs.Choice.{InTable, optionalAt, variantAt, WholeOptional, WholeVariant}
-use Rattle.field_inside.specs.Inside.{slotReadIn, slotReadAt, standing, membersFrom, elementsFrom, byLength, optionalInside, variantInside, bitsNoted, insideIn, insideOf, Opens}
+use Rattle.field_inside.specs.Inside.{slotReadIn, slotReadAt, standing, membersFrom, elementsFrom, byLength, optionalInside, variantInside, bitsNoted, behindNoted, insideIn, insideOf, Opens}
 
 -- a law of the five, one after the other
 pub five : (P : ℕ → Type 0) → P 28 → P 29 → P 30 → P 31 → P 32 → (k : ℕ) → 28 ≤ k → k ≤ 32 → P k
@@ -44,7 +44,7 @@ module _ (t : List ℕ) (x : Notes) (at : ℕ) (f : Frame) (p : BitPlace) (c : C
   unfolding insideOf insideIn shapeOf shapes byLength
   inside-dynamic n e h = rw (e, h) refl
 
-  pub inside-optional : u8 t at ≡ 31 → optionalInside p at (optionalAt t at c) ≡ insideOf t x at f p c
+  pub inside-optional : u8 t at ≡ 31 → optionalInside p (behindNoted x at) (optionalAt t at c) ≡ insideOf t x at f p c
   unfolding insideOf insideIn shapeOf shapes
   inside-optional e = rw (e) refl
 

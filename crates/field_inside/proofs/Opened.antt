@@ -37,7 +37,7 @@ use Rattle.slots.specs.declared.Number.the-variants.{Of, NotOf}
 use Rattle.field_inside.specs.declared.look.Inside.{Inside}
 use Rattle.field_inside.specs.declared.look.Inside.the-variants.{Members, Refused}
 use Rattle.field_choice.specs.Choice.{InTable, byNumber, presentAt, byFlag, byRanges, optionalClass, optionalAt, optionFrom, variantIn, variantAt}
-use Rattle.field_inside.specs.Inside.{slotReadIn, slotReadAt, within, standing, membersFrom, elementsFrom, byLength, optionalInside, variantInside, bitsNoted, insideIn, insideOf, opened}
+use Rattle.field_inside.specs.Inside.{slotReadIn, slotReadAt, within, standing, membersFrom, elementsFrom, byLength, optionalInside, variantInside, bitsNoted, behindNoted, insideIn, insideOf, opened}
 use Rattle.field_inside.proofs.Holders.{five}
 use Rattle.field_inside.proofs.Noted.{option-same, end-same}
 
@@ -246,7 +246,7 @@ module _ (b uuid : List ℕ) (f : Frame) (d : ℕ) (t : List ℕ) (x : Notes) (a
       (λ a p q. array-opened b uuid f s d t room (u16 t (at + 1)) (u8 t (at + 3)) (at + 4) _ a)
       (λ a p q. rw q (dynamic-opened b uuid f s d t room (u8 t (at + 1)) (u8 t (at + 2)) (at + 3) _ a))
       (λ a p q. rw q
-      (optional-opened b uuid f s d t room begun (u8 t (at + 1)) at (optionalClass t at) (signAt t (at + 3))
+      (optional-opened b uuid f s d t room begun (u8 t (at + 1)) (behindNoted x at) (optionalClass t at) (signAt t (at + 3))
       (rangesAt t (at + 3) (u8 t (at + 2)))))
       (λ a p q. rw (variant-noted d t x at c ready (p .1), q)
       (variant-opened b uuid f s d t room begun (u8 t (at + 1)) (at + 3) (u8 t (at + 2)) (signAt t (at + 5))))

@@ -64,11 +64,11 @@ unfoldable pub byLength : Length → (ℕ → Inside) → Inside
 byLength (Of n) m = m (n .0)
 byLength (NotOf r) m = Refused r
 
--- "optionals bits 0 and 1 or 0"; one that is not there holds no class, wherever
+-- "optionals bits 0 and 1 or 0"; one that is not there holds no class, at the byte behind it
 unfoldable pub optionalInside : BitPlace → ℕ → Choice → Inside
-optionalInside p at (Class class i) = Members p 1 class 1
-optionalInside p at Nothing = Members p 0 at 0
-optionalInside p at (NotTold r) = Refused r
+optionalInside p behind (Class class i) = Members p 1 class 1
+optionalInside p behind Nothing = Members p 0 behind 0
+optionalInside p behind (NotTold r) = Refused r
 
 -- "variants bits 0 and the option's number from 0"; "selector in no option" (29)
 unfoldable pub variantInside : BitPlace → Choice → Inside
@@ -79,6 +79,10 @@ variantInside p (NotTold r) = Refused r
 -- the alignment noted of the class at a byte, in bits
 abbrev pub bitsNoted : Notes → ℕ → ℕ
 bitsNoted x at = 2 ^ getD (x .aligns) at 0
+
+-- the byte behind the record of the class at a byte, as it is noted
+abbrev pub behindNoted : Notes → ℕ → ℕ
+behindNoted x at = at + getD (x .sizes) at 0
 
 -- kinds 16 to 27 hold no field
 unfoldable pub insideIn : List ℕ → Notes → ℕ → Frame → BitPlace → Content → Shape → Inside
@@ -93,7 +97,7 @@ insideIn t x at f p c blobOf = Members p 0 at 0
 insideIn t x at f p c members = standing f (bitsNoted x at) p (membersFrom (u8 t (at + 1)) (at + 3))
 insideIn t x at f p c elements = standing f (bitsNoted x at) p (elementsFrom (u16 t (at + 1)) (at + 4))
 insideIn t x at f p c elementsOf = byLength (lengthOf c) (λ n. standing f (bitsNoted x at) p (elementsFrom n (at + 3)))
-insideIn t x at f p c option? = optionalInside p at (optionalAt t at c)
+insideIn t x at f p c option? = optionalInside p (behindNoted x at) (optionalAt t at c)
 insideIn t x at f p c options = variantInside p (variantAt t (x .sizes) at c)
 
 unfoldable pub insideOf : List ℕ → Notes → ℕ → Frame → BitPlace → Content → Inside

@@ -1,2 +1,3 @@
 pub mod Inside
 pub mod Held
+pub mod Opening

@@ -10,6 +10,7 @@ use rules::Refusal;
 use slots::Length;
 use slots::length_of;
 use table_bytes::count_at;
+use table_bytes::size_at;
 use table_bytes::u16_at;
 ghost use mathlib.Core.Path.{_≡_};
 ghost use Prim.Native.Nat.{_+_, _≤_, _<_, _^_};
@@ -79,7 +80,11 @@ pub fn look(
             Length::NotOf(why) => Inside::Refused(why),
             Length::Of(n) => elements(n.0, at + 3, aligns[at], frame, place),
         },
-        OPTIONAL => optional(choose_optional(table, at, content), at, place),
+        OPTIONAL => optional(
+            choose_optional(table, at, content),
+            at + size_at(sizes, at),
+            place,
+        ),
         _ => variant(choose_option(table, sizes, at, content), place),
     }
 }
@@ -123,15 +128,15 @@ fn within(frame: Frame, place: BitPlace, told: Inside) -> Inside
 }
 
 // "optionals bits 0 and 1 or 0" (The list)
-fn optional(choice: Choice, at: usize, place: BitPlace) -> Inside
-    ensures { λ r. ⌜ r ≡ optionalInside place at choice ⌝ }
+fn optional(choice: Choice, behind: usize, place: BitPlace) -> Inside
+    ensures { λ r. ⌜ r ≡ optionalInside place behind choice ⌝ }
 {
     match choice {
         Choice::Refused(why) => Inside::Refused(why),
         Choice::Nothing => Inside::Members {
             place,
             value: 0,
-            from: at,
+            from: behind,
             count: 0,
         },
         Choice::Class {

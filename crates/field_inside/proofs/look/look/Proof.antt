@@ -63,6 +63,12 @@ choose-optional-requires : tie.Need-choose-optional-requires
 unfolding u8
 choose-optional-requires c κs = optional-there (c .before .before .before .before .before .pre .0) (c .match .keys4)
 
+size-at-requires : tie.Need-size-at-requires
+size-at-requires c κs = omega (arith, (c .before .before .before .before .before .before .pre .0) .sizes, record-there (c .before .before .before .before .before .before .pre .0))
+
+add-optional : tie.Need-add-optional
+add-optional c = omega (arith, (c .before .before .before .before .before .before .before .pre .0) .limit, record-there (c .before .before .before .before .before .before .before .pre .0), c .size-at .ensures .1)
+
 optional-requires : tie.Need-optional-requires
 optional-requires c κs = search needs
 
@@ -91,7 +97,7 @@ returns-4 c = c .elements2 .ensures ∙ inside-dynamic _ (notes (c .before .befo
 
 returns-5 : tie.Need-returns-5
 unfolding u8
-returns-5 c = rw (c .optional .ensures, c .before .choose-optional .ensures) (inside-optional _ (notes (c .before .before .before .before .before .before .before .args .sizes .now) (c .before .before .before .before .before .before .before .args .aligns .now)) _ _ _ _ (c .before .before .match .keys4))
+returns-5 c = rw (c .optional .ensures, c .before .size-at .ensures .0, c .before .before .choose-optional .ensures) (inside-optional _ (notes (c .before .before .before .before .before .before .before .before .args .sizes .now) (c .before .before .before .before .before .before .before .before .args .aligns .now)) _ _ _ _ (c .before .before .before .match .keys4))
 
 returns-6 : tie.Need-returns-6
 unfolding u8
@@ -119,6 +125,8 @@ look-spec =
     shared-slice-read-elements-2
     elements-requires-2
     choose-optional-requires
+    size-at-requires
+    add-optional
     optional-requires
     choose-option-requires
     variant-requires

@@ -1,0 +1,40 @@
+-- A field of kinds 28 to 32 opened, by what is told of it: its place and what it holds, in numbers alone; and the list behind its entry.
+use Prim.Native.Nat.{ℕ}
+use mathlib.Core.List.{List, [], _∷_, _++_}
+use mathlib.Core.Bool.{Bool, true, false, not}
+use lib.ListN.{drop}
+use lib.Dec.{ltb}
+use Rattle.rules.specs.declared.BitPlace.{BitPlace}
+use Rattle.rules.specs.declared.Refusal.the-variants.{PastBound}
+use Rattle.rules.specs.Entry.{entry, words}
+use Rattle.leaf_find_number.specs.declared.Frame.{Frame}
+use Rattle.leaf_find_number.specs.Found.{alignedAt}
+use Rattle.field_inside.specs.declared.look.Inside.{Inside}
+use Rattle.field_inside.specs.declared.look.Inside.the-variants.{Members, Elements, Refused}
+use Rattle.field_inside.specs.declared.opening.Opened.{Opened}
+use Rattle.field_inside.specs.declared.opening.Entered.{Entered}
+
+-- n members from a byte on, or n elements of the class there
+unfoldable pub wentIn : BitPlace → ℕ → ℕ → Bool → Opened
+wentIn p from n elements = record { on = true; why = PastBound; place = p; from = from; count = n; elements = elements }
+
+unfoldable pub openedAs : BitPlace → Inside → Opened
+openedAs p (Members q v from n) = wentIn q from n false
+openedAs p (Elements q v from n) = wentIn q from n true
+openedAs p (Refused r) = record { on = false; why = r; place = p; from = 0; count = 0; elements = false }
+
+-- the list behind the entry of a field of the kind k, which has no bits of its own
+abbrev pub listHolder : ℕ → BitPlace → ℕ → List ℕ → List ℕ
+listHolder k p v ws = words (entry k p 0 v ∷ []) ++ drop 4 ws
+
+unfoldable pub listOpened : ℕ → Inside → List ℕ → List ℕ
+listOpened k (Members q v from n) ws = listHolder k q v ws
+listOpened k (Elements q v from n) ws = listHolder k q v ws
+listOpened k (Refused r) ws = ws
+
+-- a structure, aligned to so many bits: its place lies past the bound, or it is entered with the count of its members
+unfoldable pub enteredAt : Frame → ℕ → BitPlace → Entered
+enteredAt f a p = record { on = not (ltb (f .bound .0) (alignedAt f a p .0)); place = alignedAt f a p }
+
+unfoldable pub listEntered : Frame → ℕ → BitPlace → ℕ → List ℕ → List ℕ
+listEntered f a p n ws = elim (ltb (f .bound .0) (alignedAt f a p .0)) [ true ↦ ws | false ↦ listHolder 28 (alignedAt f a p) n ws ]

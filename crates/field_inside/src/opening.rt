@@ -1,0 +1,144 @@
+// A field of kinds 28 to 32 opened: its own entry is listed, and what it holds is said in numbers alone, for a run of fields.
+use crate::look::Inside;
+use crate::look::look;
+use leaf_find_number::Frame;
+use listing::entry::write;
+use rules::BitPlace;
+use rules::Content;
+use rules::Entry;
+use rules::Refusal;
+use table_bytes::wide64;
+ghost use mathlib.Core.Path.{_≡_};
+ghost use mathlib.Core.List.{[], _∷_, _++_};
+ghost use Prim.Native.Nat.{_+_, _≤_, _<_, _^_};
+ghost use lib.ListN.{length, drop, getD};
+ghost use Rattle.rules.specs.Record.{u8};
+ghost use Rattle.rules.specs.Entry.{words, entry};
+ghost use Rattle.class_layout.specs.Notes.{notes};
+ghost use Rattle.field_inside.specs.Inside.{insideOf, Opens};
+ghost use Rattle.field_inside.specs.Opening.{openedAs, listOpened, enteredAt, listEntered, wentIn};
+
+const STRUCTURE: u8 = 28;
+
+// A field that was opened: its place, and what it holds, as `Inside` has it; or why it was not, at the place from which it was looked for.
+pub struct Opened {
+    pub on: bool,
+    pub why: Refusal,
+    pub place: BitPlace,
+    pub from: usize,
+    pub count: usize,
+    pub elements: bool,
+}
+
+// Opens the field of the class at a byte, and lists its entry, where there is room for it. `content` is what the slot holds that it reads.
+pub fn open_field(
+    table: &[u8],
+    sizes: &[u16],
+    aligns: &[u8],
+    frame: Frame,
+    at: usize,
+    place: BitPlace,
+    content: Content,
+    list: &mut [u64],
+) -> Opened
+    requires { ⌜ Opens (now table) (notes (now sizes) (now aligns)) at ⌝ }
+    requires { ⌜ (frame .start .0 ≤ place .0) × (place .0 + 64 ≤ 2 ^ 64) ⌝ }
+    requires { ⌜ 4 ≤ length (now list) ⌝ }
+    ensures { λ r. ⌜
+        r ≡ openedAs place (insideOf (now (table .entry)) (notes (now (sizes .entry)) (now (aligns .entry))) at frame place content)
+        ⌝ }
+    ensures { λ _. ⌜
+        now (list .exit) ≡ listOpened (u8 (now (table .entry)) at)
+        (insideOf (now (table .entry)) (notes (now (sizes .entry)) (now (aligns .entry))) at frame place content) (now (list .entry))
+        ⌝ }
+{
+    let kind = table[at];
+    match look(table, sizes, aligns, at, frame, place, content) {
+        Inside::Refused(why) => Opened {
+            on: false,
+            why,
+            place,
+            from: 0,
+            count: 0,
+            elements: false,
+        },
+        Inside::Members {
+            place: there,
+            value,
+            from,
+            count,
+        } => {
+            list_holder(kind, there, value, list);
+            went_in(there, from, count, false)
+        }
+        Inside::Elements {
+            place: there,
+            value,
+            from,
+            count,
+        } => {
+            list_holder(kind, there, value, list);
+            went_in(there, from, count, true)
+        }
+    }
+}
+
+fn went_in(place: BitPlace, from: usize, count: usize, elements: bool) -> Opened
+    ensures { λ r. ⌜ r ≡ wentIn place from count elements ⌝ }
+{
+    Opened {
+        on: true,
+        why: Refusal::PastBound,
+        place,
+        from,
+        count,
+        elements,
+    }
+}
+
+// A structure's place, and whether that is not past the bound.
+pub struct Entered {
+    pub on: bool,
+    pub place: BitPlace,
+}
+
+// The same of the structure at a byte, which reads no slot: what it holds stands in its record.
+pub fn enter_structure(
+    table: &[u8],
+    aligns: &[u8],
+    frame: Frame,
+    at: usize,
+    from: BitPlace,
+    list: &mut [u64],
+) -> Entered
+    requires { ⌜ (at + 2 ≤ length (now table)) × (at < length (now aligns)) × (getD (now aligns) at 0 ≤ 6) ⌝ }
+    requires { ⌜ (frame .start .0 ≤ from .0) × (from .0 + 64 ≤ 2 ^ 64) ⌝ }
+    requires { ⌜ 4 ≤ length (now list) ⌝ }
+    ensures { λ r. ⌜ r ≡ enteredAt frame (2 ^ getD (now (aligns .entry)) at 0) from ⌝ }
+    ensures { λ _. ⌜
+        now (list .exit) ≡ listEntered frame (2 ^ getD (now (aligns .entry)) at 0) from (u8 (now (table .entry)) (at + 1)) (now (list .entry))
+        ⌝ }
+{
+    let place = places::align(from, frame.start, wide64(aligns[at]));
+    if frame.bound.0 < place.0 {
+        return Entered { on: false, place };
+    }
+    list_holder(STRUCTURE, place, wide64(table[at + 1]), list);
+    Entered { on: true, place }
+}
+
+// The entry of a field that holds fields: it has no bits of its own.
+pub fn list_holder(kind: u8, place: BitPlace, value: u64, list: &mut [u64])
+    requires { ⌜ 4 ≤ length (now list) ⌝ }
+    ensures { λ _. ⌜ now (list .exit) ≡ words (entry kind place 0 value ∷ []) ++ drop 4 (now (list .entry)) ⌝ }
+{
+    write(
+        list,
+        Entry {
+            kind: wide64(kind),
+            place,
+            bits: 0,
+            value,
+        },
+    );
+}
