@@ -142,12 +142,12 @@ module _ (b : List ℕ) (f : Frame) (d : ℕ) (t : List ℕ) (x : Notes) (at : �
       here : Placed f from from
       here = placed-here f from (framed .begun) (framed .within)
 
--- How what is told takes a field's place in a run: members of any kind but a variant end where the field ends, and a variant's is one; an
--- optional has no elements
+-- How what is told takes a field's place in a run: members of any kind but a variant end where the field ends, and a variant's is one;
+-- elements are an array's, of kind 29 or 30
 
 unfoldable pub Ends : ℕ → List ℕ → ℕ → ℕ → Inside → Type 0
 Ends d t at k (Members p v from n) = (k ≡ 32 → n ≡ 1) × ((k ≡ 32 → ⊥) → behindMembers (stoodAt d t) from n ≡ nextAt d t at)
-Ends d t at k (Elements p v from n) = k ≡ 31 → ⊥
+Ends d t at k (Elements p v from n) = (k ≡ 28 → ⊥) × (k ≡ 31 → ⊥)
 Ends d t at k (Refused r) = Unit {0}
 
 module _ (f : Frame) (d : ℕ) (t : List ℕ) (x : Notes) (at : ℕ) (c : Content) (from : BitPlace) (w : whole (suc d) t at) (ready : Prepared t x)
@@ -164,8 +164,8 @@ module _ (f : Frame) (d : ℕ) (t : List ℕ) (x : Notes) (at : ℕ) (c : Conten
         five Ending
         (λ e p. standing-has (Here-ends 28) (λ r. tt) f _ from _
         (λ h. (λ z. absurd (omega arith), λ z. structure-in-place (suc d) t at w (rw e refl) .ends)))
-        (λ e p. standing-has (Here-ends 29) (λ r. tt) f _ from _ (λ h z. absurd (omega arith)))
-        (λ e p. length-has (Here-ends 30) (λ r. tt) c _ (λ n u. standing-has (Here-ends 30) (λ r. tt) f _ from _ (λ h z. absurd (omega arith))))
+        (λ e p. standing-has (Here-ends 29) (λ r. tt) f _ from _ (λ h. (λ z. absurd (omega arith), λ z. absurd (omega arith))))
+        (λ e p. length-has (Here-ends 30) (λ r. tt) c _ (λ n u. standing-has (Here-ends 30) (λ r. tt) f _ from _ (λ h. (λ z. absurd (omega arith), λ z. absurd (omega arith)))))
         (λ e p. optional-has (Here-ends 31) (λ r. tt) from (behindNoted x at) (optionalClass t at)
         (λ z. absurd (omega arith), λ z. optional-in-place (suc d) t at w (rw e refl) .ends)
         (λ z. absurd (omega arith), λ z. ready .classes (suc d) at w .size)

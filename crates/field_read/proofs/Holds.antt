@@ -1,6 +1,7 @@
 -- A field that holds others: its own entry stands in front, and what is inside is lent the rest of the list.
 use mathlib.Core.Path.{_≡_, refl, ap, sym, subst, _∙_}
 use mathlib.Core.List.{List, [], _∷_, _++_}
+use mathlib.Core.Bool.{true, false}
 use Prim.Native.Nat.{ℕ, zero, suc, _+_, _-_, _*_, _^_, _≤_, _<_}
 use native.Mathlib.Omega.{arith}
 use lib.ListN.{length, drop}
@@ -16,10 +17,13 @@ use Rattle.rules.specs.declared.Content.{Content}
 use Rattle.rules.specs.Record.{u8}
 use Rattle.rules.specs.Step.{State as Full, Step, after, _⨾_, refuse, listed}
 use Rattle.facts.proofs.Cases.{_▷_, below}
+use Rattle.facts.proofs.Truth.{clash}
 use Rattle.class_layout.specs.Trees.{shapeOf, shapes, recordSize, whole, wholeMembers, stoodAt}
 use Rattle.class_layout.specs.Notes.{Notes, Prepared}
 use Rattle.field_inside.specs.declared.look.Inside.{Inside}
 use Rattle.field_inside.specs.declared.look.Inside.the-variants.{Members, Elements, Refused}
+use Rattle.field_inside.specs.declared.opening.Opened.{Opened}
+use Rattle.field_inside.specs.Opening.{openedAs, wentIn, listOpened}
 use Rattle.field_inside.specs.Inside.{insideOf, slotReadAt, opened, Opens}
 use Rattle.field_inside.specs.Held.{Held, Placed, HeldMembers, HeldElements}
 use Rattle.field_inside.proofs.Noted.{opens}
@@ -158,3 +162,72 @@ module _ {b u : List ℕ} {f : Frame} {t : List ℕ} {x : Notes} {d at : ℕ} {c
       → FieldReads (elementsRead (d - 1) t at′ n (envOf b u f)) (atPlace p st) l r (lent 4 ws₁) ys → Closed this (merged 4 ws₁ ys) r
   unfolding opened
   elements-closed look e = closed _ (opened-read ∙ rw (sym look ∙ e) refl)
+
+  -- as it was opened: ws₁ is the list behind its entry
+  abbrev told : Inside
+  told = insideOf t x at f (st .place) c
+
+  refused-told : (j : Inside) → told ≡ j → openedAs (st .place) j .on ≡ false
+      → CallReads this (stoppedCall this (stopAt (openedAs (st .place) j .why) (st .place)) 0) (listOpened (u8 t at) j ws)
+  unfolding openedAs wentIn listOpened
+  refused-told (Members p v from n) e off = absurd (clash (sym off))
+  refused-told (Elements p v from n) e off = absurd (clash (sym off))
+  refused-told (Refused why) e off = refusal-reads (sym e) refl
+
+  members-told : (j : Inside) → told ≡ j →
+      let o = openedAs (st .place) j in
+      o .on ≡ true → o .elements ≡ false → wholeMembers (whole (d - 1) t) (stoodAt (d - 1) t) (o .from) (o .count) × Framed b f (o .place)
+  unfolding openedAs wentIn
+  members-told (Members p v from n) e on one = members-held (sym e) refl
+  members-told (Elements p v from n) e on one = absurd (clash (sym one))
+  members-told (Refused why) e on one = absurd (clash on)
+
+  elements-told : (j : Inside) → told ≡ j →
+      let o = openedAs (st .place) j in
+      o .on ≡ true → o .elements ≡ true → whole (d - 1) t (o .from) × Framed b f (o .place)
+  unfolding openedAs wentIn
+  elements-told (Members p v from n) e on one = absurd (clash one)
+  elements-told (Elements p v from n) e on one = elements-held (sym e) refl
+  elements-told (Refused why) e on one = absurd (clash on)
+
+  members-did : {ys : List ℕ} {r : Field} (j : Inside) → told ≡ j →
+      let o = openedAs (st .place) j in
+      o .on ≡ true → o .elements ≡ false
+      → FieldReads (membersRead (d - 1) t (o .from) (o .count) (envOf b u f)) (atPlace (o .place) st) l r (lent 4 (listOpened (u8 t at) j ws)) ys
+      → Closed this (merged 4 (listOpened (u8 t at) j ws) ys) r
+  unfolding openedAs wentIn listOpened
+  members-did (Members p v from n) e on one did = members-closed (sym e) refl refl did
+  members-did (Elements p v from n) e on one did = absurd (clash (sym one))
+  members-did (Refused why) e on one did = absurd (clash on)
+
+  elements-did : {ys : List ℕ} {r : Field} (j : Inside) → told ≡ j →
+      let o = openedAs (st .place) j in
+      o .on ≡ true → o .elements ≡ true
+      → FieldReads (elementsRead (d - 1) t (o .from) (o .count) (envOf b u f)) (atPlace (o .place) st) l r (lent 4 (listOpened (u8 t at) j ws)) ys
+      → Closed this (merged 4 (listOpened (u8 t at) j ws) ys) r
+  unfolding openedAs wentIn listOpened
+  elements-did (Members p v from n) e on one did = absurd (clash one)
+  elements-did (Elements p v from n) e on one did = elements-closed (sym e) refl refl did
+  elements-did (Refused why) e on one did = absurd (clash on)
+
+  -- the same of what the code says
+  module _ {o : Opened} {ws₁ : List ℕ} (e : o ≡ openedAs (st .place) told) (list : ws₁ ≡ listOpened (u8 t at) told ws) where
+    pub open-refused : o .on ≡ false → CallReads this (stoppedCall this (stopAt (o .why) (st .place)) 0) ws₁
+    open-refused off = rw (list, e) (refused-told told refl (rw e at off))
+
+    pub open-members : o .on ≡ true → o .elements ≡ false
+        → wholeMembers (whole (d - 1) t) (stoodAt (d - 1) t) (o .from) (o .count) × Framed b f (o .place)
+    open-members on one = rw e (members-told told refl (rw e at on) (rw e at one))
+
+    pub open-elements : o .on ≡ true → o .elements ≡ true → whole (d - 1) t (o .from) × Framed b f (o .place)
+    open-elements on one = rw e (elements-told told refl (rw e at on) (rw e at one))
+
+    pub members-open : {ys : List ℕ} {r : Field} → o .on ≡ true → o .elements ≡ false
+        → FieldReads (membersRead (d - 1) t (o .from) (o .count) (envOf b u f)) (atPlace (o .place) st) l r (lent 4 ws₁) ys
+        → Closed this (merged 4 ws₁ ys) r
+    members-open on one did = rw list (members-did told refl (rw e at on) (rw e at one) (rw (list, e) at did))
+
+    pub elements-open : {ys : List ℕ} {r : Field} → o .on ≡ true → o .elements ≡ true
+        → FieldReads (elementsRead (d - 1) t (o .from) (o .count) (envOf b u f)) (atPlace (o .place) st) l r (lent 4 ws₁) ys
+        → Closed this (merged 4 ws₁ ys) r
+    elements-open on one did = rw list (elements-did told refl (rw e at on) (rw e at one) (rw (list, e) at did))

@@ -1,2 +1,5 @@
+mod Roles
+pub mod Round
+mod Walks
 pub mod Turns
 mod Holds

@@ -3,6 +3,8 @@ use Prim.Native.Nat.{ℕ, _+_}
 use mathlib.Core.Path.{_≡_}
 use mathlib.Core.List.{List}
 use lib.ListN.{length}
+use Rattle.rules.specs.declared.BitPlace.{BitPlace}
+use Rattle.rules.specs.declared.LastOrder.{LastOrder}
 use Rattle.rules.specs.declared.Stop.{Stop}
 use Rattle.rules.specs.Limits.{slotCount}
 use Rattle.rules.specs.Slots.{Slots}
@@ -30,3 +32,7 @@ gone (Stopped v) n st l came given = stoppedField v n came given
 -- a field whose entry was listed, by what is inside it
 abbrev pub entered : Field → State → Slots → Field
 entered r came given = gone (r .went) (4 + r .used) (r .state) (r .slots) came given
+
+-- the same state at a place and an order
+abbrev pub stateAt : BitPlace → LastOrder → State → State
+stateAt p o st = record { place = p; order = o; clock = st .clock; last = st .last; said = st .said }

@@ -4,23 +4,38 @@
 //
 // What stopped hands back state and slots as they came, whatever was read inside it; only the list keeps what was listed.
 use crate::Field;
-use field_inside::enter;
-use field_inside::look::Inside;
-use field_inside::look::look;
+use crate::at;
 use field_inside::look::slot_read;
+use field_inside::opening::enter_structure;
+use field_inside::opening::open_field;
+use field_runs::Run;
+use field_runs::behind;
+use field_runs::count;
+use field_runs::elements;
+use field_runs::first;
+use field_runs::forward;
+use field_runs::into;
+use field_runs::is_element;
+use field_runs::is_open;
+use field_runs::is_over;
+use field_runs::members;
+use field_runs::opened;
+use field_runs::taken;
 use leaf_find_number::Frame;
 use leaf_read::FIRST_THAT_HOLDS;
+use leaf_read::content_of;
 use leaf_read::leaf_slot;
-use leaf_read::onward;
-use leaf_read::read_leaf;
+use leaf_read::read_leaves;
 use listing::State;
 use listing::Went;
+use listing::at_place;
+use listing::role;
 use rules::BitPlace;
 use rules::Content;
 use rules::Refusal;
 use rules::Slot;
 use rules::Stop;
-use table_bytes::wide64;
+use table_bytes::wide;
 ghost use mathlib.Core.Path.{_≡_};
 ghost use Prim.Native.Nat.{_+_, _^_, _≤_, _<_};
 ghost use lib.ListN.{length};
@@ -30,8 +45,10 @@ ghost use Rattle.rules.specs.Field.{read, readMembers, times};
 ghost use Rattle.leaf_find_number.specs.Framed.{Framed, envOf};
 ghost use Rattle.class_layout.specs.Trees.{whole, wholeMembers, stoodAt, classAt, membersAt};
 ghost use Rattle.class_layout.specs.Notes.{notes, Prepared};
-ghost use Rattle.class_layout.specs.Fields.{readFields, wholeFields};
+ghost use Rattle.field_runs.specs.Ahead.{ahead, WholeRun};
 ghost use Rattle.field_read.specs.Reads.{FieldReads, stoppedField, entered};
+
+const STRUCTURE: u8 = 28;
 
 // The field of the class at a byte, which holds fields, where there is room for its entry. `left` depths are left, its own among them.
 pub fn read_field(
@@ -62,55 +79,42 @@ pub fn read_field(
         let slot = slots[i];
         content = slot.content;
     }
-    let kind = wide64(table[at]);
-    let r = match look(table, sizes, aligns, at, frame, st.place, content) {
-        Inside::Refused(why) => {
-            return refused(why, st.place, 0, st, slots);
-        }
-        Inside::Members {
-            place,
-            value,
-            from,
-            count,
-        } => {
-            let next = enter(kind, place, value, st, list);
-            walk_members(
-                table,
-                sizes,
-                aligns,
-                uuid,
-                stream,
-                frame,
-                from,
-                count,
-                left - 1,
-                next,
-                slots,
-                &mut list[4..],
-            )
-        }
-        Inside::Elements {
-            place,
-            value,
-            from,
-            count,
-        } => {
-            let next = enter(kind, place, value, st, list);
-            walk_elements(
-                table,
-                sizes,
-                aligns,
-                uuid,
-                stream,
-                frame,
-                from,
-                count,
-                left - 1,
-                next,
-                slots,
-                &mut list[4..],
-            )
-        }
+    let o = open_field(table, sizes, aligns, frame, at, st.place, content, list);
+    if !o.on {
+        let why = o.why;
+        return refused(why, st.place, 0, st, slots);
+    }
+    let next = at_place(o.place, st);
+    let r = if o.elements {
+        walk_elements(
+            table,
+            sizes,
+            aligns,
+            uuid,
+            stream,
+            frame,
+            o.from,
+            o.count,
+            left - 1,
+            next,
+            slots,
+            &mut list[4..],
+        )
+    } else {
+        walk_members(
+            table,
+            sizes,
+            aligns,
+            uuid,
+            stream,
+            frame,
+            o.from,
+            o.count,
+            left - 1,
+            next,
+            slots,
+            &mut list[4..],
+        )
     };
     behind_entry(r, st, slots)
 }
@@ -167,9 +171,7 @@ pub fn walk_members(
         uuid,
         stream,
         frame,
-        at,
-        count,
-        false,
+        members(at, count),
         left,
         st,
         given,
@@ -207,9 +209,7 @@ fn walk_elements(
         uuid,
         stream,
         frame,
-        at,
-        count,
-        true,
+        elements(at, count),
         left,
         st,
         given,
@@ -217,8 +217,10 @@ fn walk_elements(
     )
 }
 
-// Both walks: they differ in where the class of the next field stands, behind the one that was read or at the same byte `again`. No room (40)
-// comes before all else of a field, so it is tested before the class is looked at.
+// Both walks: a run of fields, none of which needs more than `left` depths. A structure or an optional is opened in its run, and an array or a
+// variant where nothing is put off; for any other the run is left to `read_field`, and gone on with behind it. What was put off comes
+// forward, and an array is closed, before anything is asked of the next field; no room (40) comes before all else of one, and is not tested
+// where none is left.
 fn walk(
     table: &[u8],
     sizes: &[u16],
@@ -226,64 +228,132 @@ fn walk(
     uuid: &[u8],
     stream: &[u8],
     frame: Frame,
-    at: usize,
-    count: usize,
-    again: bool,
+    begun: Run,
     left: usize,
     st: State,
     given: [Slot; 64],
     list: &mut [u64],
 ) -> Field
-    requires { ⌜ wholeFields again left (now table) at count ⌝ }
+    requires { ⌜ WholeRun left (now table) begun ⌝ }
     requires { ⌜ Prepared (now table) (notes (now sizes) (now aligns)) ⌝ }
     requires { ⌜ Framed (now stream) frame (st .place) ⌝ }
     ensures { λ r. ⌜
-        FieldReads (readFields again left (now (table .entry)) at count (envOf (now (stream .entry)) (now (uuid .entry)) frame)) st given r
+        FieldReads (ahead left (now (table .entry)) (envOf (now (stream .entry)) (now (uuid .entry)) frame) begun) st given r
         (now (list .entry)) (now (list .exit))
         ⌝ }
 {
     let mut state = st;
+    let mut place = st.place;
+    let mut order = st.order;
     let mut slots = given;
     let mut used: usize = 0;
-    let mut next = at;
-    let mut todo = count;
-    while 0 < todo {
-        if list.len() - used < 4 {
-            return refused(Refusal::ListFull, state.place, used, st, given); // 40
+    let mut run = begun;
+    loop {
+        run = forward(run);
+        if is_over(run) {
+            return Field {
+                went: Went::On,
+                used,
+                state: at(place, order, state),
+                slots,
+            };
         }
-        if table[next] < FIRST_THAT_HOLDS {
+        if list.len() - used < 4 {
+            return refused(Refusal::ListFull, place, used, st, given); // 40
+        }
+        let next = first(run);
+        let kind = table[next];
+        if kind < FIRST_THAT_HOLDS {
             let mut content = Content::Unset;
             let i = leaf_slot(table, next);
             if i < 64 {
                 let slot = slots[i];
                 content = slot.content;
             }
-            let r = read_leaf(
+            let r = read_leaves(
                 table,
-                next,
+                sizes,
                 uuid,
                 stream,
                 frame,
-                state,
+                next,
+                count(run),
+                is_element(run),
+                place,
+                order,
                 content,
                 &mut list[used..],
             );
             used = used + r.used;
-            let went = r.went;
-            match went {
-                Went::Stopped(stop) => {
-                    return stopped(stop, used, st, given); // not `slots`
-                }
-                Went::On => {}
+            place = r.place;
+            order = r.order;
+            if !r.on {
+                let why = r.why;
+                return refused(why, place, used, st, given);
             }
-            next = onward(sizes, next, again); // behind the leaf's record
-            todo = todo - 1;
-            state = r.state;
+            let last = r.at;
+            run = behind(run, sizes, last, r.todo);
             let to = r.slot as usize;
             if to < 64 {
-                let content = r.content;
+                let content = content_of(table[last], r.value);
                 slots[to] = Slot { content };
             }
+            let role = r.role;
+            if role != 0 {
+                let said = role::apply(
+                    role,
+                    r.width,
+                    r.value,
+                    at(place, order, state),
+                    &mut list[used..],
+                );
+                used = used + said.used;
+                let went = said.went;
+                match went {
+                    Went::Stopped(stop) => {
+                        return stopped(stop, used, st, given);
+                    }
+                    Went::On => {}
+                }
+                state = said.state;
+            }
+            continue;
+        }
+        run = taken(run);
+        if kind == STRUCTURE {
+            let o = enter_structure(table, aligns, frame, next, place, &mut list[used..]);
+            if !o.on {
+                return refused(Refusal::PastBound, place, used, st, given);
+            }
+            place = o.place;
+            run = opened(run, next + 3, wide(table[next + 1]));
+            used = used + 4;
+            continue;
+        }
+        let mut content = Content::Unset;
+        let i = slot_read(table, next);
+        if i < 64 {
+            let slot = slots[i];
+            content = slot.content;
+        }
+        if is_open(kind, run) {
+            let o = open_field(
+                table,
+                sizes,
+                aligns,
+                frame,
+                next,
+                place,
+                content,
+                &mut list[used..],
+            );
+            if !o.on {
+                let why = o.why;
+                return refused(why, place, used, st, given);
+            }
+            place = o.place;
+            run = into(kind, run, sizes, o.from, o.count, o.elements);
+            used = used + 4;
             continue;
         }
         let r = read_field(
@@ -295,7 +365,7 @@ fn walk(
             frame,
             next,
             left,
-            state,
+            at(place, order, state),
             slots,
             &mut list[used..],
         );
@@ -307,16 +377,11 @@ fn walk(
             }
             Went::On => {}
         }
-        next = onward(sizes, next, again);
-        todo = todo - 1;
         state = r.state;
+        place = state.place;
+        order = state.order;
         slots = r.slots;
-    }
-    Field {
-        went: Went::On,
-        used,
-        state,
-        slots,
+        run = behind(run, sizes, next, run.todo - 1);
     }
 }
 

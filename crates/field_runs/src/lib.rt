@@ -4,6 +4,7 @@
 // read by itself.
 use table_bytes::size_at;
 ghost use mathlib.Core.Path.{_≡_};
+ghost use mathlib.Core.Bool.{false};
 ghost use Prim.Native.Nat.{_+_, _<_, _^_};
 ghost use lib.ListN.{length};
 ghost use Rattle.field_runs.specs.Run.{membersRun, elementsRun, free, over, element, firstAt, countOf};
@@ -218,7 +219,9 @@ pub fn put_off(run: Run, sizes: &[u16], at: usize, times: usize, array: usize) -
 
 // Into the first member: its parts; a variant's class; or its elements.
 pub fn into(kind: u8, run: Run, sizes: &[u16], from: usize, parts: usize, elements: bool) -> Run
-    requires { ⌜ (0 < run .todo) × (run .todo + parts < 2 ^ 63) × (run .next < length (now sizes)) × (run .next < 2 ^ 63) ⌝ }
+    requires { ⌜
+        (0 < run .todo) × (elements ≡ false → run .todo + parts < 2 ^ 63) × (run .next < length (now sizes)) × (run .next < 2 ^ 63)
+        ⌝ }
     ensures { λ r. ⌜ r ≡ intoRun kind run (now (sizes .entry)) from parts elements ⌝ }
 {
     if elements {

@@ -1,0 +1,67 @@
+-- A walk is a loop over a run with nothing behind it: how it starts, and how it ends.
+use mathlib.Core.Path.{_≡_, refl, ap, sym, subst, _∙_}
+use mathlib.Core.List.{List}
+use mathlib.Core.Bool.{true}
+use Prim.Native.Nat.{ℕ}
+use native.Mathlib.Omega.{arith}
+use lib.ListN.{length}
+use Rattle.rules.specs.declared.Stop.{Stop}
+use Rattle.rules.specs.Limits.{slotCount}
+use Rattle.rules.specs.Slots.{Slots}
+use Rattle.rules.specs.Step.{Step, pass}
+use Rattle.facts.proofs.Steps.{seq-pass}
+use Rattle.class_layout.specs.Notes.{Notes, Prepared}
+use Rattle.leaf_find_number.specs.declared.Frame.{Frame}
+use Rattle.leaf_find_number.specs.Framed.{Framed, envOf}
+use Rattle.listing.specs.declared.State.{State}
+use Rattle.listing.specs.declared.Went.the-variants.{On, Stopped}
+use Rattle.listing.specs.Did.{Did, full}
+use Rattle.listing.proofs.Parts.{Part, part-start, part-end}
+use Rattle.field_runs.specs.declared.Run.{Run}
+use Rattle.field_runs.specs.Run.{over}
+use Rattle.field_runs.specs.Ahead.{ahead, WholeRun}
+use Rattle.field_read.specs.Reads.{FieldReads, stoppedField, stateAt}
+use Rattle.field_read.proofs.Round.{Loop, Round, round-over}
+
+module _ (b u : List ℕ) (f : Frame) (d : ℕ) (t : List ℕ) (x : Notes) (begun : Run) (st : State) (given : Slots) (ws₀ : List ℕ) where
+  abbrev pub walkRead : Step
+  walkRead = ahead d t (envOf b u f) begun
+
+  abbrev pub walkLoop : Loop
+  walkLoop = record {
+    stream = b;
+    uuid = u;
+    frame = f;
+    depths = d;
+    table = t;
+    notes = x;
+    all = walkRead (full st given (length ws₀));
+    behind = pass;
+    list = ws₀;
+  }
+
+  pub walk-start : WholeRun d t begun → Prepared t x → Framed b f (st .place) → length given ≡ slotCount
+      → Round walkLoop begun ws₀ 0 (stateAt (st .place) (st .order) st) given
+  walk-start stands noted framed many = record {
+    stands = stands;
+    noted = noted;
+    framed = framed;
+    many = many;
+    part = subst (λ (m : Step). Part (walkRead (full st given (length ws₀))) m ws₀ ws₀ 0 (stateAt (st .place) (st .order) st) given)
+        (sym (seq-pass walkRead)) (part-start walkRead ws₀ (stateAt (st .place) (st .order) st) given);
+  }
+
+  pub walk-end : {r : Run} {ws : List ℕ} {used : ℕ} {st′ : State} {l : Slots} → Round walkLoop r ws used st′ l → over r ≡ true
+      → FieldReads walkRead st given (record { went = On; used = used; state = st′; slots = l }) ws₀ ws
+  unfolding pass
+  walk-end h e = record {
+    did = part-end (round-over h e) st (λ s. refl);
+    kept = λ v off. let z : _≡_ {A = ℕ} 0 1 = cc in absurd (omega arith);
+    many = h .many;
+  }
+
+pub walk-stopped : (b u : List ℕ) (f : Frame) (d : ℕ) (t : List ℕ) (begun : Run) (st : State) (given : Slots) (ws₀ : List ℕ)
+    {v : Stop} {n : ℕ} {ws : List ℕ} → length given ≡ slotCount
+    → ((came : State) (l : Slots) → Did (ahead d t (envOf b u f) begun (full st given (length ws₀))) came (Stopped v) n came l ws₀ ws)
+    → FieldReads (ahead d t (envOf b u f) begun) st given (stoppedField v n st given) ws₀ ws
+walk-stopped b u f d t begun st given ws₀ many stops = record { did = stops st given; kept = λ v h. refl; many = many }
