@@ -391,9 +391,9 @@ module _ {w : Loop} {r : Run} {ws : List ℕ} {used : ℕ} {st : State} {l : Slo
       let sized : SizedClasses (w .table) (w .notes .sizes) = λ d p v. h .noted .classes d p v .size in
       let back = behind-reads (w .depths) (w .table) (w .notes .sizes) sized r (q .at) (q .todo) (go .stands) last-at (env w) in
       let same : ((act ⨾ (say ⨾ rest)) ⨾ (tail ⨾ w .behind)) ≡ dueLeft =
-          seq-assoc act (say ⨾ rest) (tail ⨾ w .behind)
-          ∙ ap (λ (m : Step). act ⨾ m) (seq-assoc say rest (tail ⨾ w .behind)
-          ∙ ap (λ (m : Step). say ⨾ m) (sym (seq-assoc rest tail (w .behind)) ∙ ap (λ (m : Step). m ⨾ w .behind) (sym back)))
+      seq-assoc act (say ⨾ rest) (tail ⨾ w .behind)
+      ∙ ap (λ (m : Step). act ⨾ m) (seq-assoc say rest (tail ⨾ w .behind)
+      ∙ ap (λ (m : Step). say ⨾ m) (sym (seq-assoc rest tail (w .behind)) ∙ ap (λ (m : Step). m ⨾ w .behind) (sym back)))
       in
       ap (λ (m : Step). m begun) left-reads ∙ ap (λ o. after o (tail ⨾ w .behind)) (go .reads) ∙ after-onto _ _ _
       ∙ ap (λ (m : Step). onto (leavesOf .entries) (m (full (stateAt (q .place) (q .order) st) l (length (lent used ws) - q .used)))) same
@@ -494,7 +494,7 @@ role-round {w} {m} {r} {ws} {used} {st} {l} {q} {ys} k n v h did =
       stops = λ v off came l′. part-stop (role (roleOf k) n _) m p d v came l′ off;
       goes = λ on.
           let stays : (q .state .place ≡ st .place) × (q .state .order ≡ st .order) =
-              unfold Stays outOf in (rw (d .out, on) at (role-stays (roleOf k) n v (full st l (length (lent used ws))))) in
+          unfold Stays outOf in (rw (d .out, on) at (role-stays (roleOf k) n v (full st l (length (lent used ws))))) in
           let part = part-step (role (roleOf k) n v) m p d on in
           record {
             stands = h .stands;
@@ -623,7 +623,7 @@ module _ {w : Loop} {r : Run} {ws : List ℕ} {used : ℕ} {st : State} {l : Slo
       let some : 0 < countOf r = rw (count-members r (h .some)) (h .some) in
       let class : classAt d t (firstAt r) ≡ classAt d t at = ap (classAt d t) (first-member r (h .some)) in
       let reads : read (env w) (classAt d t (firstAt r)) here ≡ stop [] (stopAt why (st .place)) =
-          ap (λ c. read (env w) c here) class ∙ class-reads ∙ ap (λ i. opened (env w) (u8 t at) d t i here) e in
+      ap (λ c. read (env w) c here) class ∙ class-reads ∙ ap (λ i. opened (env w) (u8 t at) d t i here) e in
       let did = first-stops _ _ (first-part (h .round) some) _ reads came l′ in
       let same : merged used ws (lent used ws) ≡ ws = unlent used ws in
       rw same did
@@ -759,15 +759,15 @@ module _ {w : Loop} {r : Run} {ws : List ℕ} {used : ℕ} {st : State} {l : Slo
       let d = did .did in
       let some : 0 < countOf r = rw (count-members r (h .some)) (h .some) in
       let p : Part (w .all) (read (env w) (classAt (w .depths) (w .table) (r .next))
-          ⨾ left w (behindRun r (w .notes .sizes) (r .next) (r .todo - 1))) (w .list) ws used st l =
-          rw (first-member r (h .some), count-members r (h .some)) at (first-part (h .round) some) in
+      ⨾ left w (behindRun r (w .notes .sizes) (r .next) (r .todo - 1))) (w .list) ws used st l =
+      rw (first-member r (h .some), count-members r (h .some)) at (first-part (h .round) some) in
       let class = classAt (w .depths) (w .table) (r .next) in
       let n = length (lent used ws) - q .used in
       let room : length (lent used ws) ≡ length (w .list) - used = lent-room used ws ∙ ap (λ (n : ℕ). n - used) (part-length p) in
       let lists : q .went ≡ On → 1 ≤ length (d .listed) = λ on.
-          opened-lists (env w) (u8 (w .table) (r .next)) (w .depths) (w .table) (insideHere h) _ (sym (class-reads h)
-          ∙ ap (λ (z : ℕ). read (env w) class (full st l z)) (sym room) ∙ d .out
-          ∙ ap (λ g. outOf (d .listed) g (q .state) (q .slots) n) on) in
+      opened-lists (env w) (u8 (w .table) (r .next)) (w .depths) (w .table) (insideHere h) _ (sym (class-reads h)
+      ∙ ap (λ (z : ℕ). read (env w) class (full st l z)) (sym room) ∙ d .out
+      ∙ ap (λ g. outOf (d .listed) g (q .state) (q .slots) n) on) in
       record {
         room = back-room (read (env w) _) p d;
         same = same-len-mid used (length ws - used) ws ys (listed-length record { list = d .list; counted = d .counted; room = d .room })

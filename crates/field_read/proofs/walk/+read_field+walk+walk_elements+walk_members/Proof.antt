@@ -122,7 +122,6 @@ walk-members-at t = and 6 walk-members-kinds.ps (is 6 walk-members-kinds.ps μ-w
 abbrev walk-members-below : ℕ → In 6 walk-members-kinds.ps
 walk-members-below t = and 6 walk-members-kinds.ps (falls 6 walk-members-kinds.ps _<_ μ-walk-members t) walk-members.Pre
 
-
 abbrev read-field-calls : ℕ → read-field-lts.Claims
 read-field-calls t = (
   slot-read-reads.Asked,
@@ -146,7 +145,7 @@ abbrev In-read-field : (t : ℕ)
 In-read-field t N = N (read-field-calls t) (read-field-at t) read-field.Post
 
 read-field-slot-read-requires : (t : ℕ) → In-read-field t read-field-lts.Need-slot-read-requires
-read-field-slot-read-requires t c κs = 
+read-field-slot-read-requires t c κs =
     let p = c .before .before .before .before .before .before .pre .1 in
     (omega (arith, p .1 .0 .0), kind-high _ _ _ (p .0), slot-within _ _ _ (p .0) (p .1 .0 .0))
 
@@ -177,7 +176,7 @@ field-holder t c =
     }
 
 read-field-open-field-requires : (t : ℕ) → In-read-field t read-field-lts.Need-open-field-requires
-read-field-open-field-requires t c κs = 
+read-field-open-field-requires t c κs =
     let h = field-holder t (c .before) in
     (can-look h, ((h .framed .begun, omega (arith, h .framed .within, h .framed .ends, h .framed .small)), h .room))
 
@@ -188,7 +187,7 @@ read-field-same-length : (t : ℕ) → In-read-field t read-field-lts.Need-same-
 read-field-same-length t c = c .before .before .before .before .before .open-field .kept .1 .1 .1 .1 .1 .1 .1 .0
 
 read-field-returns : (t : ℕ) → In-read-field t read-field-lts.Need-returns
-read-field-returns t c = 
+read-field-returns t c =
     let o = c .before .before .before .before .before .open-field .ensures in
     rw (c .refused .ensures) (open-refused (field-holder t (c .before .before .before .before .before .before .before)) (o .0) (o .1) (not-true _ (c .before .if2 .taken)))
 
@@ -208,7 +207,7 @@ read-field-part-walk-elements-end : (t : ℕ) → In-read-field t read-field-lts
 read-field-part-walk-elements-end t c = omega arith
 
 read-field-walk-elements-requires : (t : ℕ) → In-read-field t read-field-lts.Need-walk-elements-requires
-read-field-walk-elements-requires t c κs = 
+read-field-walk-elements-requires t c κs =
     let h = field-holder t (c .before .before .before .before .before .before .before .before .before) in
     let o = c .before .before .before .before .before .before .before .open-field .ensures in
     let inside = open-elements h (o .0) (o .1) (not-false _ (c .before .before .before .if2 .left)) (c .before .if3 .taken) in
@@ -227,7 +226,7 @@ read-field-part-walk-members-end : (t : ℕ) → In-read-field t read-field-lts.
 read-field-part-walk-members-end t c = omega arith
 
 read-field-walk-members-requires : (t : ℕ) → In-read-field t read-field-lts.Need-walk-members-requires
-read-field-walk-members-requires t c κs = 
+read-field-walk-members-requires t c κs =
     let h = field-holder t (c .before .before .before .before .before .before .before .before .before) in
     let o = c .before .before .before .before .before .before .before .open-field .ensures in
     let inside = open-members h (o .0) (o .1) (not-false _ (c .before .before .before .if2 .left)) (c .before .if3 .left) in
@@ -352,7 +351,7 @@ bytes : (t : ℕ) (c : AtRound t) → Bytes (c .before .before .before .before .
 bytes t c i = omega (arith, c .before .before .before .before .before .before .shared-slice-known5 .given i)
 
 walk-loop-holds : (t : ℕ) → In-walk t walk-lts.Need-loop-holds
-walk-loop-holds t c = 
+walk-loop-holds t c =
     let a = c .before .before .before .before .before .before .before in
     let many = a .good .1 .1 .1 .1 .1 .1 .1 .1 .1 .0 .1 .0 .1 in
     (many, walk-start _ _ _ _ _ _ _ _ _ _ (a .pre .1 .0) (a .pre .1 .1 .0) (a .pre .1 .1 .1) many)
@@ -370,7 +369,7 @@ walk-same-length : (t : ℕ) → In-walk t walk-lts.Need-same-length
 walk-same-length t c = part-length (c .before .before .before .before .loop .inv .1 .part)
 
 walk-returns : (t : ℕ) → In-walk t walk-lts.Need-returns
-walk-returns t c = 
+walk-returns t c =
     let i = c .before .before .before .before .loop .inv .1 in
     rw (c .at .ensures) (walk-end _ _ _ _ _ _ _ _ _ _ (same-round (forward-same _ _ _ (i .stands)) i)
     (rw (c .before .before .before .forward .ensures) at (sym (c .before .before .is-over .ensures) ∙ c .before .if1 .taken)))
@@ -385,7 +384,7 @@ walk-same-length-2 : (t : ℕ) → In-walk t walk-lts.Need-same-length-2
 walk-same-length-2 t c = part-length (c .before .before .before .before .before .loop .inv .1 .part)
 
 walk-returns-2 : (t : ℕ) → In-walk t walk-lts.Need-returns-2
-walk-returns-2 t c = 
+walk-returns-2 t c =
     let k = c .before .before in
     rw (c .refused .ensures) (walk-stopped _ _ _ _ _ _ _ _ _ (c .before .before .before .before .before .loop .inv .0) (round-full (round t k) (some-left t k) (c .before .if2 .taken)))
 
@@ -393,13 +392,13 @@ walk-first-requires : (t : ℕ) → In-walk t walk-lts.Need-first-requires
 walk-first-requires t c κs = search needs
 
 walk-shared-slice-read-kind : (t : ℕ) → In-walk t walk-lts.Need-shared-slice-read-kind
-walk-shared-slice-read-kind t c = 
+walk-shared-slice-read-kind t c =
     let k = c .before .before .before in
     rw (c .before .first .ensures) (whole-inside _ _ _ (first-there (round t k) (some-left t k)))
 
 walk-leaf-slot-requires : (t : ℕ) → In-walk t walk-lts.Need-leaf-slot-requires
 unfolding u8
-walk-leaf-slot-requires t c κs = 
+walk-leaf-slot-requires t c κs =
     let k = c .before .before .before .before in
     rw (c .before .before .first .ensures) (leaf-whole _ _ _ (first-there (round t k) (some-left t k)) (rw (c .before .before .first .ensures) at (c .if3 .taken)), rw (c .before .before .first .ensures) at (c .if3 .taken))
 
@@ -436,7 +435,7 @@ walk-part-read-leaves-end t c = omega arith
 
 walk-read-leaves-requires : (t : ℕ) → In-walk t walk-lts.Need-read-leaves-requires
 unfolding u8
-walk-read-leaves-requires t c κs = 
+walk-read-leaves-requires t c κs =
     let k = c .before .before .before .before .before .before .before .before .before in
     let l = k .before .before .before .loop in
     let h = round t k in
@@ -444,10 +443,13 @@ walk-read-leaves-requires t c κs =
     let kind = rw (first) at (c .before .before .before .before .before .if3 .taken) in
     let told = leaf-told t (c .before .before .before) in
     let noted = h .noted in
-    rw (c .before .is-element .ensures, first, c .before .before .count .ensures)
-    (record { depth = _; stands = sort-stands _ _ _ (h .stands) (some-left t k) },
-    ((kind, omega (arith, some-left t k), omega (arith, lent-room (l .used) (l .list), c .before .before .before .before .before .before .before .before .if2 .left)),
-    ((noted .sized .room, λ d p v. noted .classes d p v .size), (h .framed, past-unset (l .slots) _ (h .many) (rw (first) at told)))))
+    rw (c .before .is-element .ensures, first, c .before .before .count .ensures) (
+      record { depth = _; stands = sort-stands _ _ _ (h .stands) (some-left t k) },
+      (
+        (kind, omega (arith, some-left t k), omega (arith, lent-room (l .used) (l .list), c .before .before .before .before .before .before .before .before .if2 .left)),
+        ((noted .sized .room, λ d p v. noted .classes d p v .size), (h .framed, past-unset (l .slots) _ (h .many) (rw (first) at told))),
+      ),
+    )
 
 -- what the leaves did
 abbrev AtLeaves : ℕ → Type 0
@@ -477,12 +479,12 @@ walk-same-length-3 : (t : ℕ) → In-walk t walk-lts.Need-same-length-3
 walk-same-length-3 t c = leaves t (c .before .before .before .before .before .before .before) .same
 
 walk-returns-3 : (t : ℕ) → In-walk t walk-lts.Need-returns-3
-walk-returns-3 t c = 
+walk-returns-3 t c =
     let y = leaves t (c .before .before .before .before .before .before .before) in
     rw (c .refused2 .ensures) (walk-stopped _ _ _ _ _ _ _ _ _ (c .before .before .before .before .before .before .before .before .before .before .before .before .before .before .before .before .before .before .before .before .loop .inv .0) (y .stops (not-true _ (c .before .if5 .taken))))
 
 walk-behind-requires : (t : ℕ) → In-walk t walk-lts.Need-behind-requires
-walk-behind-requires t c κs = 
+walk-behind-requires t c κs =
     let k = c .before .before .before .before .before .before .before .before .before .before .before .before .before .before .before .before in
     let there = whole-inside _ _ _ (leaves t (c .before .before .before .before .before .before) .stand (not-false _ (c .if5 .left))) in
     (omega (arith, there, round t k .noted .sized .room), omega (arith, there, k .before .before .before .before .before .before .before .before .before .before .before .good .0))
@@ -565,14 +567,14 @@ walk-same-length-4 : (t : ℕ) → In-walk t walk-lts.Need-same-length-4
 walk-same-length-4 t c = applied t (c .before .before .before .before .before .before .before) .same
 
 walk-returns-4 : (t : ℕ) → In-walk t walk-lts.Need-returns-4
-walk-returns-4 t c = 
+walk-returns-4 t c =
     rw (c .stopped .ensures) (walk-stopped _ _ _ _ _ _ _ _ _ (c .before .before .before .before .before .before .before .before .before .before .before .before .before .before .before .before .before .before .before .before .before .before .before .before .before .before .before .before .before .before .before .before .before .loop .inv .0) (applied t (c .before .before .before .before .before .before .before) .stops _ (c .before .before .went .given .1)))
 
 walk-enum-told : (t : ℕ) → In-walk t walk-lts.Need-enum-told
 walk-enum-told t c = search needs
 
 walk-loop-less : (t : ℕ) → In-walk t walk-lts.Need-loop-less
-walk-loop-less t c = 
+walk-loop-less t c =
     let l = c .before .before .before .before .before .before .before .before .before .before .before .before .before .before .before .before .before .before .before .before .before .before .before .before .before .before .before .before .before .before .before .before .loop in
     let y = leaves t (c .before .before .before .before .before .before .before .before .before .before .before .before .before .before .before .before .before .before .before) in
     let used = l .used + c .before .before .before .before .before .before .before .before .before .before .before .before .before .before .before .before .before .before .before .read-leaves .result .used + c .before .before .before .before .before .before .apply .result .used in
@@ -580,18 +582,18 @@ walk-loop-less t c =
     (omega (arith, y .some (not-false _ (c .before .before .before .before .before .before .before .before .before .before .before .before .before .if5 .left)))) (omega (arith, applied t (c .before .before .before .before .before .before) .room, within t (c .before .before .before .before .before .before .before .before .before .before .before .before .before .before .before .before .before .before .before .before .before .before .before .before .before .before .before .before .before) .1))
 
 walk-loop-again : (t : ℕ) → In-walk t walk-lts.Need-loop-again
-walk-loop-again t c = 
+walk-loop-again t c =
     (c .before .before .before .before .before .before .before .before .before .before .before .before .before .before .before .before .before .before .before .before .before .before .before .before .before .before .before .before .before .before .before .before .loop .inv .0, applied t (c .before .before .before .before .before .before) .goes (c .before .enum-told .given .1))
 
 walk-loop-less-2 : (t : ℕ) → In-walk t walk-lts.Need-loop-less-2
-walk-loop-less-2 t c = 
+walk-loop-less-2 t c =
     let l = c .before .before .before .before .before .before .before .before .before .before .before .before .before .before .before .before .before .before .before .before .before .before .before .loop in
     let y = leaves t (c .before .before .before .before .before .before .before .before .before .before) in
     round-falls (length (l .list)) _ (l .used) (l .used + c .before .before .before .before .before .before .before .before .before .before .read-leaves .result .used) (y .same ∙ sym (within t (c .before .before .before .before .before .before .before .before .before .before .before .before .before .before .before .before .before .before .before .before) .1))
     (omega (arith, y .some (not-false _ (c .before .before .before .before .if5 .left)))) (omega (arith, y .room, within t (c .before .before .before .before .before .before .before .before .before .before .before .before .before .before .before .before .before .before .before .before) .1))
 
 walk-loop-again-2 : (t : ℕ) → In-walk t walk-lts.Need-loop-again-2
-walk-loop-again-2 t c = 
+walk-loop-again-2 t c =
     (c .before .before .before .before .before .before .before .before .before .before .before .before .before .before .before .before .before .before .before .before .before .before .before .loop .inv .0, no-role _ _ _ (c .if7 .left) (leaves-due t (c .before)))
 
 -- a field that holds others, taken as a member
@@ -645,14 +647,17 @@ walk-part-enter-structure-end t c = omega arith
 
 walk-enter-structure-requires : (t : ℕ) → In-walk t walk-lts.Need-enter-structure-requires
 unfolding u8
-walk-enter-structure-requires t c κs = 
+walk-enter-structure-requires t c κs =
     let k = c .before .before in
     let h = holder-round t k in
     let there = holder-there t k in
-    let o = opens _ _ (h .noted) _ _ there (k .before .if3 .left) in
-    ((slot-within _ _ _ there (k .before .if3 .left), omega (arith, whole-inside _ _ _ there, o .aligns), o .align),
-    ((h .framed .begun, omega (arith, h .framed .within, h .framed .ends, h .framed .small)),
-    omega (arith, lent-room (k .before .before .before .before .before .before .before .before .loop .used) (k .before .before .before .before .before .before .before .before .loop .list), k .before .before .before .before .if2 .left)))
+    let o = opens _ _ (h .noted) _ _ there (k .before .if3 .left) in (
+      (slot-within _ _ _ there (k .before .if3 .left), omega (arith, whole-inside _ _ _ there, o .aligns), o .align),
+      (
+        (h .framed .begun, omega (arith, h .framed .within, h .framed .ends, h .framed .small)),
+        omega (arith, lent-room (k .before .before .before .before .before .before .before .before .loop .used) (k .before .before .before .before .before .before .before .before .loop .list), k .before .before .before .before .if2 .left),
+      ),
+    )
 
 -- a structure that was entered
 structure : (t : ℕ) (c : In-walk t walk-lts.After-enter-structure) →
@@ -674,26 +679,26 @@ walk-same-length-5 : (t : ℕ) → In-walk t walk-lts.Need-same-length-5
 walk-same-length-5 t c = structure t (c .before .before .before .before .before) .same
 
 walk-returns-5 : (t : ℕ) → In-walk t walk-lts.Need-returns-5
-walk-returns-5 t c = 
+walk-returns-5 t c =
     let y = structure t (c .before .before .before .before .before) in
     rw (c .refused3 .ensures) (walk-stopped _ _ _ _ _ _ _ _ _ (c .before .before .before .before .before .before .before .before .before .before .before .before .before .before .before .before .loop .inv .0)
     (y .stops (not-true _ (c .before .if9 .taken))))
 
 walk-add-opened : (t : ℕ) → In-walk t walk-lts.Need-add-opened
 unfolding u8
-walk-add-opened t c = 
+walk-add-opened t c =
     let there = holder-there t (c .before .before .before .before .before .before .before .before) in
     omega (arith, slot-within _ _ _ there (c .before .before .before .before .before .before .before .before .before .if3 .left), c .before .before .before .before .before .before .before .before .before .before .before .before .before .before .before .before .before .before .before .before .before .before .before .before .good .0)
 
 walk-add-wide : (t : ℕ) → In-walk t walk-lts.Need-add-wide
 unfolding u8
-walk-add-wide t c = 
+walk-add-wide t c =
     let there = holder-there t (c .before .before .before .before .before .before .before .before) in
     omega (arith, slot-within _ _ _ there (c .before .before .before .before .before .before .before .before .before .if3 .left), c .before .before .before .before .before .before .before .before .before .before .before .before .before .before .before .before .before .before .before .before .before .before .before .before .good .0)
 
 walk-shared-slice-read-wide : (t : ℕ) → In-walk t walk-lts.Need-shared-slice-read-wide
 unfolding u8
-walk-shared-slice-read-wide t c = 
+walk-shared-slice-read-wide t c =
     let there = holder-there t (c .before .before .before .before .before .before .before .before .before) in
     omega (arith, slot-within _ _ _ there (c .before .before .before .before .before .before .before .before .before .before .if3 .left))
 
@@ -701,7 +706,7 @@ walk-wide-requires : (t : ℕ) → In-walk t walk-lts.Need-wide-requires
 walk-wide-requires t c κs = search needs
 
 walk-opened-requires : (t : ℕ) → In-walk t walk-lts.Need-opened-requires
-walk-opened-requires t c κs = 
+walk-opened-requires t c κs =
     let h = holder-round t (c .before .before .before .before .before .before .before .before .before .before) in
     let some = holder-next t (c .before .before .before .before .before .before .before .before .before .before) .0 in
     (some, omega (arith, members-few _ _ _ _ (h .stands .members), c .wide .ensures .1, c .before .before .before .before .before .before .before .before .before .before .before .before .before .before .before .before .before .before .before .before .before .before .before .before .before .before .good .0))
@@ -710,14 +715,14 @@ walk-add-used-3 : (t : ℕ) → In-walk t walk-lts.Need-add-used-3
 walk-add-used-3 t c = omega (arith, within t (c .before .before .before .before .before .before .before .before .before .before .before .before .before .before .before .before), c .before .before .before .before .before .before .before .before .before .before .before .before .before .before .before .if2 .left)
 
 walk-loop-less-3 : (t : ℕ) → In-walk t walk-lts.Need-loop-less-3
-walk-loop-less-3 t c = 
+walk-loop-less-3 t c =
     let l = c .before .before .before .before .before .before .before .before .before .before .before .before .before .before .before .before .before .before .before .loop in
     round-falls (length (l .list)) _ (l .used) (l .used + 4) (structure t (c .before .before .before .before .before .before .before .before) .same ∙ sym (within t (c .before .before .before .before .before .before .before .before .before .before .before .before .before .before .before .before) .1)) (omega arith)
     (omega (arith, c .before .before .before .before .before .before .before .before .before .before .before .before .before .before .before .if2 .left))
 
 walk-loop-again-3 : (t : ℕ) → In-walk t walk-lts.Need-loop-again-3
 unfolding u8
-walk-loop-again-3 t c = 
+walk-loop-again-3 t c =
     let h = c .before .before .before .before .before .before .before .before .before .before .before in
     let next = holder-next t h .1 in
     let went = structure t (c .before .before .before .before .before .before .before .before) .goes (not-false _ (c .before .before .before .before .if9 .left)) in
@@ -725,7 +730,7 @@ walk-loop-again-3 t c =
 
 walk-slot-read-requires : (t : ℕ) → In-walk t walk-lts.Need-slot-read-requires
 unfolding u8
-walk-slot-read-requires t c κs = 
+walk-slot-read-requires t c κs =
     let k = c .before in
     let there = holder-there t k in
     (omega (arith, k .before .if3 .left), kind-high _ _ _ there, slot-within _ _ _ there (k .before .if3 .left))
@@ -761,12 +766,15 @@ walk-part-open-field-end t c = omega arith
 
 walk-open-field-requires : (t : ℕ) → In-walk t walk-lts.Need-open-field-requires
 unfolding u8
-walk-open-field-requires t c κs = 
+walk-open-field-requires t c κs =
     let k = c .before .before .before .before .before .before in
-    let h = holder-round t k in
-    (opens _ _ (h .noted) _ _ (holder-there t k) (k .before .if3 .left),
-    ((h .framed .begun, omega (arith, h .framed .within, h .framed .ends, h .framed .small)),
-    omega (arith, lent-room (k .before .before .before .before .before .before .before .before .loop .used) (k .before .before .before .before .before .before .before .before .loop .list), k .before .before .before .before .if2 .left)))
+    let h = holder-round t k in (
+      opens _ _ (h .noted) _ _ (holder-there t k) (k .before .if3 .left),
+      (
+        (h .framed .begun, omega (arith, h .framed .within, h .framed .ends, h .framed .small)),
+        omega (arith, lent-room (k .before .before .before .before .before .before .before .before .loop .used) (k .before .before .before .before .before .before .before .before .loop .list), k .before .before .before .before .if2 .left),
+      ),
+    )
 
 -- a field that was opened
 opening : (t : ℕ) (c : In-walk t walk-lts.After-open-field) →
@@ -789,32 +797,35 @@ walk-same-length-6 : (t : ℕ) → In-walk t walk-lts.Need-same-length-6
 walk-same-length-6 t c = opening t (c .before .before .before .before .before) .same
 
 walk-returns-6 : (t : ℕ) → In-walk t walk-lts.Need-returns-6
-walk-returns-6 t c = 
+walk-returns-6 t c =
     let y = opening t (c .before .before .before .before .before) in
     rw (c .refused4 .ensures) (walk-stopped _ _ _ _ _ _ _ _ _ (c .before .before .before .before .before .before .before .before .before .before .before .before .before .before .before .before .before .before .before .before .loop .inv .0)
     (y .stops (not-true _ (c .before .if12 .taken))))
 
 walk-into-requires : (t : ℕ) → In-walk t walk-lts.Need-into-requires
-walk-into-requires t c κs = 
+walk-into-requires t c κs =
     let k = c .before .before .before .before .before .before .before .before .before .before .before .before in
     let h = holder-round t k in
     let next = holder-next t k in
-    let there = whole-inside _ _ _ (holder-there t k) in
-    (next .0, (λ off. omega (arith, members-few _ _ _ _ (h .stands .members), opening t (c .before .before .before .before .before) .few off, c .before .before .before .before .before .before .before .before .before .before .before .before .before .before .before .before .before .before .before .before .before .before .before .before .before .before .before .before .good .0)),
-    omega (arith, next .1, there, h .noted .sized .room), omega (arith, next .1, there, c .before .before .before .before .before .before .before .before .before .before .before .before .before .before .before .before .before .before .before .before .before .before .before .before .before .before .before .before .good .0))
+    let there = whole-inside _ _ _ (holder-there t k) in (
+      next .0,
+      (λ off. omega (arith, members-few _ _ _ _ (h .stands .members), opening t (c .before .before .before .before .before) .few off, c .before .before .before .before .before .before .before .before .before .before .before .before .before .before .before .before .before .before .before .before .before .before .before .before .before .before .before .before .good .0)),
+      omega (arith, next .1, there, h .noted .sized .room),
+      omega (arith, next .1, there, c .before .before .before .before .before .before .before .before .before .before .before .before .before .before .before .before .before .before .before .before .before .before .before .before .before .before .before .before .good .0),
+    )
 
 walk-add-used-4 : (t : ℕ) → In-walk t walk-lts.Need-add-used-4
 walk-add-used-4 t c = omega (arith, within t (c .before .before .before .before .before .before .before .before .before .before .before .before .before .before .before .before .before .before), c .before .before .before .before .before .before .before .before .before .before .before .before .before .before .before .before .before .if2 .left)
 
 walk-loop-less-4 : (t : ℕ) → In-walk t walk-lts.Need-loop-less-4
-walk-loop-less-4 t c = 
+walk-loop-less-4 t c =
     let l = c .before .before .before .before .before .before .before .before .before .before .before .before .before .before .before .before .before .before .before .before .before .loop in
     round-falls (length (l .list)) _ (l .used) (l .used + 4) (opening t (c .before .before .before .before .before .before) .same ∙ sym (within t (c .before .before .before .before .before .before .before .before .before .before .before .before .before .before .before .before .before .before) .1)) (omega arith)
     (omega (arith, c .before .before .before .before .before .before .before .before .before .before .before .before .before .before .before .before .before .if2 .left))
 
 walk-loop-again-4 : (t : ℕ) → In-walk t walk-lts.Need-loop-again-4
 unfolding u8
-walk-loop-again-4 t c = 
+walk-loop-again-4 t c =
     let next = holder-next t (c .before .before .before .before .before .before .before .before .before .before .before .before .before) .1 in
     let went = opening t (c .before .before .before .before .before .before) .goes (not-false _ (c .before .before .if12 .left)) in
     (c .before .before .before .before .before .before .before .before .before .before .before .before .before .before .before .before .before .before .before .before .before .loop .inv .0, rw (c .into .ensures, sym next) went)
@@ -836,13 +847,19 @@ walk-part-read-field-end t c = omega arith
 
 walk-read-field-requires : (t : ℕ) → In-walk t walk-lts.Need-read-field-requires
 unfolding u8
-walk-read-field-requires t c κs = 
+walk-read-field-requires t c κs =
     let k = c .before .before .before .before .before .before .before in
     let h = holder-round t k in
-    let kind = k .before .if3 .left in
-    (omega (arith, c .before .before .before .before .before .before .before .before .before .before .before .before .before .before .before .before .before .before .before .before .before .before .before .pre .0), (holder-there t k,
-    ((kind, omega (arith, lent-room (k .before .before .before .before .before .before .before .before .loop .used) (k .before .before .before .before .before .before .before .before .loop .list), k .before .before .before .before .if2 .left)),
-    (h .noted, rw (c .before .at3 .ensures) (h .framed)))))
+    let kind = k .before .if3 .left in (
+      omega (arith, c .before .before .before .before .before .before .before .before .before .before .before .before .before .before .before .before .before .before .before .before .before .before .before .pre .0),
+      (
+        holder-there t k,
+        (
+          (kind, omega (arith, lent-room (k .before .before .before .before .before .before .before .before .loop .used) (k .before .before .before .before .before .before .before .before .loop .list), k .before .before .before .before .if2 .left)),
+          (h .noted, rw (c .before .at3 .ensures) (h .framed)),
+        ),
+      ),
+    )
 
 -- a field that was read by itself
 field : (t : ℕ) (c : In-walk t walk-lts.After-read-field) →
@@ -866,7 +883,7 @@ walk-same-length-7 : (t : ℕ) → In-walk t walk-lts.Need-same-length-7
 walk-same-length-7 t c = field t (c .before .before .before .before .before .before .before) .same
 
 walk-returns-7 : (t : ℕ) → In-walk t walk-lts.Need-returns-7
-walk-returns-7 t c = 
+walk-returns-7 t c =
     let y = field t (c .before .before .before .before .before .before .before) in
     rw (c .stopped2 .ensures) (walk-stopped _ _ _ _ _ _ _ _ _ (c .before .before .before .before .before .before .before .before .before .before .before .before .before .before .before .before .before .before .before .before .before .before .before .loop .inv .0)
     (y .stops _ (c .before .before .went2 .given .1)))
@@ -878,20 +895,20 @@ walk-sub-behind : (t : ℕ) → In-walk t walk-lts.Need-sub-behind
 walk-sub-behind t c = omega (arith, holder-next t (c .before .before .before .before .before .before .before .before .before .before .before .before .before .before .before .before .before) .0)
 
 walk-behind-requires-2 : (t : ℕ) → In-walk t walk-lts.Need-behind-requires-2
-walk-behind-requires-2 t c κs = 
+walk-behind-requires-2 t c κs =
     let k = c .before .before .before .before .before .before .before .before .before .before .before .before .before .before .before .before .before in
     let there = whole-inside _ _ _ (holder-there t k) in
     (omega (arith, there, holder-round t k .noted .sized .room), omega (arith, there, c .before .before .before .before .before .before .before .before .before .before .before .before .before .before .before .before .before .before .before .before .before .before .before .before .before .before .before .before .before .before .before .before .before .good .0))
 
 walk-loop-less-5 : (t : ℕ) → In-walk t walk-lts.Need-loop-less-5
-walk-loop-less-5 t c = 
+walk-loop-less-5 t c =
     let l = c .before .before .before .before .before .before .before .before .before .before .before .before .before .before .before .before .before .before .before .before .before .before .before .before .before .before .loop in
     let y = field t (c .before .before .before .before .before .before .before .before .before .before) in
     round-falls (length (l .list)) _ (l .used) (l .used + c .before .before .before .before .before .before .before .before .before .before .read-field .result .used) (y .same ∙ sym (within t (c .before .before .before .before .before .before .before .before .before .before .before .before .before .before .before .before .before .before .before .before .before .before .before) .1))
     (omega (arith, y .some (c .before .before .before .before .before .enum-told2 .given .1))) (omega (arith, y .room, within t (c .before .before .before .before .before .before .before .before .before .before .before .before .before .before .before .before .before .before .before .before .before .before .before) .1))
 
 walk-loop-again-5 : (t : ℕ) → In-walk t walk-lts.Need-loop-again-5
-walk-loop-again-5 t c = 
+walk-loop-again-5 t c =
     let next = holder-next t (c .before .before .before .before .before .before .before .before .before .before .before .before .before .before .before .before .before .before) .1 in
     let went = field t (c .before .before .before .before .before .before .before .before .before .before) .goes (c .before .before .before .before .before .enum-told2 .given .1) in
     (c .before .before .before .before .before .before .before .before .before .before .before .before .before .before .before .before .before .before .before .before .before .before .before .before .before .before .loop .inv .0, rw (c .behind2 .ensures, sym next) went)
@@ -912,7 +929,7 @@ walk-elements-elements-requires : (t : ℕ) → In-walk-elements t walk-elements
 walk-elements-elements-requires t c κs = search needs
 
 walk-elements-walk-requires : (t : ℕ) → In-walk-elements t walk-elements-lts.Need-walk-requires
-walk-elements-walk-requires t c κs = 
+walk-elements-walk-requires t c κs =
     let p = c .before .before .before .before .before .before .before .before .pre in
     (omega (arith, p .0), (rw (c .before .elements .ensures) (elements-stand _ _ _ _ (p .1 .0)), p .1 .1))
 
@@ -938,7 +955,7 @@ walk-members-members-requires : (t : ℕ) → In-walk-members t walk-members-lts
 walk-members-members-requires t c κs = search needs
 
 walk-members-walk-requires : (t : ℕ) → In-walk-members t walk-members-lts.Need-walk-requires
-walk-members-walk-requires t c κs = 
+walk-members-walk-requires t c κs =
     let p = c .before .before .before .before .before .before .before .before .pre in
     (omega (arith, p .0), (rw (c .before .members .ensures) (members-stand _ _ _ _ (p .1 .0)), p .1 .1))
 
