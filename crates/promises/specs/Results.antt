@@ -25,6 +25,8 @@ use Rattle.leaf_after.specs.declared.Seen.{Seen}
 use Rattle.leaf_after.specs.declared.Leaves.{Leaves}
 use Rattle.field_choice.specs.declared.Choice.{Choice}
 use Rattle.field_inside.specs.declared.look.Inside.{Inside}
+use Rattle.field_inside.specs.declared.opening.Opened.{Opened}
+use Rattle.field_inside.specs.declared.opening.Entered.{Entered}
 use Rattle.field_runs.specs.declared.Run.{Run}
 use Rattle.outcome.specs.declared.Ran.{Ran}
 
@@ -33,7 +35,7 @@ pub data Answer : Type 0 where
   bitPlace byteLength leb ended content said checked result : Answer
   ticked length slotNumber state : Answer
   body walk says tablePlace : Answer
-  frame found seen leaves choice inside run ran : Answer
+  frame found seen leaves choice inside opened entered run ran : Answer
 
 unfoldable pub Of : Answer → Type 0
 Of number = ℕ
@@ -61,5 +63,7 @@ Of seen = Seen
 Of leaves = Leaves
 Of choice = Choice
 Of inside = Inside
+Of opened = Opened
+Of entered = Entered
 Of run = Run
 Of ran = Ran
