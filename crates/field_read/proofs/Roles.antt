@@ -9,7 +9,7 @@ use Rattle.rules.specs.declared.Refusal.the-variants.{ListFull, WrongMagic}
 use Rattle.rules.specs.Limits.{wordsPerEntry, magicNumber}
 use Rattle.rules.specs.Class.{Role, noRole, magic, streamClassId, streamId, uuid, totalLength, contentLength, clock, endClock, discarded}
 use Rattle.rules.specs.Class.{sequence, eventClassId}
-use Rattle.rules.specs.Step.{State, Out, stop, go, Step, onto, after, _⨾_, pass, refuse, check, due, listed, change, withClock, withSaid}
+use Rattle.rules.specs.Step.{State, Out, stop, go, onto, after, _⨾_, pass, refuse, check, due, listed, change, withClock, withSaid}
 use Rattle.rules.specs.Clock.{clockAfter}
 use Rattle.rules.specs.Field.{newClock, say, role}
 

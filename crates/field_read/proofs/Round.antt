@@ -3,14 +3,11 @@
 -- due of the last; fields that are opened; a field that is read by itself.
 use mathlib.Core.Path.{_≡_, refl, ap, sym, subst, _∙_}
 use mathlib.Core.List.{List, [], _∷_, _++_, append-nil}
-use mathlib.Core.Bool.{Bool, true, false, not}
-use mathlib.Core.Logic.{_⊎_, inl, inr}
+use mathlib.Core.Bool.{Bool, true, false}
 use Prim.Native.Nat.{ℕ, zero, suc, _+_, _-_, _*_, _≤_, _<_}
 use native.Mathlib.Omega.{arith}
 use borrow.Rule.Slice.PartMut.{same-len-mid}
 use lib.ListN.{length, take, drop, length-set, take-append-drop}
-use lib.Dec.{eqb, ltb}
-use borrow.Author.Tests.{eqb-true}
 use Rattle.rules.specs.declared.BitPlace.{BitPlace}
 use Rattle.rules.specs.declared.LastOrder.{LastOrder}
 use Rattle.rules.specs.declared.Entry.{Entry}
@@ -18,7 +15,7 @@ use Rattle.rules.specs.declared.Stop.{Stop}
 use Rattle.rules.specs.declared.Content.{Content}
 use Rattle.rules.specs.declared.Refusal.{Refusal}
 use Rattle.rules.specs.declared.Refusal.the-variants.{ListFull, PastBound}
-use Rattle.rules.specs.Limits.{slotCount, wordsPerEntry}
+use Rattle.rules.specs.Limits.{slotCount}
 use Rattle.rules.specs.Verdict.{stopAt}
 use Rattle.rules.specs.Slots.{Slots, slotAt, setSlot}
 use Rattle.rules.specs.Entry.{entry, words}
@@ -27,13 +24,12 @@ use Rattle.rules.specs.Faults.{roles, roleOf}
 use Rattle.rules.specs.Class.{Class, fixed, leb128, signedLeb128, string, staticString, staticBlob, dynamicString, dynamicBlob}
 use Rattle.rules.specs.Class.{structure, staticArray, dynamicArray, flagged, optional, variant}
 use Rattle.rules.specs.Step.{State as Full, Out, stop, go, Step, onto, after, _⨾_, pass, refuse, listed, change, withSlots}
-use Rattle.rules.specs.Field.{Env, read, readFixed, readMembers, times, store, role}
+use Rattle.rules.specs.Field.{Env, read, readFixed, store, role}
 use Rattle.facts.specs.Bytes.{Bytes}
 use Rattle.facts.proofs.Truth.{clash}
-use Rattle.facts.proofs.Steps.{listOf, list-onto, onto-nil, onto-onto, after-onto, after-after, seq-assoc, pass-seq}
-use Rattle.facts.proofs.Numbers.{lt-or-ge}
+use Rattle.facts.proofs.Steps.{listOf, onto-nil, after-onto, seq-assoc, pass-seq}
 use Rattle.class_layout.specs.Trees.{stoodAt, classAt, nextAt, behindMembers, whole}
-use Rattle.class_layout.specs.Fields.{readFields, wholeFields, onward}
+use Rattle.class_layout.specs.Fields.{readFields, onward}
 use Rattle.class_layout.specs.Notes.{Notes, Prepared, SizedClasses}
 use Rattle.class_layout.proofs.Fields.{foremost}
 use Rattle.class_layout.proofs.InPlace.{members-few}
@@ -50,12 +46,12 @@ use Rattle.listing.specs.declared.Went.{Went}
 use Rattle.listing.specs.declared.Went.the-variants.{On, Stopped}
 use Rattle.listing.specs.declared.role.Roled.{Roled}
 use Rattle.listing.specs.Roled.{Stamp}
-use Rattle.listing.specs.Did.{Did, RoleDid, full, outOf, atPlace}
+use Rattle.listing.specs.Did.{Did, RoleDid, full, outOf}
 use Rattle.listing.proofs.Checks.{no-room-first}
-use Rattle.listing.proofs.Parts.{Part, part-step, part-stop, part-end, part-length, back-room, listed-length, lent, lent-room, merged}
+use Rattle.listing.proofs.Parts.{Part, part-step, part-stop, part-length, back-room, listed-length, lent, lent-room, merged}
 use Rattle.leaf_read.specs.Reads.{leafSlot}
-use Rattle.leaf_read.specs.Leaves.{contentOf, LeavesListed, listBehind, leafThen, stopsAt, stoppedLeaves, lastLeaf, behindEntries, leavesEnd, leavesRead}
-use Rattle.leaf_read.proofs.Leaves.{LeavesSay, LeavesWent, leaves-read}
+use Rattle.leaf_read.specs.Leaves.{contentOf, LeavesListed, listBehind, leafThen, stopsAt, stoppedLeaves, lastLeaf, behindEntries, leavesRead}
+use Rattle.leaf_read.proofs.Leaves.{LeavesSay, leaves-read}
 use Rattle.field_inside.specs.declared.look.Inside.{Inside}
 use Rattle.field_inside.specs.declared.look.Inside.the-variants.{Members, Elements, Refused}
 use Rattle.field_inside.specs.declared.opening.Entered.{Entered}
@@ -69,10 +65,10 @@ use Rattle.field_inside.proofs.Opened.{inside-read}
 use Rattle.field_inside.proofs.Held.{inside-whole, Ends, inside-ends}
 use Rattle.field_inside.proofs.Deeper.{held-deeper, opened-deeper}
 use Rattle.field_runs.specs.declared.Run.{Run}
-use Rattle.field_runs.specs.Run.{variantKind, over, free, canOpen, element, firstAt, countOf, forwardRun, behindRun, openedRun, intoRun}
+use Rattle.field_runs.specs.Run.{over, free, element, firstAt, countOf, behindRun, openedRun, intoRun}
 use Rattle.field_runs.specs.Ahead.{ahead, WholeRun}
-use Rattle.field_runs.proofs.Cases.{element-no, first-member, count-members, element-yes, first-element, into-parts}
-use Rattle.field_runs.proofs.Ahead.{Same, instead, over-reads, sort-reads, sort-stands, behind-reads, behind-stands, tailRead, nextField}
+use Rattle.field_runs.proofs.Cases.{first-member, count-members, element-yes, first-element, into-parts}
+use Rattle.field_runs.proofs.Ahead.{Same, instead, over-reads, sort-reads, sort-stands, behind-reads, behind-stands, tailRead}
 use Rattle.field_runs.proofs.Openings.{Opens, Holds, heldRead, into-opens}
 use Rattle.laws.proofs.Between.{read-between}
 use Rattle.field_read.specs.declared.Field.{Field}

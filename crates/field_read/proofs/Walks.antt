@@ -1,5 +1,5 @@
 -- A walk is a loop over a run with nothing behind it: how it starts, and how it ends.
-use mathlib.Core.Path.{_≡_, refl, ap, sym, subst, _∙_}
+use mathlib.Core.Path.{_≡_, refl, sym, subst}
 use mathlib.Core.List.{List}
 use mathlib.Core.Bool.{true}
 use Prim.Native.Nat.{ℕ}

@@ -95,7 +95,7 @@ pub fn read_field(
             frame,
             o.from,
             o.count,
-            left - 1,
+            left - 1, // for elements
             next,
             slots,
             &mut list[4..],
@@ -110,7 +110,7 @@ pub fn read_field(
             frame,
             o.from,
             o.count,
-            left - 1,
+            left - 1, // for members
             next,
             slots,
             &mut list[4..],

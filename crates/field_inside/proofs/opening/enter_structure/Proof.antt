@@ -1,7 +1,6 @@
 -- The place is aligned, and its entry written unless that lies past the bound.
 use borrow.Author.Needs.{needs}
 use native.Mathlib.Omega.{arith}
-use mathlib.Core.Path.{_∙_, ap}
 use lib.ListN.{getD}
 use Prim.Native.Nat.{_^_}
 use Rattle.rules.specs.Record.{u8}

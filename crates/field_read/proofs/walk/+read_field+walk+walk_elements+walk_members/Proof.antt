@@ -1,4 +1,5 @@
--- A field that holds others is its entry and then a walk; a walk is a loop over a run.
+-- A field that holds others is its entry and then a walk; a walk is a loop over a run, and each of its rounds is a law of Round.
+-- The measure is three times the depth left, one more for the loop, and two more for each walk; that of the loop is the room left.
 
 use Prim.Native.Nat.{ℕ, _<_}
 use borrow.Fn.Kinds.{In}
@@ -57,19 +58,19 @@ use mathlib.Core.Logic.{⊎-elim}
 use Rattle.rules.specs.Step.{_⨾_}
 use Rattle.rules.specs.Faults.{roleOf}
 use Rattle.rules.specs.Field.{role}
-use Rattle.listing.proofs.Parts.{merged, lent}
+use Rattle.listing.proofs.Parts.{merged}
 use Rattle.class_layout.proofs.InPlace.{members-few}
 use Rattle.facts.proofs.Slots.{no-slot}
 use borrow.Fn.Kinds.{Out}
 use borrow.Author.Needs.{needs}
 use mathlib.Core.Path.{_≡_, refl, sym, _∙_}
 use native.Mathlib.Omega.{arith}
-use Prim.Native.Nat.{_-_, _+_, _*_, _^_, _≤_}
-use mathlib.Core.List.{List, []}
-use lib.ListN.{length, getD}
+use Prim.Native.Nat.{_+_, _*_, _^_, _≤_}
+use mathlib.Core.List.{[]}
+use lib.ListN.{length}
 use Rattle.rules.specs.Limits.{slotCount}
 use Rattle.rules.specs.Record.{u8}
-use Rattle.class_layout.specs.Notes.{notes, Prepared}
+use Rattle.class_layout.specs.Notes.{notes}
 use Rattle.field_read.specs.Reads.{stateAt}
 use Rattle.facts.specs.Bytes.{Bytes}
 use Rattle.class_layout.proofs.Standing.{depth-some, kind-high, leaf-whole}
