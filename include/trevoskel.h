@@ -19,7 +19,7 @@
  * Nothing is kept: there is no state between calls, nothing is allocated, no lock is taken and no system call is made. So any number of
  * threads may call at once, with the same table and stream. The archive calls nothing but the C library's memcpy, memset and their like.
  *
- * A reading takes up to 261 KiB of stack beside what is lent, and a check up to 8 KiB (at -O3 on x86-64). host/run measures both over the
+ * A reading takes up to 268 KiB of stack beside what is lent, and a check up to 8 KiB (at -O3 on x86-64). host/run measures both over the
  * shared cases and the deepest tables, and fails at 1 MiB.
  *
  * The archive is for Linux on x86-64, or on the machine that host/run built it on; size_t has 64 bits. */

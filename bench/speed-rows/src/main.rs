@@ -1,7 +1,8 @@
-//! The proved reader against the one in ordinary Rust, on six shapes of streams with 10 and with 500 event classes.
+//! The proved reader against the one in ordinary Rust, on eight shapes of streams with 10 and with 500 event classes.
 //!
 //!     speed-rows [ROUNDS]                      a table of all rows, the least time of so many rounds (7)
-//!     speed-rows SHAPE CLASSES READER ROUNDS   one reader (proved, rust) on one sample, for a profiler
+//!     speed-rows SHAPE CLASSES READER ROUNDS   one reader (proved, rust) on one sample, for a profiler; CLASSES may be 10/500,
+//!                                              the stream of 10 classes read by a table of 500
 
 mod class;
 mod random;
@@ -32,7 +33,9 @@ fn main() {
         [shape, classes, reader, rounds] => {
             let shape = SHAPES.into_iter().find(|known| known.name() == shape).expect("a shape");
             let reader = if reader == "proved" { Reader::Proved } else { Reader::Rust };
-            let sample = shapes::sample(shape, classes.parse().expect("a number of classes"));
+            let (met, known) = classes.split_once('/').unwrap_or((classes, classes));
+            let number = |word: &str| word.parse().expect("a number of classes");
+            let sample = shapes::sample(shape, number(met), number(known));
             one_reader(&sample, reader, rounds.parse().expect("a number of rounds"));
         }
         _ => panic!("[ROUNDS], or SHAPE CLASSES READER ROUNDS"),
@@ -72,7 +75,7 @@ fn all_rows(rounds: usize) {
 }
 
 fn row(shape: Shape, classes: usize, rounds: usize) {
-    let sample = shapes::sample(shape, classes);
+    let sample = shapes::sample(shape, classes, classes);
     let (mut list, events) = agreed(&sample);
     let (mut proved, mut rust) = (Vec::new(), Vec::new());
     for _ in 0..rounds {

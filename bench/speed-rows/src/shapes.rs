@@ -1,4 +1,4 @@
-//! The six shapes of a stream. A packet's header and context are those that LTTng writes, and so are the sizes: packets of
+//! The eight shapes of a stream. A packet's header and context are those that LTTng writes, and so are the sizes: packets of
 //! 64 KiB, padded behind their last event. Event classes are picked evenly, and stand in the table in no order of their ids
 //! but for LTTng's own, which count from 0.
 
@@ -19,15 +19,22 @@ pub enum Shape {
     VariantHeader,
     /// What LTTng itself writes: that header, two or three integers, and now and then a string.
     Lttng,
+    /// Arrays of structures that hold arrays of structures.
+    NestedArrays,
+    /// Integers as in whole bytes, of the last of eight stream classes, each of which has as many event classes, 62 at
+    /// most, and counts its ids from 0.
+    EightStreams,
 }
 
-pub const SHAPES: [Shape; 6] = [
+pub const SHAPES: [Shape; 8] = [
     Shape::WholeBytes,
     Shape::UnalignedBits,
     Shape::MixedKinds,
     Shape::Structures,
     Shape::VariantHeader,
     Shape::Lttng,
+    Shape::NestedArrays,
+    Shape::EightStreams,
 ];
 
 impl Shape {
@@ -39,8 +46,34 @@ impl Shape {
             Shape::Structures => "structures",
             Shape::VariantHeader => "variant-header",
             Shape::Lttng => "lttng",
+            Shape::NestedArrays => "nested-arrays",
+            Shape::EightStreams => "eight-streams",
         }
     }
+
+    fn stream_classes(self) -> u64 {
+        match self {
+            Shape::EightStreams => 8,
+            _ => 1,
+        }
+    }
+
+    /// The id of an event class, counted from 0 in its stream class.
+    fn id(self, turn: u64) -> u64 {
+        match self {
+            Shape::Lttng | Shape::EightStreams => turn,
+            // 251 and LONG_ID have no common divisor, so that no id occurs twice.
+            _ => (turn + 1) * 251 % LONG_ID,
+        }
+    }
+}
+
+/// An event class: the number of its stream class, its id, and its payload.
+#[derive(Clone)]
+struct Event {
+    of: u64,
+    id: u64,
+    payload: Class,
 }
 
 pub struct Sample {
@@ -52,6 +85,7 @@ pub struct Sample {
 const PACKET_BYTES: usize = 65_536;
 const PACKETS: u64 = 255;
 
+/// The id of the first stream class; the others' follow.
 const STREAM_CLASS: u64 = 7;
 
 /// The id that LTTng's large header has where a long one follows.
@@ -111,7 +145,7 @@ fn event_header(shape: Shape) -> Class {
 
 fn payload(shape: Shape, random: &mut Random) -> Class {
     match shape {
-        Shape::WholeBytes => {
+        Shape::WholeBytes | Shape::EightStreams => {
             let count = random.between(3, 8);
             structure(0, (0..count).map(|_| whole(random)).collect())
         }
@@ -157,6 +191,19 @@ fn payload(shape: Shape, random: &mut Random) -> Class {
             if random.between(1, 5) == 1 {
                 members.push(Class::String);
             }
+            structure(0, members)
+        }
+        Shape::NestedArrays => {
+            let count = random.between(1, 3);
+            let mut members: Vec<Class> = (0..count).map(|_| whole(random)).collect();
+            let inner = structure(0, vec![whole(random), whole(random)]);
+            let outer = vec![
+                whole(random),
+                in_slot(18, 8, FIRST_FREE, 6),
+                Class::DynamicArray(FIRST_FREE, Box::new(inner)),
+            ];
+            members.push(in_slot(18, 8, SELECTOR, 8));
+            members.push(Class::DynamicArray(SELECTOR, Box::new(structure(0, outer))));
             structure(0, members)
         }
     }
@@ -205,21 +252,24 @@ fn mixed(random: &mut Random, slot: u8) -> Vec<Class> {
     }
 }
 
-/// The sample of a shape with so many event classes.
-pub fn sample(shape: Shape, classes: usize) -> Sample {
-    let mut random = Random(shape as u64 * 1000 + classes as u64);
-    let id = |turn: u64| match shape {
-        Shape::Lttng => turn - 1,
-        // 251 and LONG_ID have no common divisor, so that no id occurs twice.
-        _ => turn * 251 % LONG_ID,
+/// The sample of a shape: so many event classes are met in the stream, and so many are in the table.
+pub fn sample(shape: Shape, met: usize, known: usize) -> Sample {
+    let mut random = Random(shape as u64 * 1000 + met as u64);
+    // 8 times 62 is what a table may have.
+    let each = |classes: usize| if shape.stream_classes() == 1 { classes } else { classes.min(62) };
+    let some = |from: usize, to: usize, random: &mut Random| -> Vec<Event> {
+        let turns = |of| (from as u64..to as u64).map(move |turn| (of, turn));
+        let event = |(of, turn)| Event { of, id: shape.id(turn), payload: payload(shape, random) };
+        (0..shape.stream_classes()).flat_map(turns).map(event).collect()
     };
-    let events: Vec<(u64, Class)> =
-        (1..=classes as u64).map(|turn| (id(turn), payload(shape, &mut random))).collect();
+    let events = some(0, each(met), &mut random);
+    let others = some(each(met), each(known), &mut Random(known as u64));
     let header = event_header(shape);
-    Sample { table: table(&header, &events), stream: stream(&header, &events, &mut random) }
+    let stream = stream(shape, &header, &events, &mut random);
+    Sample { table: table(shape, &header, &[others, events].concat()), stream }
 }
 
-fn table(header: &Class, events: &[(u64, Class)]) -> Vec<u8> {
+fn table(shape: Shape, header: &Class, events: &[Event]) -> Vec<u8> {
     let mut table = vec![1, 2, 2, 1];
     table.extend(THE_UUID);
     let root = |table: &mut Vec<u8>, number: u8, class: &Class| {
@@ -229,27 +279,32 @@ fn table(header: &Class, events: &[(u64, Class)]) -> Vec<u8> {
     root(&mut table, 0, &packet_header());
     table.extend([3, 0]);
     table.extend(1_000_000_000u64.to_le_bytes());
-    table.push(4);
-    table.extend(STREAM_CLASS.to_le_bytes());
-    table.push(0);
-    root(&mut table, 1, &packet_context());
-    root(&mut table, 2, header);
-    for (id, payload) in events {
-        table.push(5);
-        table.extend(STREAM_CLASS.to_le_bytes());
-        table.extend(id.to_le_bytes());
-        root(&mut table, 5, payload);
+    for number in 0..shape.stream_classes() {
+        let stream_class = (STREAM_CLASS + number).to_le_bytes();
+        table.push(4);
+        table.extend(stream_class);
+        table.push(0);
+        root(&mut table, 1, &packet_context());
+        root(&mut table, 2, header);
+        for Event { id, payload, .. } in events.iter().filter(|event| event.of == number) {
+            table.push(5);
+            table.extend(stream_class);
+            table.extend(id.to_le_bytes());
+            root(&mut table, 5, payload);
+        }
     }
     table
 }
 
-fn stream(header: &Class, events: &[(u64, Class)], random: &mut Random) -> Vec<u8> {
+fn stream(shape: Shape, header: &Class, events: &[Event], random: &mut Random) -> Vec<u8> {
+    let of = shape.stream_classes() - 1;
+    let events: Vec<&Event> = events.iter().filter(|event| event.of == of).collect();
     let mut stream = Vec::new();
     let mut clock = 1 << 40;
     for sequence in 0..PACKETS {
         let mut said = [0; ROLES];
         said[MAGIC as usize] = 0xc1fc_1fc1;
-        said[STREAM_CLASS_ID as usize] = STREAM_CLASS;
+        said[STREAM_CLASS_ID as usize] = STREAM_CLASS + of;
         said[TOTAL_LENGTH as usize] = 8 * PACKET_BYTES as u64;
         said[CLOCK as usize] = clock;
         said[SEQUENCE as usize] = sequence;
@@ -259,11 +314,11 @@ fn stream(header: &Class, events: &[(u64, Class)], random: &mut Random) -> Vec<u
         loop {
             let begun = packet.place;
             clock += random.between(100, 10_000);
-            let (id, payload) = &events[random.between(0, events.len() as u64 - 1) as usize];
+            let event = events[random.between(0, events.len() as u64 - 1) as usize];
             packet.said[CLOCK as usize] = clock;
-            packet.said[EVENT_CLASS_ID as usize] = *id;
+            packet.said[EVENT_CLASS_ID as usize] = event.id;
             header.write(&mut packet, random);
-            payload.write(&mut packet, random);
+            event.payload.write(&mut packet, random);
             if packet.bytes.len() > PACKET_BYTES {
                 packet.cut(begun);
                 break;

@@ -38,11 +38,11 @@ module _ (l : List ℕ) (at o : ℕ) where
 
 -- what `put` keeps: what is to be made of the index is still to be made from a word on
 pub record Putting (l₀ : List ℕ) (from o : ℕ) (l : List ℕ) (at left : ℕ) : Type 0 where
-  pub room : length l ≡ 1024
+  pub room : length l ≡ 4096
   pub kept : length l ≡ length l₀
-  pub here : at < 1024
-  pub few : left ≤ 1024
-  pub same : putFrom 1024 l₀ from o ≡ putFrom left l at o
+  pub here : at < 4096
+  pub few : left ≤ 4096
+  pub same : putFrom 4096 l₀ from o ≡ putFrom left l at o
 
 put-length : (n : ℕ) (l : List ℕ) (at o : ℕ) → length (putFrom n l at o) ≡ length l
 unfolding putFrom

@@ -10,15 +10,15 @@ use Rattle.rules.specs.Record.{u8, u64}
 use Rattle.class_layout.specs.Fragments.{eventKind, isEvent, findEventAt, fragmentsOf, Fragment}
 
 abbrev pub places : ℕ
-places = 1024
+places = 4096
 
 -- both ids as one number below 2 to the 31: each half of each by a factor of its own
 unfoldable pub mixed : ℕ → ℕ → ℕ
 mixed i j = (i % 2 ^ 32 * 770493857 + i / 2 ^ 32 * 671546289 + j % 2 ^ 32 * 582208147 + j / 2 ^ 32 * 659168895) % 2 ^ 31
 
--- where the search for a pair of ids begins: of x (2 x + 1), which is another number for each x, the ten highest of 31 bits
+-- where the search for a pair of ids begins: of x (2 x + 1), which is another number for each x, the twelve highest of 31 bits
 unfoldable pub homeOf : ℕ → ℕ → ℕ
-homeOf i j = mixed i j * (2 * mixed i j + 1) % 2 ^ 31 / 2 ^ 21
+homeOf i j = mixed i j * (2 * mixed i j + 1) % 2 ^ 31 / 2 ^ 19
 
 -- a place in the first empty word from one on, of n
 unfoldable pub putFrom : ℕ → List ℕ → ℕ → ℕ → List ℕ

@@ -27,7 +27,7 @@ unfoldable pub streams : ℕ → ℕ → List (ℕ × ℕ)
 streams zero count = []
 streams (suc n) count = events n 1 count ++ streams n count
 
--- 496 classes by 1.5 probes each, 500 by 1.5
+-- 496 classes by 1.07 probes each, 500 by 1.05
 pub record Probes : Type 0 where
-  pub by-streams : probes (streams 8 62) (replicate places 0) ≡ 734
-  pub by-steps : probes (events 0 1024 500) (replicate places 0) ≡ 744
+  pub by-streams : probes (streams 8 62) (replicate places 0) ≡ 528
+  pub by-steps : probes (events 0 1024 500) (replicate places 0) ≡ 525

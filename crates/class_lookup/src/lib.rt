@@ -13,7 +13,7 @@ ghost use Rattle.class_layout.specs.Sizes.{Sized, foundOf};
 ghost use Rattle.class_lookup.specs.Index.{mixed, homeOf, putFrom, indexOne, indexed, Hints};
 
 // Places of the index: twice as many as there can be event classes (15), so that some are always empty.
-pub const PLACES: usize = 1024;
+pub const PLACES: usize = 4096;
 
 const TRACE_CLASS: u8 = 2;
 
@@ -90,7 +90,7 @@ pub fn find_event_class(table: &[u8], sizes: &[u16], index: &[u32], stream: u64,
 
 // Puts the places of all event classes into an index that is empty.
 pub fn make_index(table: &[u8], sizes: &[u16], index: &mut [u32])
-    requires { ⌜ (Sized (now table) (now sizes)) × (length (now index) ≡ 1024) ⌝ }
+    requires { ⌜ (Sized (now table) (now sizes)) × (length (now index) ≡ 4096) ⌝ }
     ensures { λ _. ⌜ now (index .exit) ≡ indexed (now (table .entry)) (fragmentsOf (now (table .entry))) (now (index .entry)) ⌝ }
 {
     let mut at = PREAMBLE;
@@ -102,7 +102,7 @@ pub fn make_index(table: &[u8], sizes: &[u16], index: &mut [u32])
 
 // Puts the place of a fragment into the index, if it is an event class.
 fn index_one(table: &[u8], index: &mut [u32], at: usize)
-    requires { ⌜ (Fragment (now table) at) × (length (now table) ≤ 65536) × (length (now index) ≡ 1024) ⌝ }
+    requires { ⌜ (Fragment (now table) at) × (length (now table) ≤ 65536) × (length (now index) ≡ 4096) ⌝ }
     ensures { λ _. ⌜ now (index .exit) ≡ indexOne (now (table .entry)) at (now (index .entry)) ⌝ }
 {
     if table[at] == EVENT_CLASS {
@@ -116,8 +116,8 @@ fn index_one(table: &[u8], index: &mut [u32], at: usize)
 
 // Puts a place into the first empty one from another on.
 fn put(index: &mut [u32], from: usize, place: usize)
-    requires { ⌜ (length (now index) ≡ 1024) × (from < 1024) × (place < 2 ^ 32) ⌝ }
-    ensures { λ _. ⌜ now (index .exit) ≡ putFrom 1024 (now (index .entry)) from place ⌝ }
+    requires { ⌜ (length (now index) ≡ 4096) × (from < 4096) × (place < 2 ^ 32) ⌝ }
+    ensures { λ _. ⌜ now (index .exit) ≡ putFrom 4096 (now (index .entry)) from place ⌝ }
 {
     let mut at = from;
     let mut left = PLACES;
@@ -131,12 +131,12 @@ fn put(index: &mut [u32], from: usize, place: usize)
     }
 }
 
-// Where the search for a pair of ids begins: the ten highest of 31 bits, each of which depends on all bits below it.
+// Where the search for a pair of ids begins: the twelve highest of 31 bits, each of which depends on all bits below it.
 fn home(stream: u64, id: u64) -> usize
-    ensures { λ r. ⌜ (r ≡ homeOf stream id) × (r < 1024) ⌝ }
+    ensures { λ r. ⌜ (r ≡ homeOf stream id) × (r < 4096) ⌝ }
 {
     let x = mix(stream, id);
-    (x * (2 * x + 1) % MIXED / 2097152) as usize
+    (x * (2 * x + 1) % MIXED / 524288) as usize
 }
 
 // Both ids as one number.

@@ -73,7 +73,8 @@ module _ (a : Asked) (c : StreamClass) (e : Env) (n : ℕ) (st : State) (l : Slo
       (λ d. mark eventClassFound 0 (s .said .event) ⨾ readRoot e (c .common) ⨾ readRoot e (d .specific) ⨾ readRoot e (d .payload)) s
 
   tail : (s : Full)
-      → (check (λ s. c .timed && ltb (s .clock) (s .last)) ClockWentBack ⨾ (change (λ s. withLast (s .clock) s) ⨾ (due ⨾ (Look ⨾ moved st)))) s
+      → (check (λ s. c .timed && ltb (s .clock) (s .last)) ClockWentBack ⨾
+      (change (λ s. withLast (s .clock) s) ⨾ (due ⨾ (Look ⨾ moved st)))) s
       ≡ (bodyOf a c e ⨾ moved st) s
   unfolding bodyOf partsOf
   tail s =
@@ -89,38 +90,41 @@ module _ (a : Asked) (c : StreamClass) (e : Env) (n : ℕ) (st : State) (l : Slo
   unfolding readEvent behindStart moved
   event-starts h =
       room-first _ (full st l room) h
-      ∙ seq-same (mark eventStarts 0 n) _ _ (full st l room) (λ s. seq-same (change startEvent) _ _ s (λ s. seq-same (readRoot e (c .header)) _ _ s tail))
+      ∙ seq-same (mark eventStarts 0 n) _ _ (full st l room)
+      (λ s. seq-same (change startEvent) _ _ s (λ s. seq-same (readRoot e (c .header)) _ _ s tail))
 
 -- slots 16 to 63 are unset once
 pub unset-again : (l : Slots) → length l ≡ slotCount → packetSlots (packetSlots l) ≡ packetSlots l
 unfolding packetSlots
 unset-again l h =
     ap (λ r. r ++ replicate (slotCount - packetSlotCount) (slot Unset))
-    (take-at (take packetSlotCount l) (replicate (slotCount - packetSlotCount) (slot Unset)) packetSlotCount (omega (arith, length-take packetSlotCount l)))
+    (take-at (take packetSlotCount l) (replicate (slotCount - packetSlotCount) (slot Unset)) packetSlotCount
+    (omega (arith, length-take packetSlotCount l)))
 
 -- entry 4 stands in front
 module _ (a : Asked) (c : StreamClass) (b u : List ℕ) (f : Frame) (n : ℕ) (st : State) (l : Slots) (ws ws₁ : List ℕ) (h : 4 ≤ length ws)
-    (many : length l ≡ slotCount) (framed : Framed b f (st .place)) (e : ws₁ ≡ words (entry eventStarts (st .place) 0 n ∷ []) ++ drop 4 ws) where
-  abbrev Event : Step
-  Event = readEvent a c (envOf b u f) n
+    (many : length l ≡ slotCount) (framed : Framed b f (st .place)) (e : ws₁ ≡ words (entry eventStarts (st .place) 0 n ∷ []) ++ drop 4 ws)
+  where
+    abbrev Event : Step
+    Event = readEvent a c (envOf b u f) n
 
-  listed-part : Part (Event (full st l (length ws))) (change startEvent ⨾ behindStart a c (envOf b u f) st) ws ws₁ 4 st l
-  unfolding _⨾_ after mark listed
-  listed-part = record {
-    listed = entry eventStarts (st .place) 0 n ∷ [];
-    list = e;
-    counted = refl;
-    room = h;
-    rest = event-starts a c (envOf b u f) n st l (length ws) h;
-  }
+    listed-part : Part (Event (full st l (length ws))) (change startEvent ⨾ behindStart a c (envOf b u f) st) ws ws₁ 4 st l
+    unfolding _⨾_ after mark listed
+    listed-part = record {
+      listed = entry eventStarts (st .place) 0 n ∷ [];
+      list = e;
+      counted = refl;
+      room = h;
+      rest = event-starts a c (envOf b u f) n st l (length ws) h;
+    }
 
-  pub started : Parted b f Event (behindStart a c (envOf b u f) st) st l ws ws₁ 4 (startState st) (packetSlots l)
-  unfolding startEvent
-  started = record {
-    framed = framed;
-    kept = unset-again l many;
-    part = part-same _ (behindStart a c (envOf b u f) st) (change-on startEvent _ (full st l (length ws - 4))) listed-part;
-  }
+    pub started : Parted b f Event (behindStart a c (envOf b u f) st) st l ws ws₁ 4 (startState st) (packetSlots l)
+    unfolding startEvent
+    started = record {
+      framed = framed;
+      kept = unset-again l many;
+      part = part-same _ (behindStart a c (envOf b u f) st) (change-on startEvent _ (full st l (length ws - 4))) listed-part;
+    }
 
 -- what is left lists nothing: it stops, or the event is done
 module _ (m M : Step) (came : State) (l₀ : Slots) {ws₀ ws : List ℕ} {used : ℕ} {st : State} {l : Slots}

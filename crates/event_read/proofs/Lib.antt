@@ -1,2 +1,4 @@
 pub mod Evented
-mod Turning
+mod Ending
+mod Rounds
+mod Told

@@ -1,7 +1,7 @@
--- An event that starts, and one that ends, as the code says it.
-use mathlib.Core.Bool.{true, false}
+-- An event that starts, whether a field of it is opened, and an event that ends, as the code says it.
+use mathlib.Core.Bool.{Bool, true, false}
 use Prim.Native.Nat.{ℕ}
-use lib.Dec.{eqb}
+use lib.Dec.{eqb, ltb}
 use Rattle.rules.specs.declared.Refusal.the-variants.{EventTookNoBits}
 use Rattle.rules.specs.Verdict.{stopAt}
 use Rattle.listing.specs.declared.State.{State}
@@ -18,6 +18,14 @@ startState st = record {
   last = st .last;
   said = record { stream = st .said .stream; total = st .said .total; content = st .said .content; ending = st .said .ending; event = 0 };
 }
+
+-- how many runs can be put off for others in front of them
+abbrev pub runs : ℕ
+runs = 2
+
+-- a field is opened in its run, or in one of its own where so many are put off
+unfoldable pub opensAt : Bool → ℕ → Bool
+opensAt here off = elim here [ true ↦ true | false ↦ ltb off runs ]
 
 -- an event that ends in a state with so many words listed, by the state in which it began: 38, if the place did not move
 unfoldable pub endedRan : ℕ → State → State → Ran

@@ -1,91 +1,113 @@
--- What a turn leaves, test by test: the branch of the definition that the code took.
+-- What a turn gives, test by test: the branch of the definition that the code took. In order: the root that is next; the lookup; a turn.
 use mathlib.Core.Path.{_≡_, refl, ap, sym, _∙_}
-use Prim.Native.Nat.{ℕ, _≤_, _<_}
-use mathlib.Core.List.{List}
+use Prim.Native.Nat.{ℕ, suc, _+_, _-_, _≤_, _<_}
+use native.Mathlib.Omega.{arith}
+use mathlib.Core.List.{List, [], _∷_, _++_}
 use mathlib.Core.Bool.{true, false, _&&_}
+use lib.ListN.{drop}
 use lib.Dec.{ltb}
 use borrow.Author.Tests.{lt-ltb, le-ltb, eq-eqb, ne-eqb}
 use Rattle.rules.specs.declared.BitPlace.{BitPlace}
-use Rattle.rules.specs.declared.Content.the-variants.{Unset}
 use Rattle.rules.specs.declared.Refusal.{Refusal}
 use Rattle.rules.specs.declared.Refusal.the-variants.{ClockWentBack, EventClassUnknown, ListFull}
-use Rattle.rules.specs.Verdict.{stopAt}
-use Rattle.rules.specs.Record.{u8}
-use Rattle.leaf_find_number.specs.declared.Frame.{Frame}
-use Rattle.listing.specs.declared.State.{State}
+use Rattle.rules.specs.Entry.{entry, words, eventClassFound}
 use Rattle.class_layout.specs.declared.Found.{Found}
 use Rattle.class_layout.specs.declared.Found.the-variants.{At, Nothing}
 use Rattle.class_layout.specs.Fragments.{findEventAt, fragmentsOf}
 use Rattle.class_layout.specs.Sizes.{foundOf}
-use Rattle.class_layout.specs.Notes.{Notes}
-use Rattle.field_inside.specs.declared.look.Inside.{Inside}
-use Rattle.field_inside.specs.declared.look.Inside.the-variants.{Elements, Refused}
-use Rattle.field_inside.specs.Inside.{insideOf}
+use Rattle.field_runs.specs.Run.{membersRun}
 use Rattle.event_turns.specs.declared.Asking.{Asking}
-use Rattle.event_turns.specs.Left.{nothingOpened, enteredRoot, rootLeft, stoppedLeft, classLeft, lookupLeft, rootFound, rootTurn, turnLeft}
+use Rattle.event_turns.specs.declared.Due.{Due}
+use Rattle.event_turns.specs.declared.LookedUp.{LookedUp}
+use Rattle.event_turns.specs.declared.Turn.{Turn}
+use Rattle.event_turns.specs.Left.{turns, rootFound, noneDue, dueOf, dueIn, nextDue, listedInto}
+use Rattle.event_turns.specs.Left.{lookedOn, notLooked, LookupLeft, refusedLeft, classLeft, lookupLeft, lookedLeft}
+use Rattle.event_turns.specs.Left.{stoppedTurn, dueTurn, turnBehind}
 
--- a root
+-- the root that is next
 
-module _ (t : List ℕ) (x : Notes) (f : Frame) (st : State) (room : ℕ) (root : Found) where
-  pub left-none : root ≡ Nothing → rootLeft t x f root st room ≡ nothingOpened 0 0 st
-  unfolding rootLeft
-  left-none e = rw (e) refl
+module _ (t : List ℕ) (w : Asking) (class turn : ℕ) where
+  pub due-end : turns ≤ turn → nextDue t w class turn ≡ noneDue turn
+  unfolding nextDue dueIn
+  due-end h = let e : turns - turn ≡ 0 = omega arith in rw (e) refl
 
-  module _ (p : ℕ) (e : root ≡ At p) where
-    pub left-no-room : room < 4 → rootLeft t x f root st room ≡ nothingOpened p 1 st
-    unfolding rootLeft
-    left-no-room h = rw (e, rootLeft, lt-ltb _ _ h) refl
+  module _ (h : turn < turns) where
+    one-turn : turns - turn ≡ suc (turns - (turn + 1))
+    one-turn = omega arith
 
-    pub left-other : 4 ≤ room → (u8 t p ≡ 28 → ⊥) → rootLeft t x f root st room ≡ nothingOpened p 1 st
-    unfolding rootLeft
-    left-other h k = rw (e, rootLeft, le-ltb _ _ h, ne-eqb _ _ k) refl
+    pub due-at : (p : ℕ) → At p ≡ rootFound t w turn class → nextDue t w class turn ≡ record { turn = turn + 1; run = membersRun p 1 }
+    unfolding nextDue dueIn dueOf
+    due-at p e = rw (one-turn, ← e) refl
 
-    pub left-structure : 4 ≤ room → u8 t p ≡ 28 → rootLeft t x f root st room ≡ enteredRoot p st (insideOf t x p f (st .place) Unset)
-    unfolding rootLeft
-    left-structure h k = rw (e, rootLeft, le-ltb _ _ h, eq-eqb _ _ k) refl
-
-    -- what is told of a structure may also be that it is past the bound; elements it never has
-    module _ (h : 4 ≤ room) (k : u8 t p ≡ 28) {o : Inside} (look : o ≡ insideOf t x p f (st .place) Unset) where
-      pub left-elements : {q : BitPlace} {v from n : ℕ} → o ≡ Elements q v from n → rootLeft t x f root st room ≡ nothingOpened p 1 st
-      unfolding enteredRoot
-      left-elements is = left-structure h k ∙ ap (enteredRoot p st) (sym look ∙ is)
-
-      pub left-refused : {why : Refusal} → o ≡ Refused why → rootLeft t x f root st room ≡ nothingOpened p 1 st
-      unfolding enteredRoot
-      left-refused is = left-structure h k ∙ ap (enteredRoot p st) (sym look ∙ is)
+    pub due-behind : Nothing ≡ rootFound t w turn class → nextDue t w class turn ≡ nextDue t w class (turn + 1)
+    unfolding nextDue dueIn dueOf
+    due-behind e = rw (one-turn, ← e) refl
 
 -- the lookup
 
-module _ (t : List ℕ) (w : Asking) (st : State) (room : ℕ) where
-  pub left-back : (w .timed && ltb (st .clock .value) (st .last)) ≡ true → lookupLeft t w st room ≡ stoppedLeft (stopAt ClockWentBack (st .place)) st
+module _ (t : List ℕ) (w : Asking) (p : BitPlace) (clock last id room : ℕ) where
+  pub left-back : (w .timed && ltb clock last) ≡ true → lookupLeft t w p clock last id room ≡ refusedLeft ClockWentBack
   unfolding lookupLeft
   left-back b = rw (lookupLeft, b) refl
 
-  module _ (b : (w .timed && ltb (st .clock .value) (st .last)) ≡ false) where
-    pub left-full : room < 4 → lookupLeft t w st room ≡ stoppedLeft (stopAt ListFull (st .place)) st
+  module _ (b : (w .timed && ltb clock last) ≡ false) where
+    pub left-full : room < 4 → lookupLeft t w p clock last id room ≡ refusedLeft ListFull
     unfolding lookupLeft
     left-full h = rw (lookupLeft, b, lt-ltb _ _ h) refl
 
     left-looked : 4 ≤ room
-        → lookupLeft t w st room ≡ classLeft w st (foundOf (findEventAt t (fragmentsOf t) (w .id) (st .said .event)))
+        → lookupLeft t w p clock last id room ≡ classLeft w p clock id (foundOf (findEventAt t (fragmentsOf t) (w .id) id))
     unfolding lookupLeft
     left-looked h = rw (lookupLeft, b, le-ltb _ _ h) refl
 
-    module _ (h : 4 ≤ room) {o : Found} (looked : o ≡ foundOf (findEventAt t (fragmentsOf t) (w .id) (st .said .event))) where
-      pub left-unknown : o ≡ Nothing → lookupLeft t w st room ≡ stoppedLeft (stopAt (EventClassUnknown (w .id) (st .said .event)) (st .place)) st
+    module _ (h : 4 ≤ room) {o : Found} (looked : o ≡ foundOf (findEventAt t (fragmentsOf t) (w .id) id)) where
+      pub left-unknown : o ≡ Nothing → lookupLeft t w p clock last id room ≡ refusedLeft (EventClassUnknown (w .id) id)
       unfolding classLeft
-      left-unknown is = left-looked h ∙ ap (classLeft w st) (sym looked ∙ is)
+      left-unknown is = left-looked h ∙ ap (classLeft w p clock id) (sym looked ∙ is)
 
-      pub left-found : (p : ℕ) → o ≡ At p → lookupLeft t w st room ≡ classLeft w st (At p)
-      left-found p is = left-looked h ∙ ap (classLeft w st) (sym looked ∙ is)
+      pub left-found : (class : ℕ) → o ≡ At class → lookupLeft t w p clock last id room ≡ classLeft w p clock id (At class)
+      left-found class is = left-looked h ∙ ap (classLeft w p clock id) (sym looked ∙ is)
 
--- a turn
+-- in its turn, and in any other
 
-module _ (t : List ℕ) (x : Notes) (w : Asking) (f : Frame) (turn class : ℕ) (st : State) (room : ℕ) where
-  pub left-lookup : turn ≡ 1 → turnLeft t x w f turn class st room ≡ lookupLeft t w st room
-  unfolding turnLeft
-  left-lookup h = rw (turnLeft, eq-eqb _ _ h) refl
+module _ (t : List ℕ) (w : Asking) (turn class : ℕ) (p : BitPlace) (clock last id room : ℕ) where
+  pub left-lookup : turn ≡ 1 → lookedLeft t w turn class p clock last id room ≡ lookupLeft t w p clock last id room
+  unfolding lookedLeft
+  left-lookup h = rw (lookedLeft, eq-eqb _ _ h) refl
 
-  pub left-root : (turn ≡ 1 → ⊥) → turnLeft t x w f turn class st room ≡ rootTurn class (rootLeft t x f (rootFound t w turn class) st room)
-  unfolding turnLeft
-  left-root h = rw (turnLeft, ne-eqb _ _ h) refl
+  pub left-other : (turn ≡ 1 → ⊥)
+      → lookedLeft t w turn class p clock last id room ≡ record { result = lookedOn class last turn 0; listed = [] }
+  unfolding lookedLeft
+  left-other h = rw (lookedLeft, ne-eqb _ _ h) refl
+
+-- what the code gives back of the lookup and the list behind it, by the branch
+
+abbrev pub LookupGives : LookupLeft → LookedUp → List ℕ → List ℕ → Type 0
+LookupGives o r ws ws′ = (r ≡ o .result) × (ws′ ≡ listedInto (o .listed) ws)
+
+pub gives-other : (o : LookupLeft) (class last turn : ℕ) (r : LookedUp) (ws : List ℕ)
+    → o ≡ record { result = lookedOn class last turn 0; listed = [] } → r ≡ lookedOn class last turn 0 → LookupGives o r ws ws
+unfolding words
+gives-other o class last turn r ws left e = rw (left) (e, refl)
+
+pub gives-refused : (o : LookupLeft) (why : Refusal) (r : LookedUp) (ws : List ℕ) → o ≡ refusedLeft why → r ≡ notLooked why
+    → LookupGives o r ws ws
+unfolding words
+gives-refused o why r ws left e = rw (left) (e, refl)
+
+pub gives-found : (o : LookupLeft) (w : Asking) (p : BitPlace) (clock id class : ℕ) (r : LookedUp) (ws ws′ : List ℕ)
+    → o ≡ classLeft w p clock id (At class) → r ≡ lookedOn class clock 2 4 → ws′ ≡ words (entry eventClassFound p 0 id ∷ []) ++ drop 4 ws
+    → LookupGives o r ws ws′
+unfolding classLeft
+gives-found o w p clock id class r ws ws′ left e list = rw (left) (e, list)
+
+-- a turn, by what its lookup gave
+
+module _ (t : List ℕ) (w : Asking) (p : BitPlace) (o o′ : LookedUp) (gave : o ≡ o′) where
+  pub turn-stopped : (r : Turn) → o .on ≡ false → r ≡ stoppedTurn (o .why) p → r ≡ turnBehind t w p o′
+  unfolding turnBehind
+  turn-stopped r off e = rw (← gave, off) e
+
+  pub turn-due : (d : Due) → o .on ≡ true → d ≡ nextDue t w (o .class) (o .turn) → dueTurn o d ≡ turnBehind t w p o′
+  unfolding turnBehind
+  turn-due d on e = rw (← gave, on, e) refl

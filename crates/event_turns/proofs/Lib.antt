@@ -1,4 +1,5 @@
 pub mod Looked
-mod Bodies
 mod Lefts
-mod Openings
+mod Bodies
+mod Dues
+pub mod Turned

@@ -27,6 +27,7 @@ module _ (t : List ℕ) (o : ℕ) where
       by none e = unfold foundOf RootStands in tt
       by (some p) e = unfold foundOf RootStands in f .roots i p e
 
-pub one-member : (t : List ℕ) (root : Found) (p : ℕ) → root ≡ At p → RootStands t root → wholeMembers (whole depthLimit t) (stoodAt depthLimit t) p 1
+pub one-member : (t : List ℕ) (root : Found) (p : ℕ) → root ≡ At p → RootStands t root
+    → wholeMembers (whole depthLimit t) (stoodAt depthLimit t) p 1
 unfolding RootStands wholeMembers
 one-member t root p e w = (rw (e) at w, tt)

@@ -1,4 +1,5 @@
--- An event's steps behind its header, and the state behind its lookup as the code says it.
+-- An event's steps behind its header, and the state behind a turn as the code says it.
+use Prim.Native.Nat.{ℕ}
 use mathlib.Core.Bool.{_&&_}
 use lib.Dec.{ltb}
 use Rattle.rules.specs.declared.Refusal.the-variants.{ClockWentBack}
@@ -19,6 +20,6 @@ bodyOf t c e =
     ⨾ λ s. withEvent (c .id) (s .said .event) (t .event (c .id) (s .said .event))
     (λ d. mark eventClassFound 0 (s .said .event) ⨾ partsOf e (c .common) (d .specific) (d .payload)) s
 
--- the clock of an event is the one that the next event's is held to
-abbrev pub lastState : State → State
-lastState st = record { place = st .place; order = st .order; clock = st .clock; last = st .clock .value; said = st .said }
+-- the same state, with the clock that the next event's is held to
+abbrev pub heldTo : ℕ → State → State
+heldTo clock st = record { place = st .place; order = st .order; clock = st .clock; last = clock; said = st .said }

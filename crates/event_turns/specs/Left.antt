@@ -1,109 +1,132 @@
--- What a turn of an event leaves and what it lists, by the table's bytes. In order: a root; the lookup of the id; a turn.
-use Prim.Native.Nat.{ℕ, zero, suc, _-_, _*_}
+-- What an event begins with, and what a turn behind its header gives back and lists, by the table's bytes. In order: a root's run; the
+-- root that is next; the lookup; a turn.
+use Prim.Native.Nat.{ℕ, zero, suc, _+_, _-_, _*_}
+use mathlib.Core.Path.{_≡_}
 use mathlib.Core.List.{List, [], _∷_, _++_}
 use mathlib.Core.Bool.{true, false, _&&_}
 use lib.ListN.{length, drop}
 use lib.Dec.{ltb, eqb}
+use Rattle.rules.specs.declared.BitPlace.{BitPlace}
 use Rattle.rules.specs.declared.Entry.{Entry}
-use Rattle.rules.specs.declared.Stop.{Stop}
-use Rattle.rules.specs.declared.Content.the-variants.{Unset}
+use Rattle.rules.specs.declared.Refusal.{Refusal}
 use Rattle.rules.specs.declared.Refusal.the-variants.{ClockWentBack, EventClassUnknown, ListFull}
-use Rattle.rules.specs.Limits.{depthLimit}
 use Rattle.rules.specs.Verdict.{stopAt}
-use Rattle.rules.specs.Record.{u8}
 use Rattle.rules.specs.Entry.{entry, words, eventClassFound}
-use Rattle.leaf_find_number.specs.declared.Frame.{Frame}
-use Rattle.listing.specs.declared.State.{State}
 use Rattle.listing.specs.declared.Went.the-variants.{On, Stopped}
-use Rattle.listing.specs.Did.{atPlace}
 use Rattle.class_layout.specs.declared.Found.{Found}
 use Rattle.class_layout.specs.declared.Found.the-variants.{At, Nothing}
 use Rattle.class_layout.specs.Fragments.{rootPlace, findEventAt, fragmentsOf}
 use Rattle.class_layout.specs.Sizes.{foundOf}
-use Rattle.class_layout.specs.Notes.{Notes}
-use Rattle.field_inside.specs.declared.look.Inside.{Inside}
-use Rattle.field_inside.specs.declared.look.Inside.the-variants.{Members, Elements, Refused}
-use Rattle.field_inside.specs.Inside.{insideOf}
+use Rattle.field_runs.specs.declared.Run.{Run}
+use Rattle.field_runs.specs.Run.{membersRun}
 use Rattle.event_turns.specs.declared.Asking.{Asking}
-use Rattle.event_turns.specs.declared.Opened.{Opened}
+use Rattle.event_turns.specs.declared.Due.{Due}
+use Rattle.event_turns.specs.declared.LookedUp.{LookedUp}
 use Rattle.event_turns.specs.declared.Turn.{Turn}
-use Rattle.event_turns.specs.Event.{lastState}
 
 -- the list, where entries were written into its front
 abbrev pub listedInto : List Entry → List ℕ → List ℕ
 listedInto es ws = words es ++ drop (4 * length es) ws
 
--- a root of which nothing was read yet
-abbrev pub unopenedRoot : ℕ → ℕ → State → Opened
-unopenedRoot from n st = record { used = 0; state = st; from = from; count = n; left = depthLimit }
+-- a root is one member; there is none, where it is not there
+unfoldable pub rootRun : Found → Run
+rootRun Nothing = membersRun 0 0
+rootRun (At p) = membersRun p 1
 
-pub record RootLeft : Type 0 where
-  pub opened : Opened
+-- what an event begins with
+unfoldable pub headerRun : Asking → Run
+headerRun w = rootRun (w .header)
+
+-- behind the lookup come common, specific and payload
+unfoldable pub rootFound : List ℕ → Asking → ℕ → ℕ → Found
+rootFound t w turn class =
+    elim (eqb turn 2) [
+      | true ↦ w .common
+      | false ↦ elim (eqb turn 3) [ true ↦ foundOf (rootPlace t class 0) | false ↦ foundOf (rootPlace t class 1) ]
+    ]
+
+-- an event has five turns
+abbrev pub turns : ℕ
+turns = 5
+
+-- no root, up to a turn
+unfoldable pub noneDue : ℕ → Due
+noneDue turn = record { turn = turn; run = membersRun 0 0 }
+
+-- a root in its turn, or else what is due behind it
+unfoldable pub dueOf : ℕ → Due → Found → Due
+dueOf turn behind Nothing = behind
+dueOf turn behind (At p) = record { turn = turn + 1; run = membersRun p 1 }
+
+-- the first root from a turn on, of so many turns
+unfoldable pub dueIn : List ℕ → Asking → ℕ → ℕ → ℕ → Due
+dueIn t w class turn zero = noneDue turn
+dueIn t w class turn (suc n) = dueOf turn (dueIn t w class (turn + 1) n) (rootFound t w turn class)
+
+unfoldable pub nextDue : List ℕ → Asking → ℕ → ℕ → Due
+nextDue t w class turn = dueIn t w class turn (turns - turn)
+
+-- the class is known, or not asked for yet: where it stands, the clock that the next event's is held to, the turn that is next, the words
+abbrev pub lookedOn : ℕ → ℕ → ℕ → ℕ → LookedUp
+lookedOn class last turn used = record { on = true; why = ListFull; class = class; last = last; turn = turn; used = used }
+
+abbrev pub notLooked : Refusal → LookedUp
+notLooked why = record { on = false; why = why; class = 0; last = 0; turn = 0; used = 0 }
+
+pub record LookupLeft : Type 0 where
+  pub result : LookedUp
   pub listed : List Entry
 
-abbrev pub nothingOpened : ℕ → ℕ → State → RootLeft
-nothingOpened from n st = record { opened = unopenedRoot from n st; listed = [] }
+-- what stopped listed nothing
+abbrev pub refusedLeft : Refusal → LookupLeft
+refusedLeft why = record { result = notLooked why; listed = [] }
 
--- a structure within the bound is entered
-unfoldable pub enteredRoot : ℕ → State → Inside → RootLeft
-enteredRoot p st (Members q v from n) = record {
-  opened = record { used = 4; state = atPlace q st; from = from; count = n; left = depthLimit - 1 };
-  listed = entry 28 q 0 v ∷ [];
-}
-enteredRoot p st (Elements q v from n) = nothingOpened p 1 st
-enteredRoot p st (Refused r) = nothingOpened p 1 st
+-- the event's clock is the one that the next event's is held to; the common root's turn is next
+unfoldable pub classLeft : Asking → BitPlace → ℕ → ℕ → Found → LookupLeft
+classLeft w p clock id Nothing = refusedLeft (EventClassUnknown (w .id) id)
+classLeft w p clock id (At class) = record { result = lookedOn class clock 2 4; listed = entry eventClassFound p 0 id ∷ [] }
 
--- what cannot be entered is left as the one member that it is
-unfoldable pub rootLeft : List ℕ → Notes → Frame → Found → State → ℕ → RootLeft
-rootLeft t x f Nothing st room = nothingOpened 0 0 st
-rootLeft t x f (At p) st room = elim (ltb room 4) [
-  | true ↦ nothingOpened p 1 st
-  | false ↦ elim (eqb (u8 t p) 28) [ true ↦ enteredRoot p st (insideOf t x p f (st .place) Unset) | false ↦ nothingOpened p 1 st ]
+-- 39, room (40), the lookup (37)
+unfoldable pub lookupLeft : List ℕ → Asking → BitPlace → ℕ → ℕ → ℕ → ℕ → LookupLeft
+lookupLeft t w p clock last id room = elim (w .timed && ltb clock last) [
+  | true ↦ refusedLeft ClockWentBack
+  | false ↦ elim (ltb room 4) [
+    | true ↦ refusedLeft ListFull
+    | false ↦ classLeft w p clock id (foundOf (findEventAt t (fragmentsOf t) (w .id) id))
+  ]
 ]
 
-abbrev pub stoppedTurn : Stop → State → Turn
-stoppedTurn v st = record { went = Stopped v; class = 0; used = 0; state = st; from = 0; count = 0; left = 0 }
+-- in the lookup's turn; any other one passes on what came
+unfoldable pub lookedLeft : List ℕ → Asking → ℕ → ℕ → BitPlace → ℕ → ℕ → ℕ → ℕ → LookupLeft
+lookedLeft t w turn class p clock last id room =
+    elim (eqb turn 1) [
+      | true ↦ lookupLeft t w p clock last id room
+      | false ↦ record { result = lookedOn class last turn 0; listed = [] }
+    ]
+
+-- what stopped leaves nothing
+abbrev pub stoppedTurn : Refusal → BitPlace → Turn
+stoppedTurn why p = record { went = Stopped (stopAt why p); used = 0; class = 0; last = 0; turn = 0; run = membersRun 0 0 }
+
+-- behind the lookup, the root that is due is left to be read
+abbrev pub dueTurn : LookedUp → Due → Turn
+dueTurn o d = record { went = On; used = o .used; class = o .class; last = o .last; turn = d .turn; run = d .run }
+
+unfoldable pub turnBehind : List ℕ → Asking → BitPlace → LookedUp → Turn
+turnBehind t w p o = elim (o .on) [ true ↦ dueTurn o (nextDue t w (o .class) (o .turn)) | false ↦ stoppedTurn (o .why) p ]
 
 pub record TurnLeft : Type 0 where
   pub result : Turn
   pub listed : List Entry
 
-abbrev pub stoppedLeft : Stop → State → TurnLeft
-stoppedLeft v st = record { result = stoppedTurn v st; listed = [] }
+-- what the code gives back, and the list behind it, are those
+abbrev pub Gives : TurnLeft → Turn → List ℕ → List ℕ → Type 0
+Gives o r ws ws′ = (r ≡ o .result) × (ws′ ≡ listedInto (o .listed) ws)
 
-unfoldable pub classLeft : Asking → State → Found → TurnLeft
-classLeft w st Nothing = stoppedLeft (stopAt (EventClassUnknown (w .id) (st .said .event)) (st .place)) st
-classLeft w st (At p) = record {
-  result = record { went = On; class = p; used = 4; state = lastState st; from = 0; count = 0; left = depthLimit };
-  listed = entry eventClassFound (st .place) 0 (st .said .event) ∷ [];
-}
+-- a root lists nothing of its own
+abbrev pub behindLookup : List ℕ → Asking → BitPlace → LookupLeft → TurnLeft
+behindLookup t w p o = record { result = turnBehind t w p (o .result); listed = o .listed }
 
--- 39, room (40), the lookup (37)
-unfoldable pub lookupLeft : List ℕ → Asking → State → ℕ → TurnLeft
-lookupLeft t w st room = elim (w .timed && ltb (st .clock .value) (st .last)) [
-  | true ↦ stoppedLeft (stopAt ClockWentBack (st .place)) st
-  | false ↦ elim (ltb room 4) [
-    | true ↦ stoppedLeft (stopAt ListFull (st .place)) st
-    | false ↦ classLeft w st (foundOf (findEventAt t (fragmentsOf t) (w .id) (st .said .event)))
-  ]
-]
-
--- the root whose turn it is; the lookup has none
-unfoldable pub rootFound : List ℕ → Asking → ℕ → ℕ → Found
-rootFound t w zero class = w .header
-rootFound t w (suc zero) class = w .header
-rootFound t w (suc (suc zero)) class = w .common
-rootFound t w (suc (suc (suc zero))) class = foundOf (rootPlace t class 0)
-rootFound t w (suc (suc (suc (suc zero)))) class = foundOf (rootPlace t class 1)
-rootFound t w (suc (suc (suc (suc (suc n))))) class = w .header
-
--- what the opening of a root left is what its turn leaves
-abbrev pub openedTurn : ℕ → Opened → Turn
-openedTurn class o = record { went = On; class = class; used = o .used; state = o .state; from = o .from; count = o .count; left = o .left }
-
-abbrev pub rootTurn : ℕ → RootLeft → TurnLeft
-rootTurn class o = record { result = openedTurn class (o .opened); listed = o .listed }
-
-unfoldable pub turnLeft : List ℕ → Notes → Asking → Frame → ℕ → ℕ → State → ℕ → TurnLeft
-turnLeft t x w f turn class st room =
-    elim (eqb turn 1) [ true ↦ lookupLeft t w st room | false ↦ rootTurn class (rootLeft t x f (rootFound t w turn class) st room) ]
+-- of an event whose class stands at a byte, at a place, with its clock, the last event's, its id, and so many words of room
+unfoldable pub turnLeft : List ℕ → Asking → ℕ → ℕ → BitPlace → ℕ → ℕ → ℕ → ℕ → TurnLeft
+turnLeft t w turn class p clock last id room = behindLookup t w p (lookedLeft t w turn class p clock last id room)

@@ -1,5 +1,6 @@
 mod Roles
 pub mod Round
+pub mod Apart
 mod Walks
-pub mod Turns
-mod Holds
+mod Turns
+pub mod Holds

@@ -23,12 +23,12 @@ use Rattle.rules.specs.Record.{u8}
 use Rattle.rules.specs.Faults.{roles, roleOf}
 use Rattle.rules.specs.Class.{Class, fixed, leb128, signedLeb128, string, staticString, staticBlob, dynamicString, dynamicBlob}
 use Rattle.rules.specs.Class.{structure, staticArray, dynamicArray, flagged, optional, variant}
-use Rattle.rules.specs.Step.{State as Full, Out, stop, go, Step, onto, after, _⨾_, pass, refuse, listed, change, withSlots}
-use Rattle.rules.specs.Field.{Env, read, readFixed, store, role}
+use Rattle.rules.specs.Step.{State as Full, Out, stop, go, Step, onto, after, _⨾_, pass, refuse, listed, change, withSlots, withSaid}
+use Rattle.rules.specs.Field.{Env, read, readFixed, store, say as saying, role}
 use Rattle.facts.specs.Bytes.{Bytes}
 use Rattle.facts.proofs.Truth.{clash}
 use Rattle.facts.proofs.Steps.{listOf, onto-nil, after-onto, seq-assoc, pass-seq}
-use Rattle.class_layout.specs.Trees.{stoodAt, classAt, nextAt, behindMembers, whole}
+use Rattle.class_layout.specs.Trees.{stoodAt, classAt, nextAt, behindMembers, whole, wholeMembers}
 use Rattle.class_layout.specs.Fields.{readFields, onward}
 use Rattle.class_layout.specs.Notes.{Notes, Prepared, SizedClasses}
 use Rattle.class_layout.proofs.Fields.{foremost}
@@ -45,9 +45,11 @@ use Rattle.listing.specs.declared.State.{State}
 use Rattle.listing.specs.declared.Went.{Went}
 use Rattle.listing.specs.declared.Went.the-variants.{On, Stopped}
 use Rattle.listing.specs.declared.role.Roled.{Roled}
-use Rattle.listing.specs.Roled.{Stamp}
+use Rattle.listing.specs.declared.role.Advanced.{Advanced}
+use Rattle.listing.specs.Roled.{Stamp, withEvent, tickedState, advancedBy, listAdvanced}
 use Rattle.listing.specs.Did.{Did, RoleDid, full, outOf}
 use Rattle.listing.proofs.Checks.{no-room-first}
+use Rattle.listing.proofs.Roles.{clock-held, clock-advanced}
 use Rattle.listing.proofs.Parts.{Part, part-step, part-stop, part-length, back-room, listed-length, lent, lent-room, merged}
 use Rattle.leaf_read.specs.Reads.{leafSlot}
 use Rattle.leaf_read.specs.Leaves.{contentOf, LeavesListed, listBehind, leafThen, stopsAt, stoppedLeaves, lastLeaf, behindEntries, leavesRead}
@@ -68,8 +70,8 @@ use Rattle.field_runs.specs.declared.Run.{Run}
 use Rattle.field_runs.specs.Run.{over, free, element, firstAt, countOf, behindRun, openedRun, intoRun}
 use Rattle.field_runs.specs.Ahead.{ahead, WholeRun}
 use Rattle.field_runs.proofs.Cases.{first-member, count-members, element-yes, first-element, into-parts}
-use Rattle.field_runs.proofs.Ahead.{Same, instead, over-reads, sort-reads, sort-stands, behind-reads, behind-stands, tailRead}
-use Rattle.field_runs.proofs.Openings.{Opens, Holds, heldRead, into-opens}
+use Rattle.field_runs.proofs.Ahead.{Same, heldRead, instead, over-reads, sort-reads, sort-stands, behind-reads, behind-stands, tailRead}
+use Rattle.field_runs.proofs.Openings.{Holds, into-opens}
 use Rattle.laws.proofs.Between.{read-between}
 use Rattle.field_read.specs.declared.Field.{Field}
 use Rattle.field_read.specs.Reads.{FieldReads, stateAt}
@@ -110,14 +112,15 @@ Round w r = Kept w (left w r) r
 abbrev pub Stops : Loop → Stop → ℕ → List ℕ → Type 0
 Stops w v n ws = (came : State) (l : Slots) → Did (w .all) came (Stopped v) n came l (w .list) ws
 
--- What falls: the room that is left. Each round lists an entry at least
+-- What falls: the room that is left, which a round that lists takes of, and the steps that a loop has to do without listing: turns that are
+-- left, and runs that were put off. A walk has none of these
 
-abbrev pub roomLeft : ℕ → ℕ → ℕ
-roomLeft words used = words - used
+abbrev pub workLeft : ℕ → ℕ → ℕ → ℕ
+workLeft words used steps = words - used + steps
 
-pub round-falls : (words words′ used used′ : ℕ) → words′ ≡ words → used + 4 ≤ used′ → used′ ≤ words
-    → roomLeft words′ used′ < roomLeft words used
-round-falls words words′ used used′ e some room = omega (arith, e)
+pub round-falls : (words words′ used used′ steps steps′ : ℕ) → words′ ≡ words → used′ ≤ words → used + steps′ < used′ + steps
+    → workLeft words′ used′ steps′ < workLeft words used steps
+round-falls words words′ used used′ steps steps′ e room some = omega (arith, e)
 
 -- Entries put into the list
 
@@ -466,6 +469,29 @@ no-role {w} {m} k n v e h = record {
   part = rw (e, pass-seq m) at (h .part);
 }
 
+-- an event's id is said
+abbrev pub saidEvent : ℕ → State → State
+saidEvent v st = record { place = st .place; order = st .order; clock = st .clock; last = st .last; said = withEvent v (st .said) }
+
+pub event-role : {w : Loop} {m : Step} {r : Run} {ws : List ℕ} {used : ℕ} {st : State} {l : Slots} (k n v : ℕ) → k ≡ 11
+    → Kept w (role (roleOf k) n v ⨾ m) r ws used st l → Kept w m r ws used (saidEvent v st) l
+unfolding _⨾_ after role roleOf roles saying change withSaid
+event-role {w} {m} {r} {ws} {used} {st} {l} k n v e h =
+    let p : Part (w .all) (role (roleOf 11) n v ⨾ m) (w .list) ws used st l = rw e at (h .part) in
+    record {
+      stands = h .stands;
+      noted = h .noted;
+      framed = h .framed;
+      many = h .many;
+      part = record {
+        listed = p .listed;
+        list = p .list;
+        counted = p .counted;
+        room = p .room;
+        rest = p .rest ∙ ap (onto (p .listed)) (onto-nil _);
+      };
+    }
+
 same-full : (p : BitPlace) (o : LastOrder) (q : State) (l : Slots) (n : ℕ) → q .place ≡ p → q .order ≡ o
     → full q l n ≡ full (stateAt p o q) l n
 same-full p o q l n a b = rw (a, b) refl
@@ -506,6 +532,37 @@ role-round {w} {m} {r} {ws} {used} {st} {l} {q} {ys} k n v h did =
             };
           };
     }
+
+-- the clock by numbers
+pub record ClockRound (w : Loop) (m : Step) (r : Run) (ws : List ℕ) (used : ℕ) (st : State) (l : Slots) (a : Advanced) (ys : List ℕ)
+    : Type 0 where
+  pub same : length (merged used ws ys) ≡ length (w .list)
+  pub room : a .on ≡ true → used + 4 ≤ length (w .list)
+  pub stops : a .on ≡ false → Stops w (stopAt (a .why) (st .place)) used (merged used ws ys)
+  pub goes : a .on ≡ true → Kept w m r (merged used ws ys) (used + 4) (tickedState st (a .clock)) l
+
+pub clock-role : {w : Loop} {m : Step} {r : Run} {ws : List ℕ} {used : ℕ} {st : State} {l : Slots} {a : Advanced} {ys : List ℕ} (k n v : ℕ)
+    → k ≡ 7 → Kept w (role (roleOf k) n v ⨾ m) r ws used st l → a ≡ advancedBy n v (st .clock) (length (lent used ws))
+    → ys ≡ listAdvanced (st .place) n a (lent used ws) → ClockRound w m r ws used st l a ys
+unfolding roleOf roles
+clock-role {w} {m} {r} {ws} {used} {st} {l} {a} {ys} k n v is h e f = by (a .on) refl
+  where
+    kept : Kept w (role (roleOf 7) n v ⨾ m) r ws used st l
+    kept = rw is at h
+
+    by : (b : Bool) → a .on ≡ b → ClockRound w m r ws used st l a ys
+    by true on =
+        let q = role-round 7 n v kept (clock-advanced n v st (lent used ws) a ys e f on) in
+        record { same = q .same; room = λ _. q .room; stops = λ off. absurd (clash (sym off ∙ on)); goes = λ _. q .goes refl }
+    by false off =
+        let q = role-round 7 n v kept (clock-held n v st (lent used ws) a ys e f off) in
+        let none : used + 0 ≡ used = omega arith in
+        record {
+          same = q .same;
+          room = λ on. absurd (clash (sym off ∙ on));
+          stops = λ _. rw none at (q .stops _ refl);
+          goes = λ on. absurd (clash (sym off ∙ on));
+        }
 
 -- Fields that are opened
 
@@ -590,78 +647,145 @@ module _ {w : Loop} {r : Run} {ws : List ℕ} {used : ℕ} {st : State} {l : Slo
       let f = h .round .framed in
       record { whole = f .whole; begun = q .begun; within = q .within; ends = f .ends; small = f .small }
 
-  -- its entry is listed, and its parts stand in the run
-  module _ (from n : ℕ) (elements : Bool) (p : BitPlace) (v : ℕ) (framed : Framed (w .stream) (w .frame) p)
-      (holds : Holds d t r (h .round .stands) (h .some) (w .notes .sizes) (u8 t at) from n elements)
-      (reads : read (env w) (classAt d t at) here
-      ≡ (listed (entry (u8 t at) p 0 v) p ⨾ heldRead d t r (h .round .stands) (h .some) (env w) from n elements) here) where
-    abbrev into : Run
-    into = intoRun (u8 t at) r (w .notes .sizes) from n elements
+  -- the field, and then the rest of its run
+  abbrev pub restHere : Run
+  restHere = behindRun r (w .notes .sizes) at (r .todo - 1)
 
-    opens : Opens d t (env w) here (listed (entry (u8 t at) p 0 v) p) r into
-    opens = into-opens d t r (h .round .stands) (h .some) (w .notes .sizes) (u8 t at) from n elements holds (env w) here _ reads
+  some-here : 0 < countOf r
+  some-here = rw (count-members r (h .some)) (h .some)
 
-    opened-round : Round w into (merged used ws (listHolder (u8 t at) p v (lent used ws))) (used + 4) (stateAt p (st .order) st) l
-    unfolding _⨾_ after listed
-    opened-round = record {
-      stands = opens .stands;
-      noted = h .round .noted;
-      framed = framed;
-      many = h .round .many;
-      part = part-put (h .round .part) (entry (u8 t at) p 0 v ∷ []) 4 refl (omega (arith, lent-room used ws, h .room)) refl p (st .order)
-          (left w into) (instead (ahead d t (env w) r) (listed (entry (u8 t at) p 0 v) p) (ahead d t (env w) into) (w .behind) here (opens .reads));
-    }
+  pub holder-part : Part (w .all) (read (env w) (classAt d t at) ⨾ left w restHere) (w .list) ws used st l
+  holder-part = rw (first-member r (h .some), count-members r (h .some)) at (first-part (h .round) some-here)
+
+  pub rest-stands : WholeRun d t restHere
+  rest-stands = rw (first-member r (h .some), count-members r (h .some)) at (first-stands (h .round) some-here)
+
+  -- what it holds, and that it reads its entry and then this
+  pub record Told (p : BitPlace) (v from n : ℕ) (elements : Bool) : Type 0 where
+    pub framed : Framed (w .stream) (w .frame) p
+    pub reads : read (env w) (classAt d t at) here ≡ (listed (entry (u8 t at) p 0 v) p ⨾ heldRead d t (env w) from n elements) here
+    pub class : elements ≡ true → whole d t from
+    pub parts : elements ≡ false → wholeMembers (whole d t) (stoodAt d t) from n
+
+  pub members-told : {p : BitPlace} {v from n : ℕ} → insideHere ≡ Members p v from n → Told p v from n false
+  unfolding Held opened heldRead
+  members-told {p} {v} {from} {n} e =
+      let q : HeldMembers d t (w .frame) (st .place) p from n = rw e at held in
+      record {
+        framed = placed p (q .place);
+        reads = class-reads ∙ ap (λ i. opened (env w) (u8 t at) d t i here) e;
+        class = λ b. absurd (clash b);
+        parts = λ _. q .classes;
+      }
+
+  pub elements-told : {p : BitPlace} {v from n : ℕ} → insideHere ≡ Elements p v from n → Told p v from n true
+  unfolding Held opened heldRead
+  elements-told {p} {v} {from} {n} e =
+      let q : HeldElements d t (w .frame) (st .place) p from = rw e at held in
+      record {
+        framed = placed p (q .place);
+        reads = class-reads ∙ ap (λ i. opened (env w) (u8 t at) d t i here) e;
+        class = λ _. q .class;
+        parts = λ b. absurd (clash (sym b));
+      }
+
+  -- its entry is listed, and then g is left
+  pub entry-put : (p : BitPlace) (v : ℕ) (m g : Step) → Part (w .all) m (w .list) ws used st l
+      → m here ≡ (listed (entry (u8 t at) p 0 v) p ⨾ g) here
+      → Part (w .all) g (w .list) (merged used ws (listHolder (u8 t at) p v (lent used ws))) (used + 4) (stateAt p (st .order) st) l
+  unfolding _⨾_ after listed
+  entry-put p v m g part reads =
+      part-put part (entry (u8 t at) p 0 v ∷ []) 4 refl (omega (arith, lent-room used ws, h .room)) refl p (st .order) g reads
+
+  -- and its parts stand in the run
+  opened-round : {p : BitPlace} {v from n : ℕ} {elements : Bool} → Told p v from n elements
+      → Holds d t r (h .round .stands) (h .some) (w .notes .sizes) (u8 t at) from n elements
+      → Round w (intoRun (u8 t at) r (w .notes .sizes) from n elements) (merged used ws (listHolder (u8 t at) p v (lent used ws)))
+      (used + 4) (stateAt p (st .order) st) l
+  opened-round {p} {v} {from} {n} {elements} q holds =
+      let sizes = w .notes .sizes in
+      let into = intoRun (u8 t at) r sizes from n elements in
+      let m = listed (entry (u8 t at) p 0 v) p in
+      let opens = into-opens d t r (h .round .stands) (h .some) sizes (u8 t at) from n elements holds (env w) here m (q .reads) in
+      record {
+        stands = opens .stands;
+        noted = h .round .noted;
+        framed = q .framed;
+        many = h .round .many;
+        part = entry-put p v (left w r) (left w into) (h .round .part)
+            (instead (ahead d t (env w) r) m (ahead d t (env w) into) (w .behind) here (opens .reads));
+      }
 
   -- what is refused stops the loop
   refused-round : (why : Refusal) → insideHere ≡ Refused why → Stops w (stopAt why (st .place)) used (merged used ws (lent used ws))
   unfolding opened refuse
   refused-round why e came l′ =
-      let some : 0 < countOf r = rw (count-members r (h .some)) (h .some) in
-      let class : classAt d t (firstAt r) ≡ classAt d t at = ap (classAt d t) (first-member r (h .some)) in
-      let reads : read (env w) (classAt d t (firstAt r)) here ≡ stop [] (stopAt why (st .place)) =
-      ap (λ c. read (env w) c here) class ∙ class-reads ∙ ap (λ i. opened (env w) (u8 t at) d t i here) e in
-      let did = first-stops _ _ (first-part (h .round) some) _ reads came l′ in
+      let reads : read (env w) (classAt d t at) here ≡ stop [] (stopAt why (st .place)) =
+      class-reads ∙ ap (λ i. opened (env w) (u8 t at) d t i here) e in
+      let did = first-stops _ _ holder-part _ reads came l′ in
       let same : merged used ws (lent used ws) ≡ ws = unlent used ws in
       rw same did
 
-  -- by what is told of it. An array, or a variant, is opened only where nothing is put off
+  -- by what is told of it
+  pub open-same : (i : Inside) → length (merged used ws (listOpened (u8 t at) i (lent used ws))) ≡ length (w .list)
+  unfolding listOpened
+  open-same (Members p v from n) =
+      put-length (h .round .part) (entry (u8 t at) p 0 v ∷ []) 4 refl (omega (arith, lent-room used ws, h .room)) refl
+  open-same (Elements p v from n) =
+      put-length (h .round .part) (entry (u8 t at) p 0 v ∷ []) 4 refl (omega (arith, lent-room used ws, h .room)) refl
+  open-same (Refused why) = ap length (unlent used ws) ∙ part-length (h .round .part)
+
+  pub open-stops : (i : Inside) → insideHere ≡ i → openedAs (st .place) i .on ≡ false
+      → Stops w (stopAt (openedAs (st .place) i .why) (st .place)) used (merged used ws (listOpened (u8 t at) i (lent used ws)))
+  unfolding openedAs wentIn listOpened
+  open-stops (Members p v from n) e b = absurd (clash (sym b))
+  open-stops (Elements p v from n) e b = absurd (clash (sym b))
+  open-stops (Refused why) e b = refused-round why e
+
+  few-told : (i : Inside) → Held d t (w .frame) (st .place) i → openedAs (st .place) i .elements ≡ false
+      → openedAs (st .place) i .count ≤ length t
+  unfolding Held openedAs wentIn
+  few-told (Members q v from n) k e = members-few d t from n (k .classes)
+  few-told (Elements q v from n) k e = absurd (clash (sym e))
+  few-told (Refused why) k e = omega arith
+
+  pub open-few : openedAs (st .place) insideHere .elements ≡ false → openedAs (st .place) insideHere .count ≤ length t
+  open-few = few-told insideHere held
+
+  -- an array, or a variant, is opened in its run only where nothing is put off
   pub open-round : ((u8 t at ≡ 28 → ⊥) → (u8 t at ≡ 31 → ⊥) → free r ≡ true) → (i : Inside) → insideHere ≡ i → OpenRound w r ws used st l i
-  unfolding Held Ends opened openedAs listOpened wentIn heldRead
+  unfolding Ends openedAs listOpened wentIn
   open-round may (Members p v from n) e =
-      let q : HeldMembers d t (w .frame) (st .place) p from n = rw e at held in
+      let q = members-told e in
       let z : (u8 t at ≡ 32 → n ≡ 1) × ((u8 t at ≡ 32 → ⊥) → behindMembers (stoodAt d t) from n ≡ nextAt d t at) = rw e at ends in
-      let holds : Holds d t r (h .round .stands) (h .some) (w .notes .sizes) (u8 t at) from n false = record {
-        noted = λ d p v. h .round .noted .classes d p v .size;
-        many = λ b. absurd (clash b);
-        one = λ b k. (z .0 k, may (λ x. absurd (omega arith)) (λ x. absurd (omega arith)));
-        parts = λ b. q .classes;
-        ends = λ b k. z .1 k;
-      } in
       record {
-        same = put-length (h .round .part) (entry (u8 t at) p 0 v ∷ []) 4 refl (omega (arith, lent-room used ws, h .room)) refl;
-        stops = λ b. absurd (clash (sym b));
-        goes = λ b. opened-round from n false p v (placed p (q .place)) holds
-            (class-reads ∙ ap (λ i. opened (env w) (u8 t at) d t i here) e);
+        same = open-same (Members p v from n);
+        stops = open-stops (Members p v from n) e;
+        goes = λ b. opened-round q record {
+          noted = λ d p v. h .round .noted .classes d p v .size;
+          many = λ b. absurd (clash b);
+          one = λ b k. (z .0 k, may (λ x. absurd (omega arith)) (λ x. absurd (omega arith)));
+          parts = q .parts;
+          ends = λ b k. z .1 k;
+        };
       }
   open-round may (Elements p v from n) e =
-      let q : HeldElements d t (w .frame) (st .place) p from = rw e at held in
+      let q = elements-told e in
       let z : (u8 t at ≡ 28 → ⊥) × (u8 t at ≡ 31 → ⊥) = rw e at ends in
-      let holds : Holds d t r (h .round .stands) (h .some) (w .notes .sizes) (u8 t at) from n true = record {
-        noted = λ d p v. h .round .noted .classes d p v .size;
-        many = λ b. (may (z .0) (z .1), q .class);
-        one = λ b. absurd (clash (sym b));
-        parts = λ b. absurd (clash (sym b));
-        ends = λ b. absurd (clash (sym b));
-      } in
       record {
-        same = put-length (h .round .part) (entry (u8 t at) p 0 v ∷ []) 4 refl (omega (arith, lent-room used ws, h .room)) refl;
-        stops = λ b. absurd (clash (sym b));
-        goes = λ b. opened-round from n true p v (placed p (q .place)) holds
-            (class-reads ∙ ap (λ i. opened (env w) (u8 t at) d t i here) e);
+        same = open-same (Elements p v from n);
+        stops = open-stops (Elements p v from n) e;
+        goes = λ b. opened-round q record {
+          noted = λ d p v. h .round .noted .classes d p v .size;
+          many = λ b. (may (z .0) (z .1), q .class b);
+          one = λ b. absurd (clash (sym b));
+          parts = q .parts;
+          ends = λ b. absurd (clash (sym b));
+        };
       }
   open-round may (Refused why) e = record {
-    same = ap length (unlent used ws) ∙ part-length (h .round .part);
-    stops = λ b. refused-round why e;
+    same = open-same (Refused why);
+    stops = open-stops (Refused why) e;
     goes = λ b. absurd (clash b);
   }
 
@@ -673,25 +797,13 @@ pub record CodeRound (w : Loop) (r : Run) (ws : List ℕ) (used : ℕ) (st : Sta
   pub goes : o .on ≡ true → Round w (intoRun (u8 (w .table) (r .next)) r (w .notes .sizes) (o .from) (o .count) (o .elements))
       (merged used ws ys) (used + 4) (stateAt (o .place) (st .order) st) l
 
-few-parts : (d : ℕ) (t : List ℕ) (f : Frame) (from p : BitPlace) (i : Inside) → Held d t f from i → openedAs p i .elements ≡ false
-    → openedAs p i .count ≤ length t
-unfolding Held openedAs wentIn
-few-parts d t f from p (Members q v at n) h e = members-few d t at n (h .classes)
-few-parts d t f from p (Elements q v at n) h e = absurd (clash (sym e))
-few-parts d t f from p (Refused why) h e = omega arith
-
 pub code-round : {w : Loop} {r : Run} {ws : List ℕ} {used : ℕ} {st : State} {l : Slots} {c : Content} (h : Holder w r ws used st l c)
     → ((u8 (w .table) (r .next) ≡ 28 → ⊥) → (u8 (w .table) (r .next) ≡ 31 → ⊥) → free r ≡ true) → {o : Opened} {ys : List ℕ}
     → o ≡ openedAs (st .place) (insideHere h) → ys ≡ listOpened (u8 (w .table) (r .next)) (insideHere h) (lent used ws)
     → CodeRound w r ws used st l o ys
-code-round {w} {st = st} h may e f =
+code-round h may e f =
     let q = open-round h may (insideHere h) refl in
-    rw (e, f) record {
-      same = q .same;
-      few = few-parts (w .depths) (w .table) (w .frame) (st .place) (st .place) (insideHere h) (held h);
-      stops = q .stops;
-      goes = q .goes;
-    }
+    rw (e, f) record { same = q .same; few = open-few h; stops = q .stops; goes = q .goes }
 
 -- a structure that was entered
 pub record EnterRound (w : Loop) (r : Run) (ws : List ℕ) (used : ℕ) (st : State) (l : Slots) (o : Entered) (ys : List ℕ) : Type 0 where
@@ -753,10 +865,7 @@ module _ {w : Loop} {r : Run} {ws : List ℕ} {used : ℕ} {st : State} {l : Slo
   unfolding outOf
   field-round {q} {ys} did =
       let d = did .did in
-      let some : 0 < countOf r = rw (count-members r (h .some)) (h .some) in
-      let p : Part (w .all) (read (env w) (classAt (w .depths) (w .table) (r .next))
-      ⨾ left w (behindRun r (w .notes .sizes) (r .next) (r .todo - 1))) (w .list) ws used st l =
-      rw (first-member r (h .some), count-members r (h .some)) at (first-part (h .round) some) in
+      let p = holder-part h in
       let class = classAt (w .depths) (w .table) (r .next) in
       let n = length (lent used ws) - q .used in
       let room : length (lent used ws) ≡ length (w .list) - used = lent-room used ws ∙ ap (λ (n : ℕ). n - used) (part-length p) in
@@ -771,7 +880,7 @@ module _ {w : Loop} {r : Run} {ws : List ℕ} {used : ℕ} {st : State} {l : Slo
         some = λ on. omega (arith, d .counted, lists on);
         stops = λ v off came l′. part-stop (read (env w) _) _ p d v came l′ off;
         goes = λ on. record {
-          stands = rw (first-member r (h .some), count-members r (h .some)) at (first-stands (h .round) some);
+          stands = rest-stands h;
           noted = h .round .noted;
           framed = still-framed (w .stream) (w .uuid) (w .frame) _ l (h .round .framed) on d;
           many = did .many;

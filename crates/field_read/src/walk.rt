@@ -48,7 +48,7 @@ ghost use Rattle.class_layout.specs.Notes.{notes, Prepared};
 ghost use Rattle.field_runs.specs.Ahead.{ahead, WholeRun};
 ghost use Rattle.field_read.specs.Reads.{FieldReads, stoppedField, entered};
 
-const STRUCTURE: u8 = 28;
+pub const STRUCTURE: u8 = 28;
 
 // The field of the class at a byte, which holds fields, where there is room for its entry. `left` depths are left, its own among them.
 pub fn read_field(

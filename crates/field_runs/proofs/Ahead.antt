@@ -6,7 +6,7 @@ use mathlib.Core.Logic.{_⊎_, inl, inr}
 use Prim.Native.Nat.{ℕ, zero, suc, _-_, _<_, _≤_}
 use native.Mathlib.Omega.{arith}
 use mathlib.Core.List.{List}
-use mathlib.Core.Bool.{true, false}
+use mathlib.Core.Bool.{Bool, true, false}
 use lib.Dec.{eqb}
 use borrow.Author.Tests.{eqb-true}
 use Rattle.rules.specs.Step.{State, Step, after, _⨾_, pass}
@@ -19,7 +19,8 @@ use Rattle.class_layout.specs.Fields.{readFields, wholeFields, onward}
 use Rattle.class_layout.specs.Notes.{SizedClasses}
 use Rattle.class_layout.proofs.Standing.{no-member, first}
 use Rattle.field_runs.specs.declared.Run.{Run}
-use Rattle.field_runs.specs.Run.{noArray, membersRun, elementsRun, over, element, firstAt, countOf, forwardRun, behindRun, takenRun}
+use Rattle.field_runs.specs.Run.{membersRun, elementsRun, aloneRun, free, over, element, firstAt, countOf}
+use Rattle.field_runs.specs.Run.{forwardRun, behindRun, takenRun}
 use Rattle.field_runs.specs.Ahead.{ahead, WholeRun}
 use Rattle.field_runs.proofs.Cases.{element-no, first-member, count-members, forward-members, behind-members, taken-members}
 use Rattle.field_runs.proofs.Cases.{element-yes, first-element, count-elements, some-element}
@@ -79,16 +80,31 @@ module _ (d : ℕ) (t : List ℕ) where
   unfolding elementsRun
   elements-stand at n w = record { members = none-whole at; elements = λ h. w; later = none-whole at }
 
+  -- what a field holds reads as many elements or members, in a run of its own
+  unfoldable pub heldRead : Env → ℕ → ℕ → Bool → Step
+  heldRead e from n true = elementsRead e from n
+  heldRead e from n false = membersRead e from n
+
+  pub alone-reads : (e : Env) (from n : ℕ) (b : Bool) → ahead d t e (aloneRun from n b) ≡ heldRead e from n b
+  unfolding aloneRun heldRead
+  alone-reads e from n true = elements-reads e from n
+  alone-reads e from n false = members-reads e from n
+
+  pub alone-stands : (from n : ℕ) (b : Bool) → (b ≡ true → whole d t from) → (b ≡ false → Members from n) → WholeRun d t (aloneRun from n b)
+  unfolding aloneRun
+  alone-stands from n true many parts = elements-stand from n (many refl)
+  alone-stands from n false many parts = members-stand from n (parts refl)
+
   -- Nothing is left
 
   pub over-reads : (e : Env) (r : Run) → over r ≡ true → ahead d t e r ≡ pass
-  unfolding ahead over
+  unfolding ahead over free
   over-reads e r h =
-      let g = and-right (eqb (r .array) noArray) _ h in
-      let f = and-right (eqb (r .todo) 0) _ g in
-      let a = eqb-true (r .todo) 0 (and-left (eqb (r .todo) 0) _ g) in
+      let f = and-right (eqb (r .todo) 0) _ h in
+      let g = and-right (eqb (r .more) 0) _ f in
+      let a = eqb-true (r .todo) 0 (and-left (eqb (r .todo) 0) _ h) in
       let b = eqb-true (r .more) 0 (and-left (eqb (r .more) 0) _ f) in
-      let c = eqb-true (r .rest) 0 (and-right (eqb (r .more) 0) _ f) in
+      let c = eqb-true (r .rest) 0 (and-left (eqb (r .rest) 0) _ g) in
       rw (
         no-members e (r .next) (r .todo) (omega arith),
         no-times (r .more) (read e (classAt d t (r .again))) (omega arith),

@@ -3,7 +3,7 @@ use mathlib.Core.Path.{_≡_, refl, sym, _∙_}
 use Prim.Native.Nat.{ℕ, _+_, _-_, _<_, _≤_}
 use native.Mathlib.Omega.{arith}
 use mathlib.Core.List.{List}
-use mathlib.Core.Bool.{Bool, true, false}
+use mathlib.Core.Bool.{Bool, true, false, _&&_}
 use lib.ListN.{getD}
 use mathlib.Core.Logic.{_⊎_, inl, inr}
 use lib.Dec.{eqb}
@@ -11,8 +11,8 @@ use Rattle.facts.proofs.Numbers.{lt-or-ge}
 use Rattle.facts.proofs.Truth.{clash}
 use borrow.Author.Tests.{eq-eqb, ne-eqb}
 use Rattle.field_runs.specs.declared.Run.{Run}
-use Rattle.field_runs.specs.Run.{optionalKind, variantKind, canOpen, run, noArray, membersRun, free, over, element, firstAt, countOf}
-use Rattle.field_runs.specs.Run.{forwardRun, behindRun, takenRun, openedRun, putOffRun, intoRun}
+use Rattle.field_runs.specs.Run.{optionalKind, variantKind, canOpen, run, noArray, membersRun, elementsRun, aloneRun, free, over}
+use Rattle.field_runs.specs.Run.{element, firstAt, countOf, forwardRun, behindRun, takenRun, openedRun, putOffRun, intoRun}
 
 some-eqb : (n : ℕ) → 0 < n → eqb n 0 ≡ false
 some-eqb n h = ne-eqb n 0 (λ e. omega arith)
@@ -46,9 +46,9 @@ module _ (r : Run) (h : 0 < r .todo) where
   unfolding takenRun element
   taken-members = rw (some-eqb (r .todo) h, takenRun) refl
 
-  pub not-over : r .array ≡ noArray → over r ≡ false
+  pub not-over : over r ≡ false
   unfolding over
-  not-over a = rw (eq-eqb (r .array) noArray a, some-eqb (r .todo) h) refl
+  not-over = rw (some-eqb (r .todo) h) refl
 
 module _ (r : Run) (h : r .todo ≤ 0) where
   pub element-yes : element r ≡ true
@@ -83,21 +83,32 @@ module _ (r : Run) (h : r .todo ≤ 0) where
   unfolding takenRun element
   taken-element = rw (none-eqb (r .todo) h, takenRun) refl
 
-  pub more-over : r .array ≡ noArray → 0 < r .more → over r ≡ false
+  pub over-free : over r ≡ free r
   unfolding over
-  more-over a k = rw (eq-eqb (r .array) noArray a, none-eqb (r .todo) h, some-eqb (r .more) k) refl
+  over-free = rw (none-eqb (r .todo) h) refl
 
-  pub over-rest : r .array ≡ noArray → r .more ≤ 0 → over r ≡ eqb (r .rest) 0
-  unfolding over
-  over-rest a k = rw (eq-eqb (r .array) noArray a, none-eqb (r .todo) h, none-eqb (r .more) k) refl
+-- an element that is open, whatever is put off
+pub array-free : (r : Run) → (r .array ≡ noArray → ⊥) → free r ≡ false
+unfolding free
+array-free r h = rw (ne-eqb (r .array) noArray h) (by (eqb (r .more) 0) (eqb (r .rest) 0))
+  where
+    by : (b d : Bool) → (b && (d && false)) ≡ false
+    by true true = refl
+    by true false = refl
+    by false d = refl
+
+-- where none is, nothing put off is left to ask for
+pub free-rest : (r : Run) → r .more ≤ 0 → r .array ≡ noArray → free r ≡ eqb (r .rest) 0
+unfolding free
+free-rest r h k = rw (none-eqb (r .more) h, eq-eqb (r .array) noArray k) (by (eqb (r .rest) 0))
+  where
+    by : (b : Bool) → (b && true) ≡ b
+    by true = refl
+    by false = refl
 
 members-over : (at n : ℕ) → n ≤ 0 → over (membersRun at n) ≡ true
-unfolding over membersRun
+unfolding over free membersRun
 members-over at n h = rw (none-eqb n h) refl
-
-pub array-over : (r : Run) → (r .array ≡ noArray → ⊥) → over r ≡ false
-unfolding over
-array-over r h = rw (ne-eqb (r .array) noArray h) refl
 
 -- what came forward and is not over has a first field
 pub forward-some : (r : Run) → over (forwardRun r) ≡ false → 0 < countOf (forwardRun r)
@@ -135,6 +146,15 @@ open-optional k r e = rw (eq-eqb k optionalKind e, canOpen) refl
 pub open-free : (k : ℕ) (r : Run) → (k ≡ optionalKind → ⊥) → canOpen k r ≡ free r
 unfolding canOpen
 open-free k r e = rw (ne-eqb k optionalKind e, canOpen) refl
+
+-- what a field holds, in a run of its own
+pub alone-elements : (at n : ℕ) (b : Bool) → b ≡ true → aloneRun at n b ≡ elementsRun at n
+unfolding aloneRun
+alone-elements at n b e = rw e refl
+
+pub alone-members : (at n : ℕ) (b : Bool) → b ≡ false → aloneRun at n b ≡ membersRun at n
+unfolding aloneRun
+alone-members at n b e = rw e refl
 
 -- what `into` picks
 pub into-elements : (k : ℕ) (r : Run) (s : List ℕ) (from n : ℕ) (b : Bool) → b ≡ true → intoRun k r s from n b ≡ putOffRun r s from n from

@@ -21,7 +21,7 @@ use Rattle.field_runs.specs.Run.{variantKind, noArray, free, openedRun, 
 use Rattle.field_runs.specs.Ahead.{ahead, WholeRun}
 use Rattle.field_runs.proofs.Cases.{into-elements, into-variant, into-parts}
 use Rattle.field_runs.proofs.Ahead.{stood, membersRead, elementsRead, Members, no-members, no-times, none-whole}
-use Rattle.field_runs.proofs.Ahead.{restRead, member-reads, instead}
+use Rattle.field_runs.proofs.Ahead.{heldRead, restRead, member-reads, instead}
 
 -- at a state a run reads m, and then what another one does, which stands whole
 pub record Opens (d : ℕ) (t : List ℕ) (e : Env) (s : State) (m : Step) (r r′ : Run) : Type 0 where
@@ -108,10 +108,6 @@ module _ (d : ℕ) (t : List ℕ) (r : Run) (w : WholeRun d t r) (h : 0 < r .tod
     pub parts : elements ≡ false → Members d t from n
     pub ends : elements ≡ false → (k ≡ variantKind → ⊥) → behindMembers (stood d t) from n ≡ nextAt d t (r .next)
 
-  unfoldable pub heldRead : Env → ℕ → ℕ → Bool → Step
-  heldRead e from n true = elementsRead d t e from n
-  heldRead e from n false = membersRead d t e from n
-
   one-element : (e : Env) (at : ℕ) → elementsRead d t e at 1 ≡ membersRead d t e at 1
   unfolding times readMembers membersAt
   one-element e at = refl
@@ -121,7 +117,7 @@ module _ (d : ℕ) (t : List ℕ) (r : Run) (w : WholeRun d t r) (h : 0 < r .tod
   one-whole at v = v .0
 
   pub into-opens : (sizes : List ℕ) (k from n : ℕ) (elements : Bool) → Holds sizes k from n elements → (e : Env) (s : State) (m : Step)
-      → read e (classAt d t (r .next)) s ≡ (m ⨾ heldRead e from n elements) s → Opens d t e s m r (intoRun k r sizes from n elements)
+      → read e (classAt d t (r .next)) s ≡ (m ⨾ heldRead d t e from n elements) s → Opens d t e s m r (intoRun k r sizes from n elements)
   unfolding heldRead
   into-opens sizes k from n true q e s m h =
       let a = q .many refl in

@@ -28,12 +28,17 @@ membersRun at n = run at n at 0 at 0 noArray
 unfoldable pub elementsRun : ℕ → ℕ → Run
 elementsRun at n = run at 0 at n at 0 at
 
+-- what a field holds, in a run of its own: elements of one class, or members
+unfoldable pub aloneRun : ℕ → ℕ → Bool → Run
+aloneRun at n true = elementsRun at n
+aloneRun at n false = membersRun at n
+
 -- nothing comes behind the members, and no element ends with them; nothing is left at all, and no element is open
 unfoldable pub free : Run → Bool
 free r = eqb (r .more) 0 && (eqb (r .rest) 0 && eqb (r .array) noArray)
 
 unfoldable pub over : Run → Bool
-over r = eqb (r .array) noArray && (eqb (r .todo) 0 && (eqb (r .more) 0 && eqb (r .rest) 0))
+over r = eqb (r .todo) 0 && free r
 
 -- what a first member of the kind k holds can be read in its run
 unfoldable pub canOpen : ℕ → Run → Bool

@@ -7,7 +7,7 @@ ghost use mathlib.Core.Path.{_≡_};
 ghost use mathlib.Core.Bool.{false};
 ghost use Prim.Native.Nat.{_+_, _<_, _^_};
 ghost use lib.ListN.{length};
-ghost use Rattle.field_runs.specs.Run.{membersRun, elementsRun, free, over, element, firstAt, countOf};
+ghost use Rattle.field_runs.specs.Run.{membersRun, elementsRun, aloneRun, free, over, element, firstAt, countOf};
 ghost use Rattle.field_runs.specs.Run.{canOpen, forwardRun, behindRun, takenRun, openedRun, putOffRun, intoRun};
 
 // `todo` classes one behind the other from the byte `next` on; then the class at `again`, `more` times; then `rest` classes from `later`
@@ -59,17 +59,27 @@ pub fn elements(at: usize, count: usize) -> Run
     }
 }
 
+// What a field holds, in a run of its own: elements of one class, or members.
+pub fn alone(at: usize, count: usize, many: bool) -> Run
+    ensures { λ r. ⌜ r ≡ aloneRun at count many ⌝ }
+{
+    if many {
+        return elements(at, count);
+    }
+    members(at, count)
+}
+
 // Whether nothing is left, and no element is open: `forward` closes one behind which nothing is left.
 pub fn is_over(run: Run) -> bool
     ensures { λ r. ⌜ r ≡ over run ⌝ }
 {
+    if run.todo != 0 {
+        return false;
+    }
+    if run.more != 0 {
+        return false;
+    }
     if run.array != NO_ARRAY {
-        return false;
-    }
-    if 0 < run.todo {
-        return false;
-    }
-    if 0 < run.more {
         return false;
     }
     run.rest == 0

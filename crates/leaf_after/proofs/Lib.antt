@@ -1,3 +1,2 @@
 pub mod Seeing
 pub mod Fits
-pub mod Done

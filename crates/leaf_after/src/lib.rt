@@ -1,18 +1,18 @@
-// Leaves, fields that hold no other: kinds 16 to 27. Here: what is done with what is seen of a leaf, entry, slot and role, and the law that
-// seeing it and doing that is the rules' reading. What is seen of each kind is in the crates above: leaf_see_number, kinds 16 to 22;
-// leaf_see_bytes, 23 to 27.
-use listing::State;
-use listing::Went;
+// Leaves, fields that hold no other: kinds 16 to 27. Here: what is seen of a leaf and what is due of it, entry, slot and role; and the law
+// that seeing it and doing that is the rules' reading. What is seen of each kind is in the crates above: leaf_see_number, kinds 16 to 22;
+// leaf_see_bytes, 23 to 27; and leaf_read does it, of leaves one after another.
 use rules::BitPlace;
 use rules::Content;
 use rules::Entry;
 use rules::LastOrder;
 use rules::Refusal;
 
-pub mod after;
+pub const NO_SLOT: u8 = 255;
 
-// What is due of a leaf: its entry; the order that is the packet's last behind it; which slot becomes what, 255 is none; and the role of its
-// value, which has `width` bits as a timestamp.
+pub const NO_ROLE: u8 = 0;
+
+// What is due of a leaf: its entry; the order that is the packet's last behind it; which slot becomes what, 255 is none; and the role of
+// its value, which has `width` bits as a timestamp.
 pub struct Due {
     pub entry: Entry,
     pub order: LastOrder,
@@ -28,15 +28,6 @@ pub enum Seen {
     Field(Due),
     OtherUuid(Entry),
     Stops(Refusal),
-}
-
-// What a leaf did: how it went, the words that it listed, the state behind it, and which slot becomes what; 255 is none.
-pub struct Leaf {
-    pub went: Went,
-    pub used: usize,
-    pub state: State,
-    pub slot: u8,
-    pub content: Content,
 }
 
 // What some leaves did: whether it went on, or why not; the class of the last one that was begun, and how many are left behind it, or with

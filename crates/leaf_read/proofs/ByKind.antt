@@ -8,7 +8,7 @@ use mathlib.Core.Bool.{Bool, true, false}
 use lib.Dec.{eqb}
 use mathlib.Core.Logic.{⊎-elim}
 use lib.ListN.{length}
-use borrow.Author.Tests.{lt-ltb, le-ltb, eq-eqb, ne-eqb}
+use borrow.Author.Tests.{le-ltb, eq-eqb, ne-eqb}
 use Rattle.rules.specs.declared.BitPlace.{BitPlace}
 use Rattle.rules.specs.declared.ByteLength.{ByteLength}
 use Rattle.rules.specs.declared.LastOrder.{LastOrder}
@@ -22,7 +22,7 @@ use Rattle.rules.specs.Class.{Sort, bitArray, boolean, unsignedInt, signedInt, 
 use Rattle.rules.specs.Record.{bitField, u8, u16}
 use Rattle.rules.specs.Parse.{orderOf}
 use Rattle.rules.specs.Slots.{Slots, slotAt}
-use Rattle.rules.specs.Step.{State as Whole, Step}
+use Rattle.rules.specs.Step.{State as Whole}
 use Rattle.rules.specs.Field.{read, valueOf}
 use Rattle.facts.specs.Bytes.{Bytes}
 use Rattle.facts.proofs.Numbers.{lt-or-ge}
@@ -38,23 +38,18 @@ use Rattle.leaf_find_bytes.proofs.Lies.{string-ends, text-ends, blob-ends, blob
 use Rattle.slots.specs.declared.Length.{Length}
 use Rattle.slots.specs.declared.Length.the-variants.{Of, NotOf}
 use Rattle.slots.specs.Taken.{lengthOf}
-use Rattle.listing.specs.declared.State.{State}
-use Rattle.listing.specs.Did.{full}
-use Rattle.leaf_after.specs.declared.Leaf.{Leaf}
 use Rattle.leaf_after.specs.declared.Seen.{Seen}
 use Rattle.leaf_after.specs.declared.Due.{Due}
 use Rattle.leaf_after.specs.declared.Seen.the-variants.{Field, Stops}
 use Rattle.leaf_after.specs.Seeing.{Fits, done, seen, fixedSeen, lebSeen, plainSeen, blobSeen, forLength}
-use Rattle.leaf_after.specs.Done.{LeafDid}
-use Rattle.leaf_after.proofs.Done.{set-idle, set-none, set-apart}
 use Rattle.leaf_after.proofs.Seeing.{fixed-read, unsigned-read, signed-read, string-read, static-string-read, static-blob-read}
 use Rattle.leaf_after.proofs.Seeing.{dynamic-string-read, dynamic-blob-read}
 use Rattle.leaf_after.proofs.Fits.{fixed-fits, unsigned-fits, signed-fits, plain-fits, blob-fits}
 use Rattle.leaf_see_number.specs.Extends.{Extends}
 use Rattle.leaf_see_bytes.specs.Within.{Within}
 use Rattle.class_layout.specs.Trees.{shapes, shapeOf, recordSize, stoodAt, fixedAt, classIn, classAt, whole, wholeIn}
-use Rattle.leaf_read.specs.Reads.{LeafReads, leafSlot}
-use Rattle.leaf_read.specs.Seen.{Apart, LeafSeen, bitsSeenAt, dynamicSeen, seenIn, seenAt}
+use Rattle.leaf_read.specs.Reads.{leafSlot}
+use Rattle.leaf_read.specs.Seen.{LeafSeen, bitsSeenAt, dynamicSeen, seenIn, seenAt}
 
 -- a kind that is none of the n kinds from a on, as `match` says it
 abbrev pub NoneOf : ℕ → ℕ → ℕ → Type 0
@@ -151,11 +146,6 @@ module _ (t : List ℕ) (at : ℕ) where
   unfolding leafSlot
   slot-of k e h l s = rw (e, le-ltb k 26 h, leafSlot) at s
 
--- kinds below 26 read no slot
-none-read : (t : List ℕ) (at : ℕ) {k : ℕ} → u8 t at ≡ k → k < 26 → (y : Seen) → Apart (leafSlot t at) y
-unfolding leafSlot
-none-read t at {k} e h y small d is = absurd (omega (arith, rw (e, lt-ltb k 26 h, leafSlot) at small))
-
 -- what names no slot sets none
 pub plain-apart : (k : ℕ) (o : LastOrder) (x : Found) (d : Due) → seen x (plainSeen k o) ≡ Field d → slotCount ≤ d .slot
 unfolding seen plainSeen
@@ -209,27 +199,25 @@ module _ (b u : List ℕ) (f : Frame) (t : List ℕ) (at : ℕ) (p : BitPlace) (
 
   -- y is what is seen from a place on, with an order as the last
   by-class : (c : Class) (y : BitPlace → LastOrder → Seen) → classAt 1 t at ≡ c → this ≡ y p o → Fits (y p o)
-      → Apart (leafSlot t at) (y p o)
       → ((s : Whole) → 4 ≤ s .room → length (s .slots) ≡ slotCount → slotAt (s .slots) (leafSlot t at) ≡ x
       → read (envOf b u f) c s ≡ done (y (s .place) (s .order)) s)
       → SeesAt b u f t at x p o this
-  by-class c y e is fits apart law = record {
+  by-class c y e is fits law = record {
     same = λ s room long slot place order.
         rw (e) (law s room long slot ∙ ap (λ q. done (y q (s .order)) s) place ∙ ap (λ l. done (y p l) s) order
         ∙ ap (λ z. done z s) (sym is));
     fits = rw (is) fits;
-    apart = rw (is) apart;
   }
 
   bits-sees : (k : Sort) (i ro : ℕ) → classAt 1 t at ≡ fixedAt k t at i ro → this ≡ bitsSeenAt t b f at p o k i ro
-      → (ro ≡ 7 → (m v : ℕ) → valueOf k m v ≡ v) → u8 t at < 21 → SeesAt b u f t at x p o this
+      → (ro ≡ 7 → (m v : ℕ) → valueOf k m v ≡ v) → SeesAt b u f t at x p o this
   unfolding read bitsSeenAt
-  bits-sees k i ro c is same low =
+  bits-sees k i ro c is same =
       let d = orderOf (u8 t (at + 2)) in
       let w = u8 t (at + 1) in
       let a = 2 ^ u8 t (at + 3) in
       by-class _ (λ q l. seen (foundBits b f q l w d a) (fixedSeen k d i ro)) c is
-      (fixed-fits framed o w d a k i ro same) (none-read t at refl (omega arith) _)
+      (fixed-fits framed o w d a k i ro same)
       (λ s room long slot. fixed-read b u f s room k w d a i ro)
 
   -- kinds 26 and 27
@@ -255,31 +243,31 @@ module _ (b u : List ℕ) (f : Frame) (t : List ℕ) (at : ℕ) (p : BitPlace) (
     sees : (i : ℕ) → i < 12 → Sees i
     unfolding shapeOf shapes classIn seenIn valueOf dynamicSeen
     sees = below Sees 12
-        ((λ k. bits-sees bitArray noSlot 0 (class-of t at 16 k) (is 16 k) (λ z. no-role z) (omega (arith, k)))
-        ▷ (λ k. bits-sees boolean (u8 t (at + 4)) 0 (class-of t at 17 k) (is 17 k) (λ z. no-role z) (omega (arith, k)))
-        ▷ (λ k. bits-sees unsignedInt (u8 t (at + 4)) (u8 t (at + 5)) (class-of t at 18 k) (is 18 k) (λ z m v. refl) (omega (arith, k)))
-        ▷ (λ k. bits-sees signedInt (u8 t (at + 4)) 0 (class-of t at 19 k) (is 19 k) (λ z. no-role z) (omega (arith, k)))
-        ▷ (λ k. bits-sees float noSlot 0 (class-of t at 20 k) (is 20 k) (λ z. no-role z) (omega (arith, k)))
+        ((λ k. bits-sees bitArray noSlot 0 (class-of t at 16 k) (is 16 k) (λ z. no-role z))
+        ▷ (λ k. bits-sees boolean (u8 t (at + 4)) 0 (class-of t at 17 k) (is 17 k) (λ z. no-role z))
+        ▷ (λ k. bits-sees unsignedInt (u8 t (at + 4)) (u8 t (at + 5)) (class-of t at 18 k) (is 18 k) (λ z m v. refl))
+        ▷ (λ k. bits-sees signedInt (u8 t (at + 4)) 0 (class-of t at 19 k) (is 19 k) (λ z. no-role z))
+        ▷ (λ k. bits-sees float noSlot 0 (class-of t at 20 k) (is 20 k) (λ z. no-role z))
         ▷ (λ k. by-class _ (λ q l. seen (foundUnsigned b f q) (lebSeen 21 Unsigned l (u8 t (at + 1)) (u8 t (at + 2))))
-        (class-of t at 21 k) (is 21 k) (unsigned-fits framed bytes o _ _) (none-read t at k (omega arith) _)
+        (class-of t at 21 k) (is 21 k) (unsigned-fits framed bytes o _ _)
         (λ s room long slot. unsigned-read b u f s room _ _))
         ▷ (λ k. by-class _ (λ q l. seen (foundSigned b f q) (lebSeen 22 Signed l (u8 t (at + 1)) 0))
-        (class-of t at 22 k) (is 22 k) (signed-fits framed o _) (none-read t at k (omega arith) _)
+        (class-of t at 22 k) (is 22 k) (signed-fits framed o _)
         (λ s room long slot. signed-read b u f s room _))
         ▷ (λ k. by-class _ (λ q l. seen (foundString b f q) (plainSeen 23 l))
-        (class-of t at 23 k) (is 23 k) (plain-fits 23 o _ (string-ends framed refl)) (none-read t at k (omega arith) _)
+        (class-of t at 23 k) (is 23 k) (plain-fits 23 o _ (string-ends framed refl))
         (λ s room long slot. string-read b u f s room long))
         ▷ (λ k. by-class _ (λ q l. seen (foundText b f q (u16 t (at + 1))) (plainSeen 24 l))
-        (class-of t at 24 k) (is 24 k) (plain-fits 24 o _ (text-ends framed _ refl)) (none-read t at k (omega arith) _)
+        (class-of t at 24 k) (is 24 k) (plain-fits 24 o _ (text-ends framed _ refl))
         (λ s room long slot. static-string-read b u f s room long _))
         ▷ (λ k. by-class _ (λ q l. seen (foundBlob f q (u16 t (at + 1))) (blobSeen b u (u8 t (at + 3)) l))
-        (class-of t at 25 k) (is 25 k) (blob-fits b u o _ _ (blob-ends framed _ refl)) (none-read t at k (omega arith) _)
+        (class-of t at 25 k) (is 25 k) (blob-fits b u o _ _ (blob-ends framed _ refl))
         (λ s room long slot. static-blob-read b u f s room long _ _))
         ▷ (λ k. by-class _ (dynamically b f x 26)
-        (class-of t at 26 k) (is 26 k) (dynamic-fits 26) (λ h d. dynamic-apart b f p o 26 (lengthOf x) d)
+        (class-of t at 26 k) (is 26 k) (dynamic-fits 26)
         (λ s room long slot. dynamic-string-read b u f s room long _ ∙ rw (slot-of t at 26 k (omega arith) (s .slots) slot) refl))
         ▷ (λ k. by-class _ (dynamically b f x 27)
-        (class-of t at 27 k) (is 27 k) (dynamic-fits 27) (λ h d. dynamic-apart b f p o 27 (lengthOf x) d)
+        (class-of t at 27 k) (is 27 k) (dynamic-fits 27)
         (λ s room long slot. dynamic-blob-read b u f s room long _ ∙ rw (slot-of t at 27 k (omega arith) (s .slots) slot) refl))
         ▷ tt)
 
@@ -317,13 +305,3 @@ module _ (b : List ℕ) (f : Frame) (p : BitPlace) (o : LastOrder) {x y : Length
     pub blob-seen : (k ≡ 26 → ⊥) → seen (foundBlob f p (n .0)) (plainSeen k o) ≡ forLength y (dynamicSeen b f p o k)
     unfolding forLength dynamicSeen
     blob-seen h = rw (← is, e, ne-eqb k 26 h, dynamicSeen) refl
-
--- what was done with what is seen
-pub seen-did : {m : Step} {i : ℕ} {x : Content} {st : State} {y : Seen} {r : Leaf} {ws ws′ : List ℕ}
-    → LeafSeen m i x (st .place) (st .order) y → 4 ≤ length ws → LeafDid y st r ws ws′ → LeafReads m i x st r ws ws′
-seen-did {st = st} {y} {r} {ws} sees room did = record {
-  at = λ l long slot. rw (sees .same (full st l (length ws)) room long slot refl refl) (did .at l long);
-  none = λ v off. rw (did .slot, off, set-none y v) (omega arith);
-  apart = λ h. rw (did .slot) (set-apart y (r .went) (sees .apart h));
-  idle = λ h. rw (did .slot, did .content) (set-idle y (r .went) (rw (did .slot) at h));
-}

@@ -1,5 +1,5 @@
 -- What is seen of a leaf: by the content of the slot that it reads, from a place on, with the packet's last order.
-use Prim.Native.Nat.{ℕ, _+_, _^_, _<_, _≤_}
+use Prim.Native.Nat.{ℕ, _+_, _^_, _≤_}
 use mathlib.Core.Path.{_≡_}
 use mathlib.Core.List.{List}
 use mathlib.Core.Bool.{true, false}
@@ -21,22 +21,16 @@ use Rattle.slots.specs.Taken.{lengthOf}
 use Rattle.leaf_find_number.specs.declared.Frame.{Frame}
 use Rattle.leaf_find_number.specs.Found.{foundBits, foundUnsigned, foundSigned}
 use Rattle.leaf_find_bytes.specs.Found.{foundString, foundText, foundBlob}
-use Rattle.leaf_after.specs.declared.Due.{Due}
 use Rattle.leaf_after.specs.declared.Seen.{Seen}
-use Rattle.leaf_after.specs.declared.Seen.the-variants.{Field, Stops}
+use Rattle.leaf_after.specs.declared.Seen.the-variants.{Stops}
 use Rattle.leaf_after.specs.Seeing.{Fits, done, seen, fixedSeen, lebSeen, plainSeen, blobSeen, forLength}
 use Rattle.class_layout.specs.Trees.{shapeOf}
-
--- a leaf that reads a slot sets none
-abbrev pub Apart : ℕ → Seen → Type 0
-Apart i r = i < slotCount → (d : Due) → r ≡ Field d → slotCount ≤ d .slot
 
 -- to do what is seen is m, whatever the slots hold but the one that is read
 pub record LeafSeen (m : Step) (i : ℕ) (x : Content) (p : BitPlace) (o : LastOrder) (r : Seen) : Type 0 where
   pub same : (s : State) → 4 ≤ s .room → length (s .slots) ≡ slotCount → slotAt (s .slots) i ≡ x → s .place ≡ p → s .order ≡ o
       → m s ≡ done r s
   pub fits : Fits r
-  pub apart : Apart i r
 
 -- What is seen, by the bytes of the class's record; t is the table, b the stream, u the UUID, x what the slot holds that is read
 

@@ -1,9 +1,7 @@
-// The leaf of the class at a byte of the table: it is found by the numbers of its record, and what is seen of it is told by its kind. Each
+// Leaves of the classes at bytes of the table: each is found by the numbers of its record, and what is seen of it is told by its kind. Each
 // number is read where it is needed; what the check of the table has shown of it is not tested again.
-use leaf_after::Leaf;
 use leaf_after::Leaves;
 use leaf_after::Seen;
-use leaf_after::after::finish;
 use leaf_find_bytes::find_blob;
 use leaf_find_bytes::find_string;
 use leaf_find_bytes::find_text;
@@ -20,7 +18,6 @@ use leaf_see_number::fixed::signed;
 use leaf_see_number::fixed::unsigned;
 use leaf_see_number::leb::signed_leb;
 use leaf_see_number::leb::unsigned_leb;
-use listing::State;
 use listing::entry::write;
 use rules::BitPlace;
 use rules::ByteLength;
@@ -39,14 +36,13 @@ ghost use Prim.Native.Nat.{_+_, _≤_, _<_};
 ghost use lib.ListN.{length, getD};
 ghost use Rattle.rules.specs.Record.{u8};
 ghost use Rattle.rules.specs.Parse.{orderOf};
-ghost use Rattle.rules.specs.Field.{read};
-ghost use Rattle.leaf_find_number.specs.Framed.{Framed, envOf};
+ghost use Rattle.leaf_find_number.specs.Framed.{Framed};
 ghost use Rattle.slots.specs.Taken.{lengthOf};
 ghost use Rattle.leaf_after.specs.Seeing.{forLength};
-ghost use Rattle.class_layout.specs.Trees.{whole, classAt};
+ghost use Rattle.class_layout.specs.Trees.{whole};
 ghost use Rattle.class_layout.specs.Fields.{onward};
 ghost use Rattle.class_layout.specs.Notes.{SizedClasses};
-ghost use Rattle.leaf_read.specs.Reads.{Held, LeafReads, leafSlot};
+ghost use Rattle.leaf_read.specs.Reads.{Held, leafSlot};
 ghost use Rattle.leaf_read.specs.Seen.{seenAt, BitsSeen, dynamicSeen};
 ghost use Rattle.leaf_read.specs.Leaves.{contentOf, stoppedLeaves, listBehind, leavesEnd, leavesRead, Standing};
 
@@ -87,36 +83,6 @@ pub fn leaf_slot(table: &[u8], at: usize) -> usize
     wide(table[at + 1])
 }
 
-// The leaf at a byte, where there is room for its entry. `content` is what the slot holds that it reads, unset where it reads none.
-pub fn read_leaf(
-    table: &[u8],
-    at: usize,
-    uuid: &[u8],
-    stream: &[u8],
-    frame: Frame,
-    st: State,
-    content: Content,
-    list: &mut [u64],
-) -> Leaf
-    requires { ⌜ whole 1 (now table) at ⌝ }
-    requires { ⌜ u8 (now table) at < 28 ⌝ }
-    requires { ⌜ Framed (now stream) frame (st .place) ⌝ }
-    requires { ⌜ 4 ≤ length (now list) ⌝ }
-    requires { ⌜ Held (leafSlot (now table) at) content ⌝ }
-    ensures { λ r. ⌜
-        LeafReads (read (envOf (now (stream .entry)) (now (uuid .entry)) frame) (classAt 1 (now (table .entry)) at))
-        (leafSlot (now (table .entry)) at) content st r (now (list .entry)) (now (list .exit))
-        ⌝ }
-{
-    let place = st.place;
-    let order = st.order;
-    finish(
-        see_leaf(table, at, uuid, stream, frame, place, order, content),
-        st,
-        list,
-    )
-}
-
 // Leaves that stand one behind the other, or the one at a byte `again` and again: of `count` as many as there is room for, up to and with
 // the first that sets a slot or has a role, or in front of one that reads a slot or holds fields. The first is a leaf, with room for its
 // entry; `content` is what the slot holds that it reads, unset where it reads none. Entries and places are done; slot and role are not.
@@ -144,8 +110,8 @@ pub fn read_leaves(
         (length (now (list .entry)))) .leaves
         ⌝ }
     ensures { λ _. ⌜
-        now (list .exit) ≡ listBehind (leavesRead again (now (table .entry)) (now (stream .entry)) (now (uuid .entry)) frame content from count
-        begun last (length (now (list .entry)))) (now (list .entry))
+        now (list .exit) ≡ listBehind (leavesRead again (now (table .entry)) (now (stream .entry)) (now (uuid .entry)) frame content from
+        count begun last (length (now (list .entry)))) (now (list .entry))
         ⌝ }
 {
     let mut at = from;

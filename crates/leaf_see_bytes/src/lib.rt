@@ -1,8 +1,8 @@
 // What is seen of a leaf that is bytes, kinds 23 to 27, once it is found or refused: none sets a slot, and a static BLOB alone has a role.
 use leaf_after::Due;
+use leaf_after::NO_ROLE;
+use leaf_after::NO_SLOT;
 use leaf_after::Seen;
-use leaf_after::after::NO_ROLE;
-use leaf_after::after::NO_SLOT;
 use leaf_find_number::find::Found;
 use rules::Content;
 use rules::Entry;

@@ -1,8 +1,8 @@
 // Kinds 16 to 20, which leave their order as the packet's last.
 use leaf_after::Due;
+use leaf_after::NO_ROLE;
+use leaf_after::NO_SLOT;
 use leaf_after::Seen;
-use leaf_after::after::NO_ROLE;
-use leaf_after::after::NO_SLOT;
 use leaf_find_number::find::Found;
 use rules::Content;
 use rules::Entry;

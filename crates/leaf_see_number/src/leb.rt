@@ -1,7 +1,7 @@
 // Kinds 21 and 22, which leave the packet's last order as it was: "L the field's bits (7 times its bytes for LEB128)" (Reading)
 use leaf_after::Due;
+use leaf_after::NO_ROLE;
 use leaf_after::Seen;
-use leaf_after::after::NO_ROLE;
 use leaf_find_number::find::Found;
 use rules::Content;
 use rules::Entry;

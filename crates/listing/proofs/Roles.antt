@@ -1,13 +1,14 @@
 -- What each role does, and that the code's answers are the rules'.
 use Prim.Native.Nat.{ℕ, _-_, _<_, _≤_}
 use native.Mathlib.Omega.{arith}
-use mathlib.Core.Path.{_≡_, refl, sym, ap, _∙_}
+use mathlib.Core.Path.{_≡_, refl, ap, _∙_}
 use mathlib.Core.List.{List, [], _∷_, _++_}
 use mathlib.Core.Logic.{⊎-elim}
 use mathlib.Core.Bool.{Bool, true, false}
 use mathlib.Core.Option.{Option, none, some}
 use lib.Dec.{eqb}
 use lib.ListN.{length, drop, List·getD-eq-default}
+use borrow.Author.Tests.{lt-ltb, le-ltb}
 use Rattle.rules.specs.declared.Entry.{Entry}
 use Rattle.rules.specs.declared.Stop.{Stop}
 use Rattle.rules.specs.declared.Refusal.the-variants.{WrongMagic, ListFull, ClockTooLarge}
@@ -15,31 +16,43 @@ use Rattle.rules.specs.Limits.{magicNumber}
 use Rattle.rules.specs.Class.{noRole, magic, streamClassId, totalLength, contentLength, clock, endClock, eventClassId}
 use Rattle.rules.specs.Clock.{clockAfter}
 use Rattle.rules.specs.Slots.{Slots}
-use Rattle.rules.specs.Entry.{entry, words, clockAdvanced}
+use Rattle.rules.specs.Entry.{words}
 use Rattle.rules.specs.Faults.{roles, roleOf}
 use Rattle.rules.specs.Step.{Out, stop, go, Step, onto, after, _⨾_, pass, refuse, listed, change, withClock, withSaid}
 use Rattle.rules.specs.Field.{role, newClock, say}
 use Rattle.facts.proofs.Numbers.{lt-or-ge}
 use Rattle.facts.proofs.Cases.{_▷_, below}
 use Rattle.clock.specs.declared.Clock.{Clock}
-use Rattle.clock.specs.declared.Ticked.{Ticked}
 use Rattle.clock.specs.declared.Ticked.the-variants.{To, TooLarge}
 use Rattle.clock.specs.Ticked.{tickedOf}
 use Rattle.listing.specs.declared.State.{State}
 use Rattle.listing.specs.declared.Went.the-variants.{On, Stopped}
+use Rattle.listing.specs.declared.role.Advanced.{Advanced}
 use Rattle.listing.specs.Did.{Did, full, outOf, RoleDid}
-use Rattle.listing.specs.Roled.{onDone, saidDone, stoppedDone, magicDone, tickedState, withStream, withTotal, withContent, withEnding, withEvent}
+use Rattle.listing.specs.Roled.{onDone, saidDone, stoppedDone, magicDone, withStream, withTotal, withContent, withEnding, withEvent}
+use Rattle.listing.specs.Roled.{tickedState, heldAt, steppedTo, advancedBy, listAdvanced, advancedRole}
 use Rattle.listing.proofs.Checks.{check-stops, check-goes, room-first, no-room-first}
 
-too-large : (x : Option ℕ) → tickedOf x ≡ TooLarge → x ≡ none
-unfolding tickedOf
-too-large none e = refl
-too-large (some n) e = let z : _≡_ {A = ℕ} 0 1 = cc in absurd (omega arith)
+-- The clock by numbers: by the room, and by what the new one is
 
-not-too-large : (x : Option ℕ) (c : Clock) → tickedOf x ≡ To c → x ≡ some (c .value)
-unfolding tickedOf
-not-too-large none c e = let z : _≡_ {A = ℕ} 0 1 = cc in absurd (omega arith)
-not-too-large (some n) c e = let same : record { value = n } ≡ c = cc in rw (← same) refl
+pub advanced-full : (w v : ℕ) (c : Clock) (room : ℕ) → room < 4 → advancedBy w v c room ≡ heldAt ListFull c
+unfolding advancedBy
+advanced-full w v c room h = rw (lt-ltb _ _ h, advancedBy) refl
+
+pub advanced-room : (w v : ℕ) (c : Clock) (room : ℕ) → 4 ≤ room → advancedBy w v c room ≡ steppedTo (clockAfter (c .value) w v) c
+unfolding advancedBy
+advanced-room w v c room h = rw (le-ltb _ _ h, advancedBy) refl
+
+pub stepped-too-large : (x : Option ℕ) (c : Clock) → tickedOf x ≡ TooLarge → steppedTo x c ≡ heldAt ClockTooLarge c
+unfolding tickedOf steppedTo
+stepped-too-large none c e = refl
+stepped-too-large (some n) c e = let z : _≡_ {A = ℕ} 0 1 = cc in absurd (omega arith)
+
+pub stepped-on : (x : Option ℕ) (c next : Clock) → tickedOf x ≡ To next
+    → steppedTo x c ≡ record { on = true; why = ClockTooLarge; clock = next }
+unfolding tickedOf steppedTo
+stepped-on none c next e = let z : _≡_ {A = ℕ} 0 1 = cc in absurd (omega arith)
+stepped-on (some n) c next e = let same : record { value = n } ≡ next = cc in rw (← same) refl
 
 -- Three ways of a step
 
@@ -126,27 +139,39 @@ module _ (w v : ℕ) (st : State) (ws : List ℕ) where
 
   -- the clock, by what the new one is
 
-  pub clock-no-room : length ws < 4 → RoleDid (role clock w v) st (stoppedDone ListFull st) ws ws
-  unfolding role refuse
-  clock-no-room h = record { at = λ l. went-no-further _ st l _ ws (no-room-first _ _ h) }
+  abbrev AdvancedDid : Advanced → Type 0
+  AdvancedDid a = RoleDid (role clock w v) st (advancedRole st a) ws (listAdvanced (st .place) w a ws)
 
-  module _ (h : 4 ≤ length ws) (t : Ticked) (e : t ≡ tickedOf (clockAfter (st .clock .value) w v)) where
-    after-room : (l : Slots) (x : Option ℕ) → clockAfter (st .clock .value) w v ≡ x →
-        role clock w v (full st l (length ws)) ≡ newClock w x (full st l (length ws))
-    unfolding role
-    after-room l x is = room-first _ _ h ∙ ap (λ y. newClock w y (full st l (length ws))) is
+  advanced-none : length ws < 4 → AdvancedDid (heldAt ListFull (st .clock))
+  unfolding role refuse advancedRole listAdvanced
+  advanced-none h = record { at = λ l. went-no-further _ st l _ ws (no-room-first _ _ h) }
 
-    pub clock-too-large : t ≡ TooLarge → RoleDid (role clock w v) st (stoppedDone ClockTooLarge st) ws ws
-    unfolding newClock refuse
-    clock-too-large told = record {
-      at = λ l.
-          went-no-further _ st l _ ws (after-room l none (too-large _ (sym e ∙ told)));
-    }
+  after-room : (l : Slots) (x : Option ℕ) → 4 ≤ length ws → clockAfter (st .clock .value) w v ≡ x
+      → role clock w v (full st l (length ws)) ≡ newClock w x (full st l (length ws))
+  unfolding role
+  after-room l x h is = room-first _ _ h ∙ ap (λ y. newClock w y (full st l (length ws))) is
 
-    pub clock-advanced : (next : Clock) (ws′ : List ℕ) → t ≡ To next → ws′ ≡ words (entry clockAdvanced (st .place) w (next .value) ∷ []) ++ drop 4 ws →
-        RoleDid (role clock w v) st (record { went = On; used = 4; state = tickedState st next }) ws ws′
-    unfolding newClock _⨾_ after onto listed change withClock
-    clock-advanced next ws′ told is = record {
-      at = λ l.
-          went-listing _ st _ l _ ws ws′ (after-room l (some (next .value)) (not-too-large _ next (sym e ∙ told))) is h;
-    }
+  advanced-some : 4 ≤ length ws → (x : Option ℕ) → clockAfter (st .clock .value) w v ≡ x → AdvancedDid (steppedTo x (st .clock))
+  unfolding newClock refuse _⨾_ after onto listed change withClock advancedRole listAdvanced steppedTo
+  advanced-some h none is = record { at = λ l. went-no-further _ st l _ ws (after-room l none h is) }
+  advanced-some h (some n) is = record { at = λ l. went-listing _ st _ l _ ws _ (after-room l (some n) h is) refl h }
+
+  pub advanced-did : AdvancedDid (advancedBy w v (st .clock) (length ws))
+  advanced-did = ⊎-elim
+      (λ (h : length ws < 4). rw (advanced-full w v (st .clock) (length ws) h) (advanced-none h))
+      (λ (h : 4 ≤ length ws). rw (advanced-room w v (st .clock) (length ws) h) (advanced-some h _ refl))
+      (lt-or-ge (length ws) 4)
+
+  -- the same of what the code says, by whether it advanced
+  module _ (a : Advanced) (ws′ : List ℕ) (e : a ≡ advancedBy w v (st .clock) (length ws)) (f : ws′ ≡ listAdvanced (st .place) w a ws) where
+    advanced-told : RoleDid (role clock w v) st (advancedRole st a) ws ws′
+    advanced-told = rw (f, e) advanced-did
+
+    pub clock-held : a .on ≡ false → RoleDid (role clock w v) st (stoppedDone (a .why) st) ws ws′
+    unfolding advancedRole
+    clock-held off = rw (off, advancedRole) at advanced-told
+
+    pub clock-advanced : a .on ≡ true
+        → RoleDid (role clock w v) st (record { went = On; used = 4; state = tickedState st (a .clock) }) ws ws′
+    unfolding advancedRole
+    clock-advanced on = rw (on, advancedRole) at advanced-told

@@ -1,17 +1,24 @@
--- What a role that lists nothing does.
+-- What a role does: one that lists nothing, and the clock's.
 use Prim.Native.Nat.{ℕ, _^_, _<_}
 use mathlib.Core.Path.{_≡_}
+use mathlib.Core.List.{List, [], _∷_, _++_}
 use mathlib.Core.Bool.{true, false}
-use lib.Dec.{eqb}
+use mathlib.Core.Option.{Option, none, some}
+use lib.Dec.{eqb, ltb}
+use lib.ListN.{drop}
+use Rattle.rules.specs.declared.BitPlace.{BitPlace}
 use Rattle.rules.specs.declared.Refusal.{Refusal}
-use Rattle.rules.specs.declared.Refusal.the-variants.{WrongMagic}
+use Rattle.rules.specs.declared.Refusal.the-variants.{WrongMagic, ListFull, ClockTooLarge}
 use Rattle.rules.specs.declared.Said.{Said}
 use Rattle.rules.specs.declared.Stated.the-variants.{As}
-use Rattle.clock.specs.declared.Clock.{Clock}
+use Rattle.rules.specs.Clock.{clockAfter}
+use Rattle.rules.specs.Entry.{entry, words, clockAdvanced}
 use Rattle.rules.specs.Limits.{magicNumber}
+use Rattle.clock.specs.declared.Clock.{Clock}
 use Rattle.listing.specs.declared.State.{State}
 use Rattle.listing.specs.declared.Went.the-variants.{On, Stopped}
 use Rattle.listing.specs.declared.role.Roled.{Roled}
+use Rattle.listing.specs.declared.role.Advanced.{Advanced}
 
 abbrev pub onDone : State → Roled
 onDone st = record { went = On; used = 0; state = st }
@@ -27,6 +34,26 @@ magicDone v st = elim (eqb v magicNumber) [ true ↦ onDone st | false ↦ stopp
 
 abbrev pub tickedState : State → Clock → State
 tickedState st c = record { place = st .place; order = st .order; clock = c; last = st .last; said = st .said }
+
+-- the clock by numbers: no room (40), then a clock above 64 bits (36), which both leave it as it was; else the new one
+abbrev pub heldAt : Refusal → Clock → Advanced
+heldAt why c = record { on = false; why = why; clock = c }
+
+unfoldable pub steppedTo : Option ℕ → Clock → Advanced
+steppedTo none c = heldAt ClockTooLarge c
+steppedTo (some n) c = record { on = true; why = ClockTooLarge; clock = record { value = n } }
+
+unfoldable pub advancedBy : ℕ → ℕ → Clock → ℕ → Advanced
+advancedBy w v c room = elim (ltb room 4) [ true ↦ heldAt ListFull c | false ↦ steppedTo (clockAfter (c .value) w v) c ]
+
+-- the list behind it: entry 6, "place after the field, L, clock"
+unfoldable pub listAdvanced : BitPlace → ℕ → Advanced → List ℕ → List ℕ
+listAdvanced p w a ws = elim (a .on) [ true ↦ words (entry clockAdvanced p w (a .clock .value) ∷ []) ++ drop 4 ws | false ↦ ws ]
+
+-- the same with a state
+unfoldable pub advancedRole : State → Advanced → Roled
+advancedRole st a =
+    elim (a .on) [ true ↦ record { went = On; used = 4; state = tickedState st (a .clock) } | false ↦ stoppedDone (a .why) st ]
 
 -- what each role says, as the rules change it
 abbrev pub withStream : ℕ → Said → Said

@@ -4,6 +4,7 @@ use crate::Went;
 use crate::entry;
 use clock::Clock;
 use clock::Ticked;
+use rules::BitPlace;
 use rules::Entry;
 use rules::Refusal;
 use rules::Said;
@@ -11,11 +12,13 @@ use rules::Stated;
 use rules::Stop;
 ghost use mathlib.Core.Path.{_≡_};
 ghost use Prim.Native.Nat.{_<_, _^_};
+ghost use lib.ListN.{length};
 ghost use Rattle.rules.specs.Faults.{roleOf};
 ghost use Rattle.rules.specs.Class.{clock};
 ghost use Rattle.rules.specs.Field.{role as roleStep};
 ghost use Rattle.listing.specs.Did.{RoleDid};
-ghost use Rattle.listing.specs.Roled.{onDone, saidDone, stoppedDone, magicDone, tickedState, Stamp, withStream, withTotal, withContent, withEnding, withEvent};
+ghost use Rattle.listing.specs.Roled.{onDone, saidDone, stoppedDone, magicDone, tickedState, heldAt, advancedBy, listAdvanced};
+ghost use Rattle.listing.specs.Roled.{Stamp, withStream, withTotal, withContent, withEnding, withEvent};
 
 const MAGIC: u8 = 1;
 
@@ -43,6 +46,13 @@ pub struct Roled {
     pub state: State,
 }
 
+// A clock that a stamp advances: whether it does, if not why not, and the clock behind it.
+pub struct Advanced {
+    pub on: bool,
+    pub why: Refusal,
+    pub clock: Clock,
+}
+
 // The role of a number, which has `width` bits as a timestamp.
 pub fn apply(role: u8, width: u64, value: u64, st: State, list: &mut [u64]) -> Roled
     requires { ⌜ Stamp role width value ⌝ }
@@ -53,7 +63,7 @@ pub fn apply(role: u8, width: u64, value: u64, st: State, list: &mut [u64]) -> R
         STREAM_CLASS_ID => say(st, with_stream(st.said, value)),
         TOTAL_LENGTH => say(st, with_total(st.said, value)),
         CONTENT_LENGTH => say(st, with_content(st.said, value)),
-        CLOCK => advance(width, value, st, list),
+        CLOCK => tick(width, value, st, list),
         END_CLOCK => say(st, with_ending(st.said, value)),
         EVENT_CLASS_ID => say(st, with_event(st.said, value)),
         _ => on(st),
@@ -70,18 +80,18 @@ fn check_magic(value: u64, st: State) -> Roled
     stopped(Refusal::WrongMagic, st)
 }
 
-// "entry 6 shows it": "place after the field, L, clock" (The list)
-fn advance(width: u64, value: u64, st: State, list: &mut [u64]) -> Roled
+// The clock's role by numbers: "entry 6 shows it": "place after the field, L, clock" (The list)
+pub fn advance(place: BitPlace, width: u64, value: u64, clock: Clock, list: &mut [u64]) -> Advanced
     requires { ⌜ value < 2 ^ width ⌝ }
-    ensures { λ r. ⌜ RoleDid (roleStep clock width value) st r (now (list .entry)) (now (list .exit)) ⌝ }
+    ensures { λ r. ⌜
+        (r ≡ advancedBy width value clock (length (now (list .entry)))) × (now (list .exit) ≡ listAdvanced place width r (now (list .entry)))
+        ⌝ }
 {
     if list.len() < 4 {
-        return stopped(Refusal::ListFull, st);
+        return held(Refusal::ListFull, clock);
     }
-    let place = st.place;
-    let clock = st.clock;
     match clock.after(value, width) {
-        Ticked::TooLarge => stopped(Refusal::ClockTooLarge, st),
+        Ticked::TooLarge => held(Refusal::ClockTooLarge, clock),
         Ticked::To(next) => {
             entry::write(
                 list,
@@ -92,12 +102,41 @@ fn advance(width: u64, value: u64, st: State, list: &mut [u64]) -> Roled
                     value: next.value,
                 },
             );
-            Roled {
-                went: Went::On,
-                used: 4,
-                state: with_clock(st, next),
+            Advanced {
+                on: true,
+                why: Refusal::ClockTooLarge,
+                clock: next,
             }
         }
+    }
+}
+
+// The clock stays as it was.
+fn held(why: Refusal, clock: Clock) -> Advanced
+    ensures { λ r. ⌜ r ≡ heldAt why clock ⌝ }
+{
+    Advanced {
+        on: false,
+        why,
+        clock,
+    }
+}
+
+// The clock's role, with a state.
+fn tick(width: u64, value: u64, st: State, list: &mut [u64]) -> Roled
+    requires { ⌜ value < 2 ^ width ⌝ }
+    ensures { λ r. ⌜ RoleDid (roleStep clock width value) st r (now (list .entry)) (now (list .exit)) ⌝ }
+{
+    let a = advance(st.place, width, value, st.clock, list);
+    if !a.on {
+        let why = a.why;
+        return stopped(why, st);
+    }
+    let clock = a.clock;
+    Roled {
+        went: Went::On,
+        used: 4,
+        state: with_clock(st, clock),
     }
 }
 

@@ -1,5 +1,5 @@
--- No slack, of what hands no slots on: as of every step, whatever the slots behind it are. A turn of an event is given by a definition.
-use mathlib.Core.Path.{_≡_, sym, _∙_}
+-- No slack, of what hands no slots on: as of every step, whatever the slots behind it are.
+use mathlib.Core.Path.{_≡_}
 use Prim.Native.Nat.{ℕ}
 use mathlib.Core.List.{List}
 use lib.ListN.{length}
@@ -11,7 +11,8 @@ use Rattle.outcome.specs.declared.Ran.{Ran}
 use Rattle.promises.specs.OnlyRan.{NoSlackRan}
 use Rattle.promises.proofs.Only.{did-same}
 
-ran-same : (o : Out) (st : State) (ws : List ℕ) (l l′ : Slots) (r r′ : Ran) (vs vs′ : List ℕ) → Did o st (r .went) (r .used) (r .state) l ws vs
+ran-same : (o : Out) (st : State) (ws : List ℕ) (l l′ : Slots) (r r′ : Ran) (vs vs′ : List ℕ)
+    → Did o st (r .went) (r .used) (r .state) l ws vs
     → Did o st (r′ .went) (r′ .used) (r′ .state) l′ ws vs′ → (r ≡ r′) × (vs ≡ vs′)
 ran-same o st ws l l′ r r′ vs vs′ d d′ =
     let x = did-same o st ws _ _ _ _ _ _ l l′ vs vs′ d d′ in
@@ -19,7 +20,6 @@ ran-same o st ws l l′ r r′ vs vs′ d d′ =
 
 pub no-slack-ran : NoSlackRan
 no-slack-ran = record {
-  turn = λ t x w f turn class st ws. record { same = λ r r′ vs vs′ d d′. (d .only ∙ sym (d′ .only), d .list ∙ sym (d′ .list)) };
   ran = λ o st ws. record { same = λ r r′ vs vs′ d d′. ran-same o st ws _ _ r r′ vs vs′ (d .did) (d′ .did) };
   event = λ m st l ws. record { same = λ r r′ vs vs′ d d′. ran-same (m (full st l (length ws))) st ws _ _ r r′ vs vs′ (d .did) (d′ .did) };
   packet = λ m st ws. record {

@@ -3,15 +3,11 @@
 use mathlib.Core.Path.{_≡_}
 use Prim.Native.Nat.{ℕ, _<_, _≤_}
 use mathlib.Core.List.{List}
-use Rattle.rules.specs.declared.Content.{Content}
 use Rattle.rules.specs.Slots.{Slots}
 use Rattle.rules.specs.Step.{Step}
 use Rattle.clock.specs.declared.Clock.{Clock}
 use Rattle.listing.specs.declared.State.{State}
 use Rattle.listing.specs.Did.{RoleDid}
-use Rattle.leaf_after.specs.declared.Seen.{Seen}
-use Rattle.leaf_after.specs.Done.{LeafDid}
-use Rattle.leaf_read.specs.Reads.{Held, LeafReads}
 use Rattle.field_read.specs.Reads.{FieldReads}
 use Rattle.class_layout.specs.Sizes.{Opens}
 use Rattle.class_layout.specs.Notes.{Notes, Made, Reaches}
@@ -44,11 +40,8 @@ pub record NoSlack : Type 0 where
   pub streams : (x b b′ ws vs : List ℕ) (r r′ : Both) (wr wr′ vr vr′ : List ℕ)
       → TwoStreams x b b′ (call (r .first) ws wr) (call (r .second) vs vr)
       → TwoStreams x b b′ (call (r′ .first) ws wr′) (call (r′ .second) vs vr′) → (r ≡ r′) × (wr ≡ wr′) × (vr ≡ vr′)
-  -- a role, a leaf, a field
+  -- a role, a field
   pub role : (m : Step) (st : State) (ws : List ℕ) → OnlyBoth (λ r ws′. RoleDid m st r ws ws′)
-  pub leaf : (x : Seen) (st : State) (ws : List ℕ) → OnlyBoth (λ r ws′. LeafDid x st r ws ws′)
-  -- a leaf by what the slot i holds that it reads
-  pub leaf-at : (m : Step) (i : ℕ) (x : Content) → Held i x → (st : State) (ws : List ℕ) → OnlyBoth (λ r ws′. LeafReads m i x st r ws ws′)
   pub field : (m : Step) (st : State) (l : Slots) (ws : List ℕ) → OnlyBoth (λ r ws′. FieldReads m st l r ws ws′)
   -- how far a class reaches
   pub reach : (t : List ℕ) (x : Notes) (p : ℕ) → Only (λ r. Reaches t x p r)

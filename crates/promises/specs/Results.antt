@@ -15,6 +15,7 @@ use Rattle.clock.specs.declared.Ticked.{Ticked}
 use Rattle.slots.specs.declared.Length.{Length}
 use Rattle.slots.specs.declared.Number.{Number}
 use Rattle.listing.specs.declared.State.{State}
+use Rattle.listing.specs.declared.role.Advanced.{Advanced}
 use Rattle.table_offsets.specs.declared.Body.{Body}
 use Rattle.table_offsets.specs.declared.Walk.{Walk}
 use Rattle.table_offsets.specs.declared.Says.{Says}
@@ -29,13 +30,14 @@ use Rattle.field_inside.specs.declared.opening.Opened.{Opened}
 use Rattle.field_inside.specs.declared.opening.Entered.{Entered}
 use Rattle.field_runs.specs.declared.Run.{Run}
 use Rattle.outcome.specs.declared.Ran.{Ran}
+use Rattle.event_turns.specs.declared.Turn.{Turn}
 
 pub data Answer : Type 0 where
   number test list : Answer
   bitPlace byteLength leb ended content said checked result : Answer
-  ticked length slotNumber state : Answer
+  ticked length slotNumber state advanced : Answer
   body walk says tablePlace : Answer
-  frame found seen leaves choice inside opened entered run ran : Answer
+  frame found seen leaves choice inside opened entered run ran turn : Answer
 
 unfoldable pub Of : Answer → Type 0
 Of number = ℕ
@@ -53,6 +55,7 @@ Of ticked = Ticked
 Of length = Length
 Of slotNumber = Number
 Of state = State
+Of advanced = Advanced
 Of body = Body
 Of walk = Walk
 Of says = Says
@@ -67,3 +70,4 @@ Of opened = Opened
 Of entered = Entered
 Of run = Run
 Of ran = Ran
+Of turn = Turn

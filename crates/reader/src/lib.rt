@@ -173,7 +173,7 @@ fn no_aligns() -> [u8; 65536]
 
 // "every place empty at first" (request 10)
 fn empty_index() -> [u32; PLACES]
-    ensures { λ r. ⌜ r ≡ replicate 1024 0 ⌝ }
+    ensures { λ r. ⌜ r ≡ replicate 4096 0 ⌝ }
 {
     [0; PLACES]
 }

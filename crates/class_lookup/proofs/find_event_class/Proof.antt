@@ -9,7 +9,7 @@ use Rattle.class_lookup.proofs.find_event_class.Statement.{statement}
 use Rattle.class_lookup.proofs.find_event_class.Tie as tie
 
 abbrev Inv-loop : tie.InvT-loop
-Inv-loop table sizes index stream id at₀ left₀ at left = (at < 1024) × (left ≤ 1024)
+Inv-loop table sizes index stream id at₀ left₀ at left = (at < 4096) × (left ≤ 4096)
 
 abbrev μ-loop : tie.MeasureT-loop
 μ-loop table sizes index stream id at₀ left₀ at left = left

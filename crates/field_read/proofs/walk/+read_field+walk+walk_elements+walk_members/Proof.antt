@@ -80,7 +80,7 @@ use Rattle.field_runs.specs.Run.{countOf}
 use Rattle.field_runs.proofs.Cases.{forward-some, open-free}
 use Rattle.field_runs.proofs.Ahead.{forward-same, sort-stands, taken-first, taken-same, members-stand, elements-stand}
 use Rattle.field_runs.proofs.Ahead.{members-reads as members-reads-ahead, elements-reads as elements-reads-ahead}
-use Rattle.field_read.proofs.Round.{Loop, left, Kept, Round, roomLeft, round-falls, same-round, round-full, first-there}
+use Rattle.field_read.proofs.Round.{Loop, left, Kept, Round, workLeft, round-falls, same-round, round-full, first-there}
 use Rattle.field_read.proofs.Round.{LeavesRound, leaves-round, stored, no-role, RoleRound, role-round}
 use Rattle.field_read.proofs.Round.{Holder, CodeRound, code-round, EnterRound, enter-round, FieldRound, field-round}
 use Rattle.field_read.proofs.Walks.{walkLoop, walk-start, walk-stopped, walk-end}
@@ -312,7 +312,7 @@ walk-Inv-loop table sizes aligns uuid stream frame left st given list₀ state�
 
 abbrev walk-μ-loop : walk-lts.MeasureT-loop
 walk-μ-loop table sizes aligns uuid stream frame left st given list₀ state₀ place₀ order₀ slots₀ used₀ run₀ list state place order slots used run =
-    roomLeft (length list) used
+    workLeft (length list) used 0
 
 abbrev In-walk : (t : ℕ)
     → (walk-lts.Claims → In 6 walk-kinds.ps → Out 6 walk-kinds.ps walk-kinds.r → walk-lts.InvT-loop → walk-lts.MeasureT-loop → Type 0) → Type 0
@@ -579,8 +579,8 @@ walk-loop-less t c =
     let l = c .before .before .before .before .before .before .before .before .before .before .before .before .before .before .before .before .before .before .before .before .before .before .before .before .before .before .before .before .before .before .before .before .loop in
     let y = leaves t (c .before .before .before .before .before .before .before .before .before .before .before .before .before .before .before .before .before .before .before) in
     let used = l .used + c .before .before .before .before .before .before .before .before .before .before .before .before .before .before .before .before .before .before .before .read-leaves .result .used + c .before .before .before .before .before .before .apply .result .used in
-    round-falls (length (l .list)) _ (l .used) used (applied t (c .before .before .before .before .before .before) .same ∙ sym (within t (c .before .before .before .before .before .before .before .before .before .before .before .before .before .before .before .before .before .before .before .before .before .before .before .before .before .before .before .before .before) .1))
-    (omega (arith, y .some (not-false _ (c .before .before .before .before .before .before .before .before .before .before .before .before .before .if5 .left)))) (omega (arith, applied t (c .before .before .before .before .before .before) .room, within t (c .before .before .before .before .before .before .before .before .before .before .before .before .before .before .before .before .before .before .before .before .before .before .before .before .before .before .before .before .before) .1))
+    round-falls (length (l .list)) _ (l .used) used 0 0 (applied t (c .before .before .before .before .before .before) .same ∙ sym (within t (c .before .before .before .before .before .before .before .before .before .before .before .before .before .before .before .before .before .before .before .before .before .before .before .before .before .before .before .before .before) .1))
+    (omega (arith, applied t (c .before .before .before .before .before .before) .room, within t (c .before .before .before .before .before .before .before .before .before .before .before .before .before .before .before .before .before .before .before .before .before .before .before .before .before .before .before .before .before) .1)) (omega (arith, y .some (not-false _ (c .before .before .before .before .before .before .before .before .before .before .before .before .before .if5 .left))))
 
 walk-loop-again : (t : ℕ) → In-walk t walk-lts.Need-loop-again
 walk-loop-again t c =
@@ -590,8 +590,8 @@ walk-loop-less-2 : (t : ℕ) → In-walk t walk-lts.Need-loop-less-2
 walk-loop-less-2 t c =
     let l = c .before .before .before .before .before .before .before .before .before .before .before .before .before .before .before .before .before .before .before .before .before .before .before .loop in
     let y = leaves t (c .before .before .before .before .before .before .before .before .before .before) in
-    round-falls (length (l .list)) _ (l .used) (l .used + c .before .before .before .before .before .before .before .before .before .before .read-leaves .result .used) (y .same ∙ sym (within t (c .before .before .before .before .before .before .before .before .before .before .before .before .before .before .before .before .before .before .before .before) .1))
-    (omega (arith, y .some (not-false _ (c .before .before .before .before .if5 .left)))) (omega (arith, y .room, within t (c .before .before .before .before .before .before .before .before .before .before .before .before .before .before .before .before .before .before .before .before) .1))
+    round-falls (length (l .list)) _ (l .used) (l .used + c .before .before .before .before .before .before .before .before .before .before .read-leaves .result .used) 0 0 (y .same ∙ sym (within t (c .before .before .before .before .before .before .before .before .before .before .before .before .before .before .before .before .before .before .before .before) .1))
+    (omega (arith, y .room, within t (c .before .before .before .before .before .before .before .before .before .before .before .before .before .before .before .before .before .before .before .before) .1)) (omega (arith, y .some (not-false _ (c .before .before .before .before .if5 .left))))
 
 walk-loop-again-2 : (t : ℕ) → In-walk t walk-lts.Need-loop-again-2
 walk-loop-again-2 t c =
@@ -718,8 +718,8 @@ walk-add-used-3 t c = omega (arith, within t (c .before .before .before .before 
 walk-loop-less-3 : (t : ℕ) → In-walk t walk-lts.Need-loop-less-3
 walk-loop-less-3 t c =
     let l = c .before .before .before .before .before .before .before .before .before .before .before .before .before .before .before .before .before .before .before .loop in
-    round-falls (length (l .list)) _ (l .used) (l .used + 4) (structure t (c .before .before .before .before .before .before .before .before) .same ∙ sym (within t (c .before .before .before .before .before .before .before .before .before .before .before .before .before .before .before .before) .1)) (omega arith)
-    (omega (arith, c .before .before .before .before .before .before .before .before .before .before .before .before .before .before .before .if2 .left))
+    round-falls (length (l .list)) _ (l .used) (l .used + 4) 0 0 (structure t (c .before .before .before .before .before .before .before .before) .same ∙ sym (within t (c .before .before .before .before .before .before .before .before .before .before .before .before .before .before .before .before) .1))
+    (omega (arith, c .before .before .before .before .before .before .before .before .before .before .before .before .before .before .before .if2 .left)) (omega arith)
 
 walk-loop-again-3 : (t : ℕ) → In-walk t walk-lts.Need-loop-again-3
 unfolding u8
@@ -821,8 +821,8 @@ walk-add-used-4 t c = omega (arith, within t (c .before .before .before .before 
 walk-loop-less-4 : (t : ℕ) → In-walk t walk-lts.Need-loop-less-4
 walk-loop-less-4 t c =
     let l = c .before .before .before .before .before .before .before .before .before .before .before .before .before .before .before .before .before .before .before .before .before .loop in
-    round-falls (length (l .list)) _ (l .used) (l .used + 4) (opening t (c .before .before .before .before .before .before) .same ∙ sym (within t (c .before .before .before .before .before .before .before .before .before .before .before .before .before .before .before .before .before .before) .1)) (omega arith)
-    (omega (arith, c .before .before .before .before .before .before .before .before .before .before .before .before .before .before .before .before .before .if2 .left))
+    round-falls (length (l .list)) _ (l .used) (l .used + 4) 0 0 (opening t (c .before .before .before .before .before .before) .same ∙ sym (within t (c .before .before .before .before .before .before .before .before .before .before .before .before .before .before .before .before .before .before) .1))
+    (omega (arith, c .before .before .before .before .before .before .before .before .before .before .before .before .before .before .before .before .before .if2 .left)) (omega arith)
 
 walk-loop-again-4 : (t : ℕ) → In-walk t walk-lts.Need-loop-again-4
 unfolding u8
@@ -905,8 +905,8 @@ walk-loop-less-5 : (t : ℕ) → In-walk t walk-lts.Need-loop-less-5
 walk-loop-less-5 t c =
     let l = c .before .before .before .before .before .before .before .before .before .before .before .before .before .before .before .before .before .before .before .before .before .before .before .before .before .before .loop in
     let y = field t (c .before .before .before .before .before .before .before .before .before .before) in
-    round-falls (length (l .list)) _ (l .used) (l .used + c .before .before .before .before .before .before .before .before .before .before .read-field .result .used) (y .same ∙ sym (within t (c .before .before .before .before .before .before .before .before .before .before .before .before .before .before .before .before .before .before .before .before .before .before .before) .1))
-    (omega (arith, y .some (c .before .before .before .before .before .enum-told2 .given .1))) (omega (arith, y .room, within t (c .before .before .before .before .before .before .before .before .before .before .before .before .before .before .before .before .before .before .before .before .before .before .before) .1))
+    round-falls (length (l .list)) _ (l .used) (l .used + c .before .before .before .before .before .before .before .before .before .before .read-field .result .used) 0 0 (y .same ∙ sym (within t (c .before .before .before .before .before .before .before .before .before .before .before .before .before .before .before .before .before .before .before .before .before .before .before) .1))
+    (omega (arith, y .room, within t (c .before .before .before .before .before .before .before .before .before .before .before .before .before .before .before .before .before .before .before .before .before .before .before) .1)) (omega (arith, y .some (c .before .before .before .before .before .enum-told2 .given .1)))
 
 walk-loop-again-5 : (t : ℕ) → In-walk t walk-lts.Need-loop-again-5
 walk-loop-again-5 t c =

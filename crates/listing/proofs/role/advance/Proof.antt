@@ -6,16 +6,17 @@ use Rattle.listing.proofs.role.advance.Reads as reads
 use Rattle.listing.proofs.role.advance.Lts as lts
 use Rattle.clock.proofs.Clock.after.Reads as after-reads
 use Rattle.listing.proofs.entry.write.Reads as write-reads
-use Rattle.listing.proofs.role.stopped.Reads as stopped-reads
-use Rattle.listing.proofs.role.with_clock.Reads as with-clock-reads
-use native.Mathlib.Omega.{arith}
-use Rattle.listing.proofs.Roles.{clock-no-room, clock-too-large, clock-advanced}
+use Rattle.listing.proofs.role.held.Reads as held-reads
+use mathlib.Core.Path.{refl, sym, _∙_}
+use Rattle.listing.specs.Roled.{listAdvanced}
+use Rattle.listing.proofs.Roles.{advanced-full, advanced-room, stepped-too-large, stepped-on}
 
-stopped-requires : tie.Need-stopped-requires
-stopped-requires c κs = search needs
+held-requires : tie.Need-held-requires
+held-requires c κs = search needs
 
 returns : tie.Need-returns
-returns c = rw (c .stopped .ensures) (clock-no-room _ _ _ _ (c .before .if1 .taken))
+unfolding listAdvanced
+returns c = rw (c .held .ensures) (sym (advanced-full _ _ _ _ (c .before .if1 .taken)), refl)
 
 after-requires : tie.Need-after-requires
 after-requires c κs = search needs
@@ -23,8 +24,8 @@ after-requires c κs = search needs
 enum-told : tie.Need-enum-told
 enum-told c = search needs
 
-stopped-requires-2 : tie.Need-stopped-requires-2
-stopped-requires-2 c κs = search needs
+held-requires-2 : tie.Need-held-requires-2
+held-requires-2 c κs = search needs
 
 enum-known-next : tie.Need-enum-known-next
 enum-known-next c = search needs
@@ -32,30 +33,35 @@ enum-known-next c = search needs
 write-requires : tie.Need-write-requires
 write-requires c κs = search needs
 
-with-clock-requires : tie.Need-with-clock-requires
-with-clock-requires c κs = search needs
-
 returns-2 : tie.Need-returns-2
-returns-2 c = rw (c .stopped2 .ensures) (clock-too-large _ _ _ _ (omega (arith, c .before .before .before .before .before .before .if1 .left)) _ (c .before .before .before .after .ensures) (c .before .enum-told .given .1))
+unfolding listAdvanced
+returns-2 c =
+    let asked = c .before .before .before in
+    let told = sym (asked .after .ensures) ∙ c .before .enum-told .given .1 in
+    rw (c .held2 .ensures) (sym (advanced-room _ _ _ _ (asked .before .if1 .left) ∙ stepped-too-large _ _ told), refl)
 
 same-length : tie.Need-same-length
 same-length c = search needs
 
 returns-3 : tie.Need-returns-3
-returns-3 c = rw (c .with-clock .ensures) (clock-advanced _ _ _ _ (omega (arith, c .before .before .before .before .before .before .before .before .before .before .before .if1 .left)) _ (c .before .before .before .before .before .before .before .before .after .ensures) _ _ (c .before .before .before .before .before .before .next .given .1) (c .before .before .before .write .ensures))
+unfolding listAdvanced
+returns-3 c =
+    let met = c .before .before .before .before .before in
+    let asked = met .before .before in
+    let told = sym (asked .after .ensures) ∙ met .next .given .1 in
+    (sym (advanced-room _ _ _ _ (asked .before .if1 .left) ∙ stepped-on _ _ _ told), c .before .before .write .ensures)
 
 pub advance-spec : {M : Type 1} → statement M
 advance-spec =
     tie.close
     (tie.spec
-    stopped-requires
+    held-requires
     returns
     after-requires
     enum-told
-    stopped-requires-2
+    held-requires-2
     enum-known-next
     write-requires
-    with-clock-requires
     returns-2
     same-length
     returns-3)

@@ -4,7 +4,7 @@ use Rattle.listing.proofs.role.apply.Statement.{statement}
 use Rattle.listing.proofs.role.apply.Tie as tie
 use Rattle.listing.proofs.role.apply.Reads as reads
 use Rattle.listing.proofs.role.apply.Lts as lts
-use Rattle.listing.proofs.role.advance.Reads as advance-reads
+use Rattle.listing.proofs.role.tick.Reads as tick-reads
 use Rattle.listing.proofs.role.check_magic.Reads as check-magic-reads
 use Rattle.listing.proofs.role.on.Reads as on-reads
 use Rattle.listing.proofs.role.say.Reads as say-reads
@@ -37,8 +37,8 @@ with-content-requires c κs = search needs
 say-requires-3 : tie.Need-say-requires-3
 say-requires-3 c κs = search needs
 
-advance-requires : tie.Need-advance-requires
-advance-requires c κs = c .before .before .before .pre (c .before .match .keys5)
+tick-requires : tie.Need-tick-requires
+tick-requires c κs = c .before .before .before .pre (c .before .match .keys5)
 
 with-ending-requires : tie.Need-with-ending-requires
 with-ending-requires c κs = search needs
@@ -76,7 +76,7 @@ same-length c = search needs
 
 returns-5 : tie.Need-returns-5
 unfolding roleOf roles
-returns-5 c = rw (c .before .before .before .before .match .keys5) (c .before .before .advance .ensures)
+returns-5 c = rw (c .before .before .before .before .match .keys5) (c .before .before .tick .ensures)
 
 returns-6 : tie.Need-returns-6
 unfolding roleOf roles
@@ -102,7 +102,7 @@ apply-spec =
     say-requires-2
     with-content-requires
     say-requires-3
-    advance-requires
+    tick-requires
     with-ending-requires
     say-requires-4
     with-event-requires

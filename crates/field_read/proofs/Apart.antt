@@ -1,0 +1,183 @@
+-- A loop that puts runs off: a field that cannot be opened in its run is opened in one of its own, and the rest of its run goes onto a
+-- heap, of which the latest comes back when a run is over. In order: a loop with something else behind it; a field in a run of its own;
+-- the heap.
+use mathlib.Core.Path.{_≡_, refl, ap, sym, subst, _∙_}
+use mathlib.Core.List.{List}
+use mathlib.Core.Bool.{Bool, true, false}
+use mathlib.Core.Logic.{_⊎_, inl, inr}
+use Prim.Native.Nat.{ℕ, zero, suc, _+_, _-_, _≤_, _<_}
+use native.Mathlib.Omega.{arith}
+use native.Mathlib.Numerals.{add-one}
+use lib.ListN.{length, getD, set}
+use lib.Seq.{getD-set-same, getD-set-other}
+use Rattle.rules.specs.declared.BitPlace.{BitPlace}
+use Rattle.rules.specs.declared.Content.{Content}
+use Rattle.rules.specs.Verdict.{stopAt}
+use Rattle.rules.specs.Slots.{Slots}
+use Rattle.rules.specs.Entry.{entry}
+use Rattle.rules.specs.Record.{u8}
+use Rattle.rules.specs.Step.{Step, _⨾_, listed}
+use Rattle.rules.specs.Field.{read}
+use Rattle.facts.proofs.Numbers.{lt-or-ge}
+use Rattle.facts.proofs.Truth.{clash}
+use Rattle.class_layout.specs.Trees.{classAt}
+use Rattle.listing.specs.declared.State.{State}
+use Rattle.listing.specs.Did.{full}
+use Rattle.listing.proofs.Parts.{Part, lent, merged}
+use Rattle.field_inside.specs.declared.look.Inside.{Inside}
+use Rattle.field_inside.specs.declared.look.Inside.the-variants.{Members, Elements, Refused}
+use Rattle.field_inside.specs.declared.opening.Opened.{Opened}
+use Rattle.field_inside.specs.Opening.{openedAs, listOpened, wentIn, listHolder}
+use Rattle.field_runs.specs.declared.Run.{Run}
+use Rattle.field_runs.specs.Run.{run, over, behindRun, aloneRun}
+use Rattle.field_runs.specs.Ahead.{ahead, WholeRun}
+use Rattle.field_runs.proofs.Ahead.{heldRead, alone-reads, alone-stands, instead}
+use Rattle.field_read.specs.Reads.{stateAt}
+use Rattle.field_read.proofs.Round.{Loop, env, left, Round, Stops, round-over, Holder, insideHere, holder-part, rest-stands}
+use Rattle.field_read.proofs.Round.{Told, members-told, elements-told, entry-put, open-same, open-stops, open-few}
+
+-- The same loop with something else behind its run
+
+abbrev pub withBehind : Loop → Step → Loop
+withBehind w m = record {
+  stream = w .stream;
+  uuid = w .uuid;
+  frame = w .frame;
+  depths = w .depths;
+  table = w .table;
+  notes = w .notes;
+  all = w .all;
+  behind = m;
+  list = w .list;
+}
+
+-- what is left of a run comes behind
+abbrev pub apartFrom : Loop → Run → Loop
+apartFrom w r = withBehind w (left w r)
+
+-- A field that is opened in a run of its own, whatever its run has put off
+
+pub record ApartRound (w : Loop) (r : Run) (ws : List ℕ) (used : ℕ) (st : State) (l : Slots) (o : Opened) (ys : List ℕ) : Type 0 where
+  pub same : length (merged used ws ys) ≡ length (w .list)
+  pub few : o .elements ≡ false → o .count ≤ length (w .table)
+  pub rest-stands : WholeRun (w .depths) (w .table) (behindRun r (w .notes .sizes) (r .next) (r .todo - 1))
+  pub stops : o .on ≡ false → Stops w (stopAt (o .why) (st .place)) used (merged used ws ys)
+  pub goes : o .on ≡ true → Round (apartFrom w (behindRun r (w .notes .sizes) (r .next) (r .todo - 1)))
+      (aloneRun (o .from) (o .count) (o .elements)) (merged used ws ys) (used + 4) (stateAt (o .place) (st .order) st) l
+
+module _ {w : Loop} {r : Run} {ws : List ℕ} {used : ℕ} {st : State} {l : Slots} {c : Content} (h : Holder w r ws used st l c) where
+  abbrev rest : Run
+  rest = behindRun r (w .notes .sizes) (r .next) (r .todo - 1)
+
+  told-round : {p : BitPlace} {v from n : ℕ} {elements : Bool} → Told h p v from n elements
+      → Round (apartFrom w rest) (aloneRun from n elements) (merged used ws (listHolder (u8 (w .table) (r .next)) p v (lent used ws)))
+      (used + 4) (stateAt p (st .order) st) l
+  told-round {p} {v} {from} {n} {elements} q =
+      let d = w .depths in
+      let t = w .table in
+      let m = listed (entry (u8 t (r .next)) p 0 v) p in
+      let alone = ahead d t (env w) (aloneRun from n elements) in
+      let here = full st l (length (w .list) - used) in
+      let reads = instead (read (env w) (classAt d t (r .next))) m (heldRead d t (env w) from n elements) (left w rest) here (q .reads) in
+      record {
+        stands = alone-stands d t from n elements (q .class) (q .parts);
+        noted = h .round .noted;
+        framed = q .framed;
+        many = h .round .many;
+        part = entry-put h p v (read (env w) (classAt d t (r .next)) ⨾ left w rest) (alone ⨾ left w rest) (holder-part h)
+            (reads ∙ ap (λ (x : Step). (m ⨾ (x ⨾ left w rest)) here) (sym (alone-reads d t (env w) from n elements)));
+      }
+
+  apart-goes : (i : Inside) → insideHere h ≡ i → openedAs (st .place) i .on ≡ true →
+      let o = openedAs (st .place) i in
+      Round (apartFrom w rest) (aloneRun (o .from) (o .count) (o .elements))
+      (merged used ws (listOpened (u8 (w .table) (r .next)) i (lent used ws))) (used + 4) (stateAt (o .place) (st .order) st) l
+  unfolding openedAs wentIn listOpened
+  apart-goes (Members p v from n) e on = told-round (members-told h e)
+  apart-goes (Elements p v from n) e on = told-round (elements-told h e)
+  apart-goes (Refused why) e on = absurd (clash on)
+
+  pub apart-round : {o : Opened} {ys : List ℕ} → o ≡ openedAs (st .place) (insideHere h)
+      → ys ≡ listOpened (u8 (w .table) (r .next)) (insideHere h) (lent used ws) → ApartRound w r ws used st l o ys
+  apart-round e f = rw (e, f) record {
+    same = open-same h (insideHere h);
+    few = open-few h;
+    rest-stands = rest-stands h;
+    stops = open-stops h (insideHere h) refl;
+    goes = apart-goes (insideHere h) refl;
+  }
+
+-- The heap: the first n of some runs were put off, the latest in front
+
+abbrev pub noRun : Run
+noRun = run 0 0 0 0 0 0 0
+
+unfoldable pub heapLeft : Loop → List Run → ℕ → Step
+heapLeft w h zero = w .behind
+heapLeft w h (suc n) = ahead (w .depths) (w .table) (env w) (getD h n noRun) ⨾ heapLeft w h n
+
+abbrev pub heaped : Loop → List Run → ℕ → Loop
+heaped w h n = withBehind w (heapLeft w h n)
+
+abbrev pub Standing : Loop → List Run → ℕ → Type 0
+Standing w h n = (i : ℕ) → i < n → WholeRun (w .depths) (w .table) (getD h i noRun)
+
+-- none is put off
+module _ {w : Loop} (h : List Run) {r : Run} {ws : List ℕ} {used : ℕ} {st : State} {l : Slots} where
+  pub heap-start : Round w r ws used st l → Round (heaped w h 0) r ws used st l
+  unfolding heapLeft
+  heap-start q = record { stands = q .stands; noted = q .noted; framed = q .framed; many = q .many; part = q .part }
+
+  pub heap-end : Round (heaped w h 0) r ws used st l → Round w r ws used st l
+  unfolding heapLeft
+  heap-end q = record { stands = q .stands; noted = q .noted; framed = q .framed; many = q .many; part = q .part }
+
+pub none-standing : (w : Loop) (h : List Run) → Standing w h 0
+none-standing w h i k = absurd (omega arith)
+
+-- a place past those that were put off is set
+pub heaped-set : (w : Loop) (h : List Run) (n i : ℕ) (r : Run) → n ≤ i → heapLeft w (set h i r) n ≡ heapLeft w h n
+unfolding heapLeft
+heaped-set w h zero i r k = refl
+heaped-set w h (suc n) i r k = rw (getD-set-other h i n r noRun (λ e. omega arith), heaped-set w h n i r (omega arith)) refl
+
+heap-push : (w : Loop) (h : List Run) (n : ℕ) (r : Run) → n < length h → heapLeft w (set h n r) (n + 1) ≡ left (heaped w h n) r
+unfolding heapLeft
+heap-push w h n r k = rw (add-one n, heapLeft, getD-set-same h n r noRun k, heaped-set w h n n r (omega arith)) refl
+
+push-stands : (w : Loop) (h : List Run) (n : ℕ) (r : Run) → n < length h → Standing w h n → WholeRun (w .depths) (w .table) r
+    → Standing w (set h n r) (n + 1)
+push-stands w h n r k all one i small = by (lt-or-ge i n)
+  where
+    by : (i < n) ⊎ (n ≤ i) → WholeRun (w .depths) (w .table) (getD (set h n r) i noRun)
+    by (inl a) = rw (getD-set-other h n i r noRun (λ e. omega arith)) (all i a)
+    by (inr a) = let e : i ≡ n = omega arith in rw (e, getD-set-same h n r noRun k) one
+
+-- a run is put off
+pub push-round : (w : Loop) (h : List Run) (n : ℕ) (rest : Run) {r : Run} {ws : List ℕ} {used : ℕ} {st : State} {l : Slots}
+    → n < length h → Standing w h n → WholeRun (w .depths) (w .table) rest → Round (apartFrom (heaped w h n) rest) r ws used st l
+    → Round (heaped w (set h n rest) (n + 1)) r ws used st l × Standing w (set h n rest) (n + 1)
+push-round w h n rest {r} {ws} {used} {st} {l} k all one q = (
+  subst (λ (m : Step). Round (withBehind w m) r ws used st l) (sym (heap-push w h n rest k)) q,
+  push-stands w h n rest k all one,
+)
+
+heap-pop : (w : Loop) (h : List Run) (n : ℕ) → 0 < n → heapLeft w h n ≡ left (heaped w h (n - 1)) (getD h (n - 1) noRun)
+unfolding heapLeft
+heap-pop w h zero k = absurd (omega arith)
+heap-pop w h (suc n) k = let less : suc n - 1 ≡ n = omega arith in rw less refl
+
+-- the latest comes back
+pub pop-round : (w : Loop) (h : List Run) (n : ℕ) {r : Run} {ws : List ℕ} {used : ℕ} {st : State} {l : Slots} → 0 < n → Standing w h n
+    → Round (heaped w h n) r ws used st l → over r ≡ true
+    → Round (heaped w h (n - 1)) (getD h (n - 1) noRun) ws used st l × Standing w h (n - 1)
+pop-round w h n {r} {ws} {used} {st} {l} k all q e = (
+  record {
+    stands = all (n - 1) (omega arith);
+    noted = q .noted;
+    framed = q .framed;
+    many = q .many;
+    part = subst (λ (m : Step). Part (w .all) m (w .list) ws used st l) (heap-pop w h n k) (round-over q e);
+  },
+  λ i small. all i (omega arith),
+)
