@@ -17,10 +17,12 @@ use Rattle.table_offsets.specs.Bodies.{known, noKind, bodyMark}
 use Rattle.table_offsets.specs.Check.{pickN, first, byteAt, headFault}
 use Rattle.table_offsets.proofs.TieTests.{not-ltb, ltb-more}
 use Rattle.table_offsets.proofs.TieBytes.{Rest, rest-length, rest-missing, rest-on}
-use Rattle.table_offsets.proofs.TieKinds.{Stands, nothing, aPreamble, aTrace, aClock, aStream, anEvent, aRoot, aClass, aRange, anOption}
+use Rattle.table_offsets.proofs.TieKinds.{Stands, nothing, aPreamble, aTrace, aClock, aStream}
+use Rattle.table_offsets.proofs.TieKinds.{anEvent, aRoot, aClass, aRange, anOption}
 use Rattle.table_offsets.proofs.TieKinds.{stands, known-size}
 
-pub known-or-not : (t : List ℕ) (at k n : ℕ) (r : Record) → Stands t at k n r → ((n ≡ noKind) × (r ≡ unknown)) ⊎ ((n ≡ noKind → ⊥) × (known r ≡ true))
+pub known-or-not : (t : List ℕ) (at k n : ℕ) (r : Record) → Stands t at k n r
+    → ((n ≡ noKind) × (r ≡ unknown)) ⊎ ((n ≡ noKind → ⊥) × (known r ≡ true))
 unfolding known
 known-or-not t at k n r nothing = inl (refl, refl)
 known-or-not t at k n r aPreamble = inr (λ e. omega arith, refl)
@@ -126,7 +128,11 @@ module _ (t : List ℕ) (at : ℕ) (x : List ℕ) (h : Rest t at x) where
   record-fault test g = rw missing-at (⊎-elim
       (λ e. rw (e .1, eq-eqb (bodyMark (byteAt t at)) noKind (e .0), g .unknowns (ltb (length x) (size x)))
       (pick-unknown (leb (length t) at) (leb (length t - at) (bodyMark (byteAt t at))) (test false unknown)))
-      (λ k. rw (short-at (k .0), g .others (leb (length t - at) (bodyMark (byteAt t at))) (recordOf x) (k .1), ne-eqb (bodyMark (byteAt t at)) noKind (k .0))
+      (λ k. rw (
+        short-at (k .0),
+        g .others (leb (length t - at) (bodyMark (byteAt t at))) (recordOf x) (k .1),
+        ne-eqb (bodyMark (byteAt t at)) noKind (k .0),
+      )
       (pick-first (leb (length t) at) (leb (length t - at) (bodyMark (byteAt t at))) (test false (recordOf x))))
       (known-or-not t at _ _ _ (stands t at x h)))
 

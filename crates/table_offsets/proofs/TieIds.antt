@@ -31,7 +31,8 @@ same-split t a b m zero = let e : m + 0 ≡ m = omega arith in rw (e, and-true)
 same-split t a b m (suc n) =
     let f : a + (m + n) ≡ a + m + n = omega arith in
     let g : b + (m + n) ≡ b + m + n = omega arith in
-    rw (add-suc m n, same-split t a b m n, f, g) (and-middle (eqb (byteAt t (a + m + n)) (byteAt t (b + m + n))) (same t a b m) (same t (a + m) (b + m) n))
+    rw (add-suc m n, same-split t a b m n, f, g)
+    (and-middle (eqb (byteAt t (a + m + n)) (byteAt t (b + m + n))) (same t a b m) (same t (a + m) (b + m) n))
 
 -- the lowest digit first
 digits : (x y a b : ℕ) → x < 256 → y < 256 → (eqb x y && eqb b a) ≡ eqb (b * 256 + y) (a * 256 + x)
@@ -53,7 +54,8 @@ same-number t h (suc n) a b =
     let za : a + 0 ≡ a = omega arith in
     let zb : b + 0 ≡ b = omega arith in
     ap (same t a b) e ∙ same-split t a b 1 n ∙
-    rw (za, zb, and-true, same-number t h n (a + 1) (b + 1)) (digits (byteAt t a) (byteAt t b) (numberAt t (a + 1) n) (numberAt t (b + 1) n) (h a) (h b))
+    rw (za, zb, and-true, same-number t h n (a + 1) (b + 1))
+    (digits (byteAt t a) (byteAt t b) (numberAt t (a + 1) n) (numberAt t (b + 1) n) (h a) (h b))
 
 same-byte : (t : List ℕ) (a b : ℕ) → same t a b 1 ≡ eqb (byteAt t b) (byteAt t a)
 unfolding same

@@ -47,7 +47,8 @@ module _ (t : List ℕ) (trace : Bool) (os : List ℕ) where
   made-tie (both-bad e r) f h = both-bad e r
   made-tie (both-good {a = a} {e = e} p r) f h = both-good (h a e p) r
 
-  sound-tie : {A : Type 0} {P : A → ℕ → Type 0} (at : ℕ) (x : List ℕ) → Rest t at x → (f : Parser A) (w : Walk) (c n : ℕ) → n ≡ lowest t trace os c at
+  sound-tie : {A : Type 0} {P : A → ℕ → Type 0} (at : ℕ) (x : List ℕ) → Rest t at x → (f : Parser A) (w : Walk) (c n : ℕ)
+      → n ≡ lowest t trace os c at
       → (c ≡ 0 → Tied t trace os P (f (behind x)) w) → Tied t trace os P (sound n x f) (orElse c at w)
   unfolding sound orElse
   sound-tie at x h f w zero zero e k = k refl
