@@ -11,6 +11,40 @@ use native.Mathlib.Omega.{arith}
 use Rattle.leaf_find_number.proofs.Found.{bits-past, bits-turned, bits-short, bits-at, aligned-from}
 use Rattle.leaf_find_number.specs.Found.{alignedAt}
 
+-- Places of the code, in its order: the place is aligned; it is inside the bound; whether the order turns there was asked; it does not; the
+-- bits fit
+
+abbrev AtAligned : Type 0
+AtAligned = tie.After-align
+
+abbrev AtInside : Type 0
+AtInside = tie.Else1
+
+abbrev AtTurns : Type 0
+AtTurns = tie.After-turns
+
+abbrev AtOrdered : Type 0
+AtOrdered = tie.Else2
+
+abbrev AtFits : Type 0
+AtFits = tie.Else3
+
+-- The way back from each to the one before
+
+abbrev to-aligned : AtInside → AtAligned
+to-aligned c = c .before .before .before
+
+abbrev to-inside : AtTurns → AtInside
+to-inside c = c .before .before .before
+
+abbrev to-turns : AtOrdered → AtTurns
+to-turns c = c .before
+
+abbrev to-ordered : AtFits → AtOrdered
+to-ordered c = c .before .before .before
+
+-- The needs: alignment and the bound
+
 align-requires : tie.Need-align-requires
 align-requires c κs = search needs
 
@@ -18,29 +52,51 @@ returns : tie.Need-returns
 unfolding alignedAt
 returns c = bits-past _ _ _ _ _ _ _ _ (c .before .before .before .align .ensures) (c .if1 .taken)
 
+-- The order
+
 sub-turns : tie.Need-sub-turns
-sub-turns c = omega (arith, aligned-from _ _ _ _ (c .before .before .before .before .before .align .ensures))
+sub-turns c =
+    let aligned = to-aligned (c .before .before) in
+    omega (arith, aligned-from _ _ _ _ (aligned .align .ensures))
 
 turns-requires : tie.Need-turns-requires
 turns-requires c κs = search needs
 
 returns-2 : tie.Need-returns-2
 unfolding alignedAt
-returns-2 c = bits-turned _ _ _ _ _ _ _ _ (c .before .before .before .before .before .before .before .align .ensures) (omega (arith, c .before .before .before .before .if1 .left)) _ (c .before .turns .ensures) (c .if2 .taken)
+returns-2 c =
+    let turns = c .before in
+    let inside = to-inside turns in
+    let aligned = to-aligned inside in
+    bits-turned _ _ _ _ _ _ _ _ (aligned .align .ensures) (omega (arith, inside .if1 .left)) _ (turns .turns .ensures) (c .if2 .taken)
+
+-- The bits
 
 add-if3 : tie.Need-add-if3
 add-if3 c = search needs
 
 returns-3 : tie.Need-returns-3
 unfolding alignedAt
-returns-3 c = bits-short _ _ _ _ _ _ _ _ (c .before .before .before .before .before .before .before .before .before .before .align .ensures) (omega (arith, c .before .before .before .before .before .before .before .if1 .left)) _ (c .before .before .before .before .turns .ensures) (c .before .before .before .if2 .left) (c .if3 .taken)
+returns-3 c =
+    let ordered = c .before .before .before in
+    let turns = to-turns ordered in
+    let inside = to-inside turns in
+    let aligned = to-aligned inside in
+    bits-short _ _ _ _ _ _ _ _ (aligned .align .ensures) (omega (arith, inside .if1 .left)) _ (turns .turns .ensures)
+    (ordered .if2 .left) (c .if3 .taken)
 
 take-requires : tie.Need-take-requires
 take-requires c κs = search needs
 
 returns-4 : tie.Need-returns-4
 unfolding alignedAt
-returns-4 c = rw (c .take .ensures) (bits-at _ _ _ _ _ _ _ _ (c .before .before .before .before .before .before .before .before .before .before .before .align .ensures) _ (c .before .before .before .before .before .turns .ensures) (c .before .before .before .before .if2 .left) (omega (arith, c .before .if3 .left)))
+returns-4 c =
+    let fits = c .before in
+    let ordered = to-ordered fits in
+    let turns = to-turns ordered in
+    let aligned = to-aligned (to-inside turns) in
+    rw (c .take .ensures)
+    (bits-at _ _ _ _ _ _ _ _ (aligned .align .ensures) _ (turns .turns .ensures) (ordered .if2 .left) (omega (arith, fits .if3 .left)))
 
 pub find-bits-spec : {M : Type 1} → statement M
 find-bits-spec =
