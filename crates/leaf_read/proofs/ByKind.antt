@@ -176,19 +176,25 @@ module _ (t b u : List ℕ) (f : Frame) (at : ℕ) (p : BitPlace) (o : LastOrder
   unfolding seenAt
   seen-of k e = rw (e) refl
 
+  pub sees-of : {r : Seen} (k : ℕ) → u8 t at ≡ k → r ≡ seenIn t b u f at p o x (shapeOf k) → r ≡ seenAt t b u f at p o x
+  sees-of k e is = is ∙ sym (seen-of k e)
+
   -- what the code finds of kinds 16 to 20, by the numbers that it reads
-  pub bits-of : {w e : ℕ} {d : Order} {r : Seen} → BitsSay t at w d e → (k : Sort) (i ro : ℕ)
-      → r ≡ seen (foundBits b f p o w d (2 ^ e)) (fixedSeen k d i ro) → seenAt t b u f at p o x ≡ bitsSeenAt t b f at p o k i ro
+  pub bits-of : {w e : ℕ} {d : Order} {y : Found} {r : Seen} → BitsSay t at w d e → y ≡ foundBits b f p o w d (2 ^ e)
+      → (k : Sort) (i ro : ℕ) → r ≡ seen y (fixedSeen k d i ro) → seenAt t b u f at p o x ≡ bitsSeenAt t b f at p o k i ro
       → r ≡ seenAt t b u f at p o x
   unfolding bitsSeenAt
-  bits-of n k i ro is sees = rw (n .width, n .order, n .exponent) at is ∙ sym sees
+  bits-of n found k i ro is sees = rw (found, n .width, n .order, n .exponent) at is ∙ sym sees
 
-  pub dynamic-of : 26 ≤ u8 t at → u8 t at < 28 → seenAt t b u f at p o x ≡ dynamically b f x (u8 t at) p o
+  dynamic-is : 26 ≤ u8 t at → u8 t at < 28 → seenAt t b u f at p o x ≡ dynamically b f x (u8 t at) p o
   unfolding shapeOf shapes seenIn
-  dynamic-of low high = ⊎-elim
+  dynamic-is low high = ⊎-elim
       (λ (h : u8 t at < 27). let k : u8 t at ≡ 26 = omega arith in rw (k) (seen-of 26 k))
       (λ (h : 27 ≤ u8 t at). let k : u8 t at ≡ 27 = omega arith in rw (k) (seen-of 27 k))
       (lt-or-ge (u8 t at) 27)
+
+  pub dynamic-of : {r : Seen} → 26 ≤ u8 t at → u8 t at < 28 → r ≡ dynamically b f x (u8 t at) p o → r ≡ seenAt t b u f at p o x
+  dynamic-of low high is = is ∙ sym (dynamic-is low high)
 
 no-role : {A : Type 0} → _≡_ {A = ℕ} 0 7 → A
 no-role e = absurd (omega arith)
@@ -298,10 +304,17 @@ module _ (b : List ℕ) (f : Frame) (p : BitPlace) (o : LastOrder) {x y : Length
   no-length-seen e k = rw (← is, e) refl
 
   module _ {n : ByteLength} (e : x ≡ Of n) (k : ℕ) where
-    pub text-seen : k ≡ 26 → seen (foundText b f p (n .0)) (plainSeen k o) ≡ forLength y (dynamicSeen b f p o k)
+    text-is : k ≡ 26 → seen (foundText b f p (n .0)) (plainSeen k o) ≡ forLength y (dynamicSeen b f p o k)
     unfolding forLength dynamicSeen
-    text-seen h = rw (← is, e, eq-eqb k 26 h, dynamicSeen) refl
+    text-is h = rw (← is, e, eq-eqb k 26 h, dynamicSeen) refl
 
-    pub blob-seen : (k ≡ 26 → ⊥) → seen (foundBlob f p (n .0)) (plainSeen k o) ≡ forLength y (dynamicSeen b f p o k)
+    blob-is : (k ≡ 26 → ⊥) → seen (foundBlob f p (n .0)) (plainSeen k o) ≡ forLength y (dynamicSeen b f p o k)
     unfolding forLength dynamicSeen
-    blob-seen h = rw (← is, e, ne-eqb k 26 h, dynamicSeen) refl
+    blob-is h = rw (← is, e, ne-eqb k 26 h, dynamicSeen) refl
+
+    module _ {z : Found} {r : Seen} (sees : r ≡ seen z (plainSeen k o)) where
+      pub text-seen : k ≡ 26 → z ≡ foundText b f p (n .0) → r ≡ forLength y (dynamicSeen b f p o k)
+      text-seen h found = rw (found) at sees ∙ text-is h
+
+      pub blob-seen : (k ≡ 26 → ⊥) → z ≡ foundBlob f p (n .0) → r ≡ forLength y (dynamicSeen b f p o k)
+      blob-seen h found = rw (found) at sees ∙ blob-is h
