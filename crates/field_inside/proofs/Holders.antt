@@ -18,7 +18,8 @@ use Rattle.class_layout.specs.Trees.{shapeOf, shapes, recordSize, wholeIn}
 use Rattle.class_layout.specs.Notes.{Notes, endNoted}
 use Rattle.field_inside.specs.declared.look.Inside.the-variants.{Refused}
 use Rattle.field_choice.specs.Choice.{InTable, optionalAt, variantAt, WholeOptional, WholeVariant}
-use Rattle.field_inside.specs.Inside.{slotReadIn, slotReadAt, standing, membersFrom, elementsFrom, byLength, optionalInside, variantInside, bitsNoted, behindNoted, insideIn, insideOf, Opens}
+use Rattle.field_inside.specs.Inside.{slotReadIn, slotReadAt, standing, membersFrom, elementsFrom, byLength, optionalInside}
+use Rattle.field_inside.specs.Inside.{variantInside, bitsNoted, behindNoted, insideIn, insideOf, Opens}
 
 -- a law of the five, one after the other
 pub five : (P : ℕ → Type 0) → P 28 → P 29 → P 30 → P 31 → P 32 → (k : ℕ) → 28 ≤ k → k ≤ 32 → P k
