@@ -15,7 +15,7 @@ use Rattle.class_layout.specs.declared.Found.{Found}
 use Rattle.class_layout.specs.declared.Found.the-variants.{At, Nothing}
 use Rattle.class_layout.specs.Fragments.{rootPlace, eventClassAt}
 use Rattle.class_layout.specs.Sizes.{SizedFragment, foundOf}
-use Rattle.field_runs.specs.Run.{noArray, membersRun}
+use Rattle.field_runs.specs.Run.{membersRun}
 use Rattle.field_runs.specs.Ahead.{ahead, WholeRun}
 use Rattle.field_runs.proofs.Ahead.{members-reads, members-stand, none-whole, no-members}
 use Rattle.field_runs.proofs.Ahead.{one-member as one-reads}
@@ -41,17 +41,10 @@ module _ (t : List ℕ) where
   run-stands Nothing h = members-stand depthLimit t 0 0 (none-whole depthLimit t 0)
   run-stands (At p) h = members-stand depthLimit t p 1 (one-member t (At p) p refl h)
 
--- no element is open in it
-pub run-apart : (x : Found) → (rootRun x) .array ≡ noArray
-unfolding rootRun membersRun
-run-apart Nothing = refl
-run-apart (At p) = refl
-
 -- what is due from a turn behind the lookup on
 pub record DueAt (t : List ℕ) (w : Asking) (class turn : ℕ) (d : Due) : Type 0 where
   pub reads : (e : Env) → turnsAt t w e class turn ≡ (ahead depthLimit t e (d .run) ⨾ turnsAt t w e class (d .turn))
   pub stands : WholeRun depthLimit t (d .run)
-  pub apart : d .run .array ≡ noArray
   pub onward : turn ≤ d .turn
   pub rises : turn < turns → turn < d .turn
   pub bound : turn ≤ turns → d .turn ≤ turns
@@ -85,7 +78,6 @@ module _ (t s : List ℕ) (w : Asking) (of : OfStream t w) (class : ℕ) (known 
   all-done turn h = record {
     reads = λ e. sym (ap (λ m. m ⨾ turnsAt t w e class turn) (nothing e) ∙ pass-seq _);
     stands = run-stands t Nothing (unfold RootStands in tt);
-    apart = run-apart Nothing;
     onward = omega arith;
     rises = λ k. absurd (omega arith);
     bound = λ k. k;
@@ -103,7 +95,6 @@ module _ (t s : List ℕ) (w : Asking) (of : OfStream t w) (class : ℕ) (known 
           ∙ ap (λ x. readRoot e (classOf t x) ⨾ turnsAt t w e class (turn + 1)) (sym is)
           ∙ ap (λ m. m ⨾ turnsAt t w e class (turn + 1)) (sym (run-reads t e (At p)));
       stands = run-stands t (At p) (rw (← is) at (turn-stands turn));
-      apart = run-apart (At p);
       onward = omega arith;
       rises = λ _. omega arith;
       bound = λ _. omega arith;
@@ -117,7 +108,6 @@ module _ (t s : List ℕ) (w : Asking) (of : OfStream t w) (class : ℕ) (known 
     behind d is later = record {
       reads = λ e. passed is e ∙ later .reads e;
       stands = later .stands;
-      apart = later .apart;
       onward = omega (arith, later .onward);
       rises = λ _. omega (arith, later .onward);
       bound = λ _. later .bound (omega arith);

@@ -32,7 +32,7 @@ use Rattle.class_layout.specs.declared.Found.the-variants.{At, Nothing}
 use Rattle.class_layout.specs.Fragments.{streamClassAt, eventClassAt, askedAt, findEventAt, fragmentsOf}
 use Rattle.class_layout.specs.Sizes.{Sized, SizedFragment, foundOf}
 use Rattle.field_runs.specs.declared.Run.{Run}
-use Rattle.field_runs.specs.Run.{noArray, over}
+use Rattle.field_runs.specs.Run.{over}
 use Rattle.field_runs.specs.Ahead.{ahead, WholeRun}
 use Rattle.field_runs.proofs.Ahead.{over-reads}
 use Rattle.event_turns.specs.declared.Asking.{Asking}
@@ -46,15 +46,14 @@ use Rattle.event_turns.specs.Turns.{turnsFrom, turnsAt, Known}
 use Rattle.event_turns.proofs.Bodies.{behind-first, settled, body-back, body-full, body-unknown, body-found}
 use Rattle.event_turns.proofs.Bodies.{event-unknown, event-found, event-stands, back-is}
 use Rattle.event_turns.proofs.Lefts.{left-back, left-full, left-unknown, left-found, left-lookup, left-other}
-use Rattle.event_turns.proofs.Dues.{run-reads, run-stands, run-apart, due-from}
+use Rattle.event_turns.proofs.Dues.{run-reads, run-stands, due-from}
 
 -- a turn at a state, by what it gave back and the list before and behind it
 pub record TurnAt (t s : List ℕ) (w : Asking) (e : Env) (turn class : ℕ) (st : State) (l : Slots) (r : Turn) (ws ws′ : List ℕ)
     : Type 0 where
   pub known : r .went ≡ On → Known t s (r .turn) (r .class)
   pub stands : r .went ≡ On → WholeRun depthLimit t (r .run)
-  pub apart : r .went ≡ On → r .run .array ≡ noArray
-  pub rises : r .went ≡ On → 1 ≤ turn → turn < turns → (turn < r .turn) × (r .turn ≤ turns)
+  pub rises : r .went ≡ On → turn < turns → (turn < r .turn) × (r .turn ≤ turns)
   pub goes : r .went ≡ On
       → Part (turnsAt t w e class turn (full st l (length ws))) (ahead depthLimit t e (r .run) ⨾ turnsAt t w e (r .class) (r .turn)) ws ws′
       (r .used) (heldTo (r .last) st) l
@@ -85,8 +84,7 @@ module _ (t s : List ℕ) (w : Asking) (sized : Sized t s) (of : OfStream t w) (
       record {
         known = λ on. (omega (arith, behind, d .onward), λ _. stands);
         stands = λ on. d .stands;
-        apart = λ on. d .apart;
-        rises = λ on one h. (omega (arith, onward, d .rises (below h)), d .bound (omega (arith, below h)));
+        rises = λ on h. (omega (arith, onward, d .rises (below h)), d .bound (omega (arith, below h)));
         goes = λ on. rw (d .reads e) at done;
         stops = λ v off. let z : _≡_ {A = ℕ} 0 1 = cc in absurd (omega arith);
         room = done .room;
@@ -101,7 +99,6 @@ module _ (t s : List ℕ) (w : Asking) (sized : Sized t s) (of : OfStream t w) (
   refused-at-state why h = record {
     known = λ on. let z : _≡_ {A = ℕ} 0 1 = cc in absurd (omega arith);
     stands = λ on. let z : _≡_ {A = ℕ} 0 1 = cc in absurd (omega arith);
-    apart = λ on. let z : _≡_ {A = ℕ} 0 1 = cc in absurd (omega arith);
     rises = λ on. let z : _≡_ {A = ℕ} 0 1 = cc in absurd (omega arith);
     goes = λ on. let z : _≡_ {A = ℕ} 0 1 = cc in absurd (omega arith);
     stops = λ v off. let p : stopAt why (st .place) ≡ v = cc in rw (← p) (went-no-further _ st l (stopAt why (st .place)) ws h);
@@ -226,10 +223,6 @@ known-first t s class = (omega arith, λ h. absurd (omega arith))
 pub header-stands : (t : List ℕ) (w : Asking) → OfStream t w → WholeRun depthLimit t (headerRun w)
 unfolding headerRun
 header-stands t w of = run-stands t (w .header) (of .headerStands)
-
-pub header-apart : (w : Asking) → (headerRun w) .array ≡ noArray
-unfolding headerRun
-header-apart w = run-apart (w .header)
 
 -- behind entry 4
 pub header-begins : (t : List ℕ) (w : Asking) (e : Env) (class : ℕ) (g : Step) → OfStream t w
