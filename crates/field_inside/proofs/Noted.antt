@@ -1,12 +1,15 @@
 -- What stands whole at some depth can be looked into by the notes, with no depth: each class that it holds begins in the table and ends
--- where the notes say.
+-- where the notes say. And a class that holds fields has the byte behind its kind in the table.
 use mathlib.Core.Path.{_≡_, refl, sym, ap}
-use Prim.Native.Nat.{ℕ, zero, suc, _+_, _*_, _≤_}
+use Prim.Native.Nat.{ℕ, zero, suc, _+_, _-_, _*_, _≤_, _<_}
+use native.Mathlib.Omega.{arith}
+use lib.ListN.{length}
 use mathlib.Core.List.{List}
 use mathlib.Core.Bool.{true, false}
 use Rattle.rules.specs.Record.{Shape, bitField, lebField, signedLebField, zeroString, text, blob, textOf, blobOf, members, elements, elementsOf, option?, options, u8}
 use Rattle.rules.specs.Class.{Sign, anyHolds}
-use Rattle.class_layout.specs.Trees.{shapeOf, rangesAt, optionClass, Stood, stoodAt, nextAt, wholeMembers, wholeOptions, wholeIn, whole}
+use Rattle.facts.proofs.Cases.{_▷_, below}
+use Rattle.class_layout.specs.Trees.{shapeOf, shapes, recordSize, rangesAt, optionClass, Stood, stoodAt, nextAt, wholeMembers, wholeOptions, wholeIn, whole}
 use Rattle.class_layout.specs.Notes.{Notes, endNoted, Prepared}
 use Rattle.class_layout.proofs.Turns.{whole-inside}
 use Rattle.class_layout.proofs.Aligned.{aligned}
@@ -78,3 +81,18 @@ module _ (t : List ℕ) (x : Notes) (r : Prepared t x) where
     stands = record { low = w .low; high = w .high; there = w .there; parts = parts-too d at w };
     align = rw (r .classes (suc d) at w .align) (aligned (suc d) t at w .1);
   }
+
+-- kinds 28 to 32 have a byte or more behind their kind
+held-size : (k : ℕ) → 28 ≤ k → k ≤ 32 → 2 ≤ recordSize (shapeOf k)
+unfolding shapeOf shapes recordSize
+held-size k l h = at-28 (k - 28) (omega arith) k (omega arith)
+  where
+    at-28 : (i : ℕ) → i < 5 → (k : ℕ) → k ≡ 28 + i → 2 ≤ recordSize (shapeOf k)
+    at-28 i h k e = rw e
+        (below (λ i. 2 ≤ recordSize (shapeOf (28 + i))) 5 (omega arith ▷ omega arith ▷ omega arith ▷ omega arith ▷ omega arith ▷ tt) i h)
+
+-- so the slot that such a class reads stands in the table
+pub slot-within : (t : List ℕ) (at d : ℕ) → whole d t at → 28 ≤ u8 t at → at + 2 ≤ length t
+unfolding whole
+slot-within t at zero w k = absurd w
+slot-within t at (suc d) w k = omega (arith, w .there, held-size (u8 t at) k (w .high))

@@ -128,7 +128,7 @@ pub fn enter_structure(
 }
 
 // The entry of a field that holds fields: it has no bits of its own.
-pub fn list_holder(kind: u8, place: BitPlace, value: u64, list: &mut [u64])
+fn list_holder(kind: u8, place: BitPlace, value: u64, list: &mut [u64])
     requires { ⌜ 4 ≤ length (now list) ⌝ }
     ensures { λ _. ⌜ now (list .exit) ≡ words (entry kind place 0 value ∷ []) ++ drop 4 (now (list .entry)) ⌝ }
 {
