@@ -2,7 +2,7 @@
 use mathlib.Core.Path.{_≡_, refl, ap, sym, subst, _∙_}
 use mathlib.Core.List.{List, [], _∷_, _++_}
 use mathlib.Core.Bool.{true, false}
-use Prim.Native.Nat.{ℕ, zero, suc, _+_, _-_, _*_, _^_, _≤_, _<_}
+use Prim.Native.Nat.{ℕ, suc, _+_, _-_, _*_, _^_, _≤_, _<_}
 use native.Mathlib.Omega.{arith}
 use lib.ListN.{length, drop}
 use borrow.Rule.Slice.PartMut.{same-len-mid}
@@ -16,9 +16,8 @@ use Rattle.rules.specs.Entry.{entry, words}
 use Rattle.rules.specs.declared.Content.{Content}
 use Rattle.rules.specs.Record.{u8}
 use Rattle.rules.specs.Step.{State as Full, Step, after, _⨾_, refuse, listed}
-use Rattle.facts.proofs.Cases.{_▷_, below}
 use Rattle.facts.proofs.Truth.{clash}
-use Rattle.class_layout.specs.Trees.{shapeOf, shapes, recordSize, whole, wholeMembers, stoodAt}
+use Rattle.class_layout.specs.Trees.{whole, wholeMembers, stoodAt}
 use Rattle.class_layout.specs.Notes.{Notes, Prepared}
 use Rattle.field_inside.specs.declared.look.Inside.{Inside}
 use Rattle.field_inside.specs.declared.look.Inside.the-variants.{Members, Elements, Refused}
@@ -41,20 +40,6 @@ use Rattle.field_read.specs.declared.Field.{Field}
 use Rattle.field_read.specs.Reads.{FieldReads, gone, entered}
 use Rattle.class_layout.proofs.Standing.{depth-some}
 use Rattle.field_read.proofs.Turns.{Call, call, outcome, CallReads, stoppedCall, classRead, membersRead, elementsRead, did-length}
-
--- kinds 28 to 32 have a byte or more behind their kind
-held-size : (k : ℕ) → 28 ≤ k → k ≤ 32 → 2 ≤ recordSize (shapeOf k)
-unfolding shapeOf shapes recordSize
-held-size k l h = at-28 (k - 28) (omega arith) k (omega arith)
-  where
-    at-28 : (i : ℕ) → i < 5 → (k : ℕ) → k ≡ 28 + i → 2 ≤ recordSize (shapeOf k)
-    at-28 i h k e = rw e
-        (below (λ i. 2 ≤ recordSize (shapeOf (28 + i))) 5 (omega arith ▷ omega arith ▷ omega arith ▷ omega arith ▷ omega arith ▷ tt) i h)
-
-pub slot-within : (t : List ℕ) (at d : ℕ) → whole d t at → 28 ≤ u8 t at → at + 2 ≤ length t
-unfolding whole
-slot-within t at zero w k = absurd w
-slot-within t at (suc d) w k = omega (arith, w .there, held-size (u8 t at) k (w .high))
 
 -- the class at a byte holds fields, and c is the content of the slot that it reads
 pub record Holder (b u : List ℕ) (f : Frame) (t : List ℕ) (x : Notes) (d at : ℕ) (c : Content) (st : State) (l : Slots)

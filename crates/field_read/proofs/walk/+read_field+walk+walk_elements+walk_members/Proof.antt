@@ -50,9 +50,9 @@ use borrow.Author.Tests.{not-true, not-false}
 use Rattle.class_layout.specs.Trees.{whole}
 use Rattle.rules.specs.declared.Content.{Content}
 use Rattle.field_inside.specs.Inside.{slotReadAt}
-use Rattle.field_inside.proofs.Noted.{opens}
+use Rattle.field_inside.proofs.Noted.{opens, slot-within}
 use Rattle.field_read.proofs.Holds as Holds
-use Rattle.field_read.proofs.Holds.{Closed, slot-within, can-look, open-refused, open-members, open-elements, members-open, elements-open, closed-reads}
+use Rattle.field_read.proofs.Holds.{Closed, can-look, open-refused, open-members, open-elements, members-open, elements-open, closed-reads}
 use Rattle.field_read.proofs.Turns.{call, classRead}
 use mathlib.Core.Logic.{⊎-elim}
 use Rattle.rules.specs.Step.{_⨾_}
