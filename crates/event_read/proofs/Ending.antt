@@ -3,7 +3,7 @@ use mathlib.Core.Path.{_≡_, refl, ap, sym, _∙_}
 use mathlib.Core.List.{List}
 use mathlib.Core.Bool.{Bool, true, false}
 use mathlib.Core.Option.{Option, none, some}
-use Prim.Native.Nat.{ℕ, _+_, _-_, _≤_}
+use Prim.Native.Nat.{ℕ, _-_, _≤_}
 use native.Mathlib.Omega.{arith}
 use lib.ListN.{length, take, replicate, length-take, length-append, length-replicate}
 use lib.Dec.{eqb}
@@ -118,8 +118,7 @@ packet-length l n =
 
 -- the place moved, and slots 0 to 15 are as they were
 event-done : (a : Asked) (c : StreamClass) (i : ℕ) (e : Env) → KeepsSlots a → a .stream i ≡ some c → (n : ℕ) (came : State) (l₀ : Slots)
-    {ws₀ ws : List ℕ}
-    {used : ℕ} {st : State} {l : Slots} → 4 ≤ length ws₀ → length l₀ ≡ slotCount
+    {ws₀ ws : List ℕ} {used : ℕ} {st : State} {l : Slots} → 4 ≤ length ws₀ → length l₀ ≡ slotCount
     → Part (readEvent a c e n (full came l₀ (length ws₀))) (moved came) ws₀ ws used st l → (st .place .0 ≡ came .place .0 → ⊥)
     → EventDid (readEvent a c e n) came l₀ (record { went = On; used = used; state = st }) ws₀ ws
 unfolding onto
@@ -131,10 +130,9 @@ event-done a c i e keeps found n came l₀ {ws₀} {ws} {used} {st} {l} h many p
 
 -- the event's end, whether the place moved or not
 pub event-ended : (a : Asked) (c : StreamClass) (i : ℕ) (e : Env) → KeepsSlots a → a .stream i ≡ some c → (n : ℕ) (came : State)
-    (l₀ : Slots)
-    {ws₀ ws : List ℕ} {used : ℕ} {st : State} {l : Slots} → 4 ≤ length ws₀ → length l₀ ≡ slotCount
-    → Part (readEvent a c e n (full came l₀ (length ws₀))) (moved came) ws₀ ws used st l → EventDid (readEvent a c e n) came l₀
-    (endedRan used st came) ws₀ ws
+    (l₀ : Slots) {ws₀ ws : List ℕ} {used : ℕ} {st : State} {l : Slots} → 4 ≤ length ws₀ → length l₀ ≡ slotCount
+    → Part (readEvent a c e n (full came l₀ (length ws₀))) (moved came) ws₀ ws used st l
+    → EventDid (readEvent a c e n) came l₀ (endedRan used st came) ws₀ ws
 unfolding endedRan
 event-ended a c i e keeps found n came l₀ {ws₀} {ws} {used} {st} {l} h many p = by (eqb (st .place .0) (came .place .0)) refl
   where
