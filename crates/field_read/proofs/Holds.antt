@@ -60,6 +60,9 @@ pub record Closed (w : Call) (ws : List ℕ) (r : Field) : Type 0 where
   pub stops : (v : Stop) → r .went ≡ Stopped v → CallReads w (stoppedCall w v (4 + r .used)) ws
   pub goes : r .went ≡ On → CallReads w (record { went = On; used = 4 + r .used; state = r .state; slots = r .slots }) ws
 
+pub closed-same : {w : Call} {ws ws′ : List ℕ} {r r′ : Field} → ws′ ≡ ws → r′ ≡ r → Closed w ws r → Closed w ws′ r′
+closed-same e f k = rw (e, f) k
+
 -- as it went
 pub closed-reads : {w : Call} {ws : List ℕ} {r : Field} → Closed w ws r → CallReads w (entered r (w .came) (w .given)) ws
 unfolding gone
