@@ -6,10 +6,12 @@ use native.Mathlib.Omega.{arith}
 use lib.ListN.{length}
 use mathlib.Core.List.{List}
 use mathlib.Core.Bool.{true, false}
-use Rattle.rules.specs.Record.{Shape, bitField, lebField, signedLebField, zeroString, text, blob, textOf, blobOf, members, elements, elementsOf, option?, options, u8}
+use Rattle.rules.specs.Record.{Shape, bitField, lebField, signedLebField, zeroString, text, blob, textOf, blobOf, members, elements}
+use Rattle.rules.specs.Record.{elementsOf, option?, options, u8}
 use Rattle.rules.specs.Class.{Sign, anyHolds}
 use Rattle.facts.proofs.Cases.{_▷_, below}
-use Rattle.class_layout.specs.Trees.{shapeOf, shapes, recordSize, rangesAt, optionClass, Stood, stoodAt, nextAt, wholeMembers, wholeOptions, wholeIn, whole}
+use Rattle.class_layout.specs.Trees.{shapeOf, shapes, recordSize, rangesAt, optionClass, Stood, stoodAt, nextAt}
+use Rattle.class_layout.specs.Trees.{wholeMembers, wholeOptions, wholeIn, whole}
 use Rattle.class_layout.specs.Notes.{Notes, endNoted, Prepared}
 use Rattle.class_layout.proofs.Turns.{whole-inside}
 use Rattle.class_layout.proofs.Aligned.{aligned}
@@ -54,8 +56,9 @@ module _ (t : List ℕ) (g g′ : ℕ → Type 0) (f f′ : ℕ → Stood) (each
   option-same s v k at zero w = refl
   option-same s v k at (suc n) w =
       let e = same (optionClass t at) (w .2) in
-      let rest : optionFrom f′ t s v (k + 1) ((f′ (optionClass t at)) .next) n ≡ optionFrom f t s v (k + 1) ((f (optionClass t at)) .next) n =
-      rw (← e) (option-same s v (k + 1) ((f (optionClass t at)) .next) n (w .3)) in
+      let p = optionClass t at in
+      let rest : optionFrom f′ t s v (k + 1) ((f′ p) .next) n ≡ optionFrom f t s v (k + 1) ((f p) .next) n =
+      rw (← e) (option-same s v (k + 1) ((f p) .next) n (w .3)) in
       ap (λ o. elim (anyHolds s v (rangesAt t (at + 2) (u8 t (at + 1)))) [ true ↦ Class (optionClass t at) k | false ↦ o ]) rest
 
 module _ (t : List ℕ) (x : Notes) (r : Prepared t x) where
@@ -67,8 +70,8 @@ module _ (t : List ℕ) (x : Notes) (r : Prepared t x) where
   parts-too : (d at : ℕ) → whole (suc d) t at → wholeIn (InTable t) (endNoted (x .sizes)) t at (shapeOf (u8 t at))
   unfolding whole
   parts-too d at w =
-      shape-too t (whole d t) (InTable t) (stoodAt d t) (endNoted (x .sizes)) (λ p v. whole-inside d t p v) (end-same d) at (shapeOf (u8 t at))
-      (w .parts)
+      shape-too t (whole d t) (InTable t) (stoodAt d t) (endNoted (x .sizes)) (λ p v. whole-inside d t p v) (end-same d) at
+      (shapeOf (u8 t at)) (w .parts)
 
   pub opens : (d at : ℕ) → whole d t at → 28 ≤ u8 t at → Opens t x at
   unfolding whole

@@ -60,6 +60,7 @@ pub record Closed (w : Call) (ws : List ℕ) (r : Field) : Type 0 where
   pub stops : (v : Stop) → r .went ≡ Stopped v → CallReads w (stoppedCall w v (4 + r .used)) ws
   pub goes : r .went ≡ On → CallReads w (record { went = On; used = 4 + r .used; state = r .state; slots = r .slots }) ws
 
+-- the same at numbers of the code's own
 pub closed-same : {w : Call} {ws ws′ : List ℕ} {r r′ : Field} → ws′ ≡ ws → r′ ≡ r → Closed w ws r → Closed w ws′ r′
 closed-same e f k = rw (e, f) k
 
@@ -181,7 +182,8 @@ module _ {b u : List ℕ} {f : Frame} {t : List ℕ} {x : Notes} {d at : ℕ} {c
   members-did : {ys : List ℕ} {r : Field} (j : Inside) → told ≡ j →
       let o = openedAs (st .place) j in
       o .on ≡ true → o .elements ≡ false
-      → FieldReads (membersRead (d - 1) t (o .from) (o .count) (envOf b u f)) (atPlace (o .place) st) l r (lent 4 (listOpened (u8 t at) j ws)) ys
+      → FieldReads (membersRead (d - 1) t (o .from) (o .count) (envOf b u f)) (atPlace (o .place) st) l r
+      (lent 4 (listOpened (u8 t at) j ws)) ys
       → Closed this (merged 4 (listOpened (u8 t at) j ws) ys) r
   unfolding openedAs wentIn listOpened
   members-did (Members p v from n) e on one did = members-closed (sym e) refl refl did
@@ -191,7 +193,8 @@ module _ {b u : List ℕ} {f : Frame} {t : List ℕ} {x : Notes} {d at : ℕ} {c
   elements-did : {ys : List ℕ} {r : Field} (j : Inside) → told ≡ j →
       let o = openedAs (st .place) j in
       o .on ≡ true → o .elements ≡ true
-      → FieldReads (elementsRead (d - 1) t (o .from) (o .count) (envOf b u f)) (atPlace (o .place) st) l r (lent 4 (listOpened (u8 t at) j ws)) ys
+      → FieldReads (elementsRead (d - 1) t (o .from) (o .count) (envOf b u f)) (atPlace (o .place) st) l r
+      (lent 4 (listOpened (u8 t at) j ws)) ys
       → Closed this (merged 4 (listOpened (u8 t at) j ws) ys) r
   unfolding openedAs wentIn listOpened
   elements-did (Members p v from n) e on one did = absurd (clash one)

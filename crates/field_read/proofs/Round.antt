@@ -1,6 +1,6 @@
--- Rounds of a loop over a run of fields, whichever loop it is: what was listed, and then what is ahead of the run, and then what comes behind
--- it, is the whole outcome. In order: what a loop keeps; what falls; entries put into the list; the run's end and no room; leaves, and what is
--- due of the last; fields that are opened; a field that is read by itself.
+-- Rounds of a loop over a run of fields, whichever loop it is: what was listed, and then what is ahead of the run, and then what comes
+-- behind it, is the whole outcome. In order: what a loop keeps; what falls; entries put into the list; the run's end and no room; leaves,
+-- and what is due of the last; fields that are opened; a field that is read by itself.
 use mathlib.Core.Path.{_≡_, refl, ap, sym, subst, _∙_}
 use mathlib.Core.List.{List, [], _∷_, _++_, append-nil}
 use mathlib.Core.Bool.{Bool, true, false}
@@ -52,7 +52,8 @@ use Rattle.listing.proofs.Checks.{no-room-first}
 use Rattle.listing.proofs.Roles.{clock-held, clock-advanced}
 use Rattle.listing.proofs.Parts.{Part, part-step, part-stop, part-length, back-room, listed-length, lent, lent-room, merged}
 use Rattle.leaf_read.specs.Reads.{leafSlot}
-use Rattle.leaf_read.specs.Leaves.{contentOf, LeavesListed, listBehind, leafThen, stopsAt, stoppedLeaves, lastLeaf, behindEntries, leavesRead}
+use Rattle.leaf_read.specs.Leaves.{contentOf, LeavesListed, listBehind, leafThen, stopsAt, stoppedLeaves, lastLeaf, behindEntries}
+use Rattle.leaf_read.specs.Leaves.{leavesRead}
 use Rattle.leaf_read.proofs.Leaves.{LeavesSay, leaves-read}
 use Rattle.field_inside.specs.declared.look.Inside.{Inside}
 use Rattle.field_inside.specs.declared.look.Inside.the-variants.{Members, Elements, Refused}
@@ -192,7 +193,9 @@ module _ {o : Out} {m : Step} {ws₀ ws : List ℕ} {used : ℕ} {st : State} {l
     part-halt came l′ = part-stop halt pass halt-part halt-did v came l′ refl
 
   pub put-length : length (merged used ws ys) ≡ length ws₀
-  put-length = same-len-mid used (length ws - used) ws ys (listed-length record { list = list; counted = counted; room = room }) ∙ part-length part
+  put-length =
+      same-len-mid used (length ws - used) ws ys (listed-length record { list = list; counted = counted; room = room })
+      ∙ part-length part
 
 -- The run's end, and no room
 
@@ -386,7 +389,8 @@ module _ {w : Loop} {r : Run} {ws : List ℕ} {used : ℕ} {st : State} {l : Slo
       let q = leavesOf .leaves in
       let act = store (q .slot) (contentOf (u8 (w .table) (q .at)) (q .value)) in
       let say = role (roleOf (q .role)) (q .width) (q .value) in
-      let rest = readFields (element r) (w .depths) (w .table) (onward (element r) (q .at) (nextAt (w .depths) (w .table) (q .at))) (q .todo) (env w) in
+      let next = onward (element r) (q .at) (nextAt (w .depths) (w .table) (q .at)) in
+      let rest = readFields (element r) (w .depths) (w .table) next (q .todo) (env w) in
       let sized : SizedClasses (w .table) (w .notes .sizes) = λ d p v. h .noted .classes d p v .size in
       let back = behind-reads (w .depths) (w .table) (w .notes .sizes) sized r (q .at) (q .todo) (go .stands) last-at (env w) in
       let same : ((act ⨾ (say ⨾ rest)) ⨾ (tail ⨾ w .behind)) ≡ dueLeft =
@@ -424,8 +428,8 @@ pub record LeavesRound (w : Loop) (r : Run) (ws : List ℕ) (used : ℕ) (st : S
       Kept w (store (q .slot) (contentOf (u8 (w .table) (q .at)) (q .value)) ⨾ (role (roleOf (q .role)) (q .width) (q .value) ⨾ left w r′))
       r′ (merged used ws ys) (used + q .used) (stateAt (q .place) (q .order) st) l
 
-pub leaves-round : {w : Loop} {r : Run} {ws : List ℕ} {used : ℕ} {st : State} {l : Slots} (h : Round w r ws used st l) (some : 0 < countOf r)
-    (bytes : Bytes (w .stream)) (x : Content) (kind : u8 (w .table) (firstAt r) < 28) (room : 4 ≤ length ws - used)
+pub leaves-round : {w : Loop} {r : Run} {ws : List ℕ} {used : ℕ} {st : State} {l : Slots} (h : Round w r ws used st l)
+    (some : 0 < countOf r) (bytes : Bytes (w .stream)) (x : Content) (kind : u8 (w .table) (firstAt r) < 28) (room : 4 ≤ length ws - used)
     (told : slotAt l (leafSlot (w .table) (firstAt r)) ≡ x) {q : Leaves} {ys : List ℕ}
     → q ≡ (leavesOf h some bytes x kind room told) .leaves → ys ≡ listBehind (leavesOf h some bytes x kind room told) (lent used ws)
     → LeavesRound w r ws used st l q ys
@@ -497,7 +501,8 @@ same-full : (p : BitPlace) (o : LastOrder) (q : State) (l : Slots) (n : ℕ) →
 same-full p o q l n a b = rw (a, b) refl
 
 -- the role is applied
-pub record RoleRound (w : Loop) (m : Step) (r : Run) (ws : List ℕ) (used : ℕ) (st : State) (l : Slots) (q : Roled) (ys : List ℕ) : Type 0 where
+pub record RoleRound (w : Loop) (m : Step) (r : Run) (ws : List ℕ) (used : ℕ) (st : State) (l : Slots) (q : Roled) (ys : List ℕ)
+    : Type 0 where
   pub room : used + q .used ≤ length (w .list)
   pub same : length (merged used ws ys) ≡ length (w .list)
   pub stops : (v : Stop) → q .went ≡ Stopped v → Stops w v (used + q .used) (merged used ws ys)
@@ -638,8 +643,8 @@ module _ {w : Loop} {r : Run} {ws : List ℕ} {used : ℕ} {st : State} {l : Slo
   class-reads : read (env w) (classAt d t at) here ≡ opened (env w) (u8 t at) d t insideHere here
   class-reads =
       ap (λ (e : ℕ). read (env w) (classAt e t at) here) (depth-some t at d holder-there)
-      ∙ inside-read (w .stream) (w .uuid) (w .frame) (d - 1) t (w .notes) at c here deep (h .kind) has-room (sym (h .told)) (h .round .framed)
-      (h .round .noted)
+      ∙ inside-read (w .stream) (w .uuid) (w .frame) (d - 1) t (w .notes) at c here deep (h .kind) has-room (sym (h .told))
+      (h .round .framed) (h .round .noted)
       ∙ opened-deeper (d - 1) d t less (w .frame) (st .place) (env w) (u8 t at) insideHere here held-less
 
   placed : (p : BitPlace) → Placed (w .frame) (st .place) p → Framed (w .stream) (w .frame) p
@@ -860,8 +865,8 @@ pub record FieldRound (w : Loop) (r : Run) (ws : List ℕ) (used : ℕ) (q : Fie
       → Round w (behindRun r (w .notes .sizes) (r .next) (r .todo - 1)) (merged used ws ys) (used + q .used) (q .state) (q .slots)
 
 module _ {w : Loop} {r : Run} {ws : List ℕ} {used : ℕ} {st : State} {l : Slots} {c : Content} (h : Holder w r ws used st l c) where
-  pub field-round : {q : Field} {ys : List ℕ} → FieldReads (read (env w) (classAt (w .depths) (w .table) (r .next))) st l q (lent used ws) ys
-      → FieldRound w r ws used q ys
+  pub field-round : {q : Field} {ys : List ℕ}
+      → FieldReads (read (env w) (classAt (w .depths) (w .table) (r .next))) st l q (lent used ws) ys → FieldRound w r ws used q ys
   unfolding outOf
   field-round {q} {ys} did =
       let d = did .did in

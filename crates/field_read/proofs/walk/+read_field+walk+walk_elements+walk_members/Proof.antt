@@ -237,6 +237,8 @@ module _ (t : ℕ) where
   one-depth : (c : AtInside) → 1 ≤ inside-given c .args .left
   one-depth c = omega (arith, depth-some _ _ _ (field-holder (inside-met c) .stands))
 
+  -- The slot that it reads, and its entry
+
   read-field-slot-read-requires : In-read-field t read-field-lts.Need-slot-read-requires
   read-field-slot-read-requires c κs =
       let p = known-given c .pre .1 in
@@ -264,6 +266,8 @@ module _ (t : ℕ) where
       let e = c .before .before .before .before .before in
       let o = e .open-field .ensures in
       rw (c .refused .ensures) (open-refused (field-holder (entry-met e)) (o .0) (o .1) (not-true _ (c .before .if2 .taken)))
+
+  -- The fields inside
 
   read-field-at-place-requires : In-read-field t read-field-lts.Need-at-place-requires
   read-field-at-place-requires c κs = search needs
@@ -308,7 +312,7 @@ module _ (t : ℕ) where
       let inside = open-members h (o .0) (o .1) (was-opened i) (c .before .if3 .left) in
       (omega (arith, inside-given i .pre .0, one-depth i), (inside .0, (h .noted, rw (c .before .before .at-place .ensures) (inside .1))))
 
-  -- what the fields inside did, members or elements
+  -- what they did, members or elements
   field-closed : (c : AtClosed) →
       let a = closed-given c .args in
       Closed (call (a .stream .now) (a .uuid .now) (a .frame) (classRead (a .left) (a .table .now) (a .at)) (a .st) (a .t10) (a .list .now))
@@ -565,9 +569,6 @@ module _ (t : ℕ) where
 
   abbrev entered-holder : AtEntered → AtHolder
   entered-holder c = c .before .before .before
-
-  abbrev entered-class : AtEntered → AtClass
-  entered-class c = holder-class (entered-holder c)
 
   abbrev entered-room : AtEntered → AtRoom
   entered-room c = holder-room (entered-holder c)
