@@ -35,7 +35,9 @@ module _ (t s : List ℕ) (id class : ℕ) (h : Sized t s) (e : foundOf (findStr
   unfolding isStream
   is-stream =
       let x = first-holds (SizedFragment t s) (isStream t id) (fragmentsOf t) class found-at (h .each) .0 in
-      (eqb-true _ _ (and-left (eqb (u8 t class) 4) (eqb (u64 t (class + 1)) id) x), eqb-true _ _ (and-right (eqb (u8 t class) 4) (eqb (u64 t (class + 1)) id) x))
+      let kind = and-left (eqb (u8 t class) 4) (eqb (u64 t (class + 1)) id) x in
+      let same = and-right (eqb (u8 t class) 4) (eqb (u64 t (class + 1)) id) x in
+      (eqb-true _ _ kind, eqb-true _ _ same)
 
   pub stream-found : (askedAt t) .stream id ≡ some (streamClassAt t class)
   unfolding askedAt mapOption
