@@ -49,6 +49,8 @@ module _ (t : Asked) (b : List ℕ) (k : ℕ) (i : Stated) (s : Whole) where
   unfolding readPacket
   packet-full h = due-stop _ s h
 
-  pub packet-marked : 4 ≤ s .room → readPacket t b k i s ≡ onto (entry packetStarts (s .place) 0 k ∷ []) (behindStart (startPacket (less s)))
+  pub packet-marked : 4 ≤ s .room
+      → readPacket t b k i s ≡ onto (entry packetStarts (s .place) 0 k ∷ []) (behindStart (startPacket (less s)))
   unfolding readPacket behindHeader behindFound
-  packet-marked h = room-first _ s h ∙ mark-on packetStarts 0 k _ s ∙ ap (onto (entry packetStarts (s .place) 0 k ∷ [])) (change-on startPacket _ (less s))
+  packet-marked h = room-first _ s h ∙ mark-on packetStarts 0 k _ s
+      ∙ ap (onto (entry packetStarts (s .place) 0 k ∷ [])) (change-on startPacket _ (less s))

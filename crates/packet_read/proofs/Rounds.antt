@@ -67,32 +67,47 @@ module _ (t : Asked) (w : Fit t) (b : List ℕ) {o : Out} {ws₀ ws : List ℕ} 
     (x : Looping t b o ws₀ ws used st first number) where
   module _ (more : st .place .0 < 8 * length b) where
     round : Part o (readPacket t b number first ⨾ next t b number first (x .left - 1)) ws₀ ws used st (x .slots)
-    round = part-same _ _ (more-packets t b number first (x .left) (full st (x .slots) (length ws₀ - used)) more (omega (arith, x .rounds))) (x .part)
+    round =
+        part-same _ _
+        (more-packets t b number first (x .left) (full st (x .slots) (length ws₀ - used)) more (omega (arith, x .rounds))) (x .part)
 
     module _ {r : Ran} {ys : List ℕ} (d : PacketDid (readPacket t b number first) st r (lent used ws) ys) where
       pub round-room : used + r .used ≤ length ws₀
       round-room = back-room (readPacket t b number first) round (d .at (x .slots) .did)
 
-      pub round-stops : (v : Stop) (came : State) → r .went ≡ Stopped v → RanDid o came (stoppedRan v (used + r .used) came) ws₀ (merged used ws ys)
-      round-stops v came off =
-          record { slots = x .slots; did = part-stop (readPacket t b number first) (next t b number first (x .left - 1)) round (d .at (x .slots) .did) v came (x .slots) off }
+      -- a stop hands back the state in which the reading began
+      pub round-stops : (v : Stop) (begun : State) → begun ≡ firstState → r .went ≡ Stopped v
+          → RanDid o firstState (stoppedRan v (used + r .used) begun) ws₀ (merged used ws ys)
+      round-stops v begun e off = rw (e) (record {
+        slots = x .slots;
+        did = part-stop (readPacket t b number first) (next t b number first (x .left - 1)) round (d .at (x .slots) .did) v firstState
+            (x .slots) off;
+      })
 
-      pub round-behind : r .went ≡ On → Behind b (st .place .0) (full (r .state) (d .at (x .slots) .slots) (length (lent used ws) - r .used))
+      -- the rules' states in front of the packet, and behind it
+      abbrev before : Whole
+      before = full st (x .slots) (length (lent used ws))
+
+      abbrev behind : Whole
+      behind = full (r .state) (d .at (x .slots) .slots) (length (lent used ws) - r .used)
+
+      pub round-behind : r .went ≡ On → Behind b (st .place .0) behind
       unfolding outOf
       round-behind on =
           let g = d .at (x .slots) .did in
-          let e : readPacket t b number first (full st (x .slots) (length (lent used ws))) ≡ go (g .listed) (full (r .state) (d .at (x .slots) .slots) (length (lent used ws) - r .used)) = g .out ∙ rw (on) refl in
-          subst (Onward (Behind b (st .place .0))) e
-          (packet-onward t w b number first (full st (x .slots) (length (lent used ws))) more (x .starts .whole))
+          let e : readPacket t b number first before ≡ go (g .listed) behind = g .out ∙ rw (on) refl in
+          subst (Onward (Behind b (st .place .0))) e (packet-onward t w b number first before more (x .starts .whole))
 
-      pub round-goes : r .went ≡ On → Looping t b o ws₀ (merged used ws ys) (used + r .used) (r .state) (As (r .state .said .stream)) (number + 1)
+      pub round-goes : r .went ≡ On
+          → Looping t b o ws₀ (merged used ws ys) (used + r .used) (r .state) (As (r .state .said .stream)) (number + 1)
       round-goes on =
           let h = round-behind on in
+          let others = next t b number first (x .left - 1) in
           record {
             slots = d .at (x .slots) .slots;
             left = x .left - 1;
-            part = part-same (next t b number first (x .left - 1)) (readPackets t b (number + 1) (As (r .state .said .stream)) (x .left - 1)) refl
-                (part-step (readPacket t b number first) (next t b number first (x .left - 1)) round (d .at (x .slots) .did) on);
+            part = part-same others (readPackets t b (number + 1) (As (r .state .said .stream)) (x .left - 1)) refl
+                (part-step (readPacket t b number first) others round (d .at (x .slots) .did) on);
             starts = record { whole = h .whole; within = h .within };
             rounds = omega (arith, h .on, x .rounds);
             count = omega (arith, h .on, x .count);
@@ -100,7 +115,6 @@ module _ (t : Asked) (w : Fit t) (b : List ℕ) {o : Out} {ws₀ ws : List ℕ} 
 
   pub loop-end : (came : State) → 8 * length b ≤ st .place .0 → RanDid o came (record { went = On; used = used; state = st }) ws₀ ws
   unfolding pass
-  loop-end came h = record {
-    slots = x .slots;
-    did = part-end (part-same _ pass (no-packets t b number first (x .left) (full st (x .slots) (length ws₀ - used)) h) (x .part)) came (λ s. refl);
-  }
+  loop-end came h =
+      let none = no-packets t b number first (x .left) (full st (x .slots) (length ws₀ - used)) h in
+      record { slots = x .slots; did = part-end (part-same _ pass none (x .part)) came (λ s. refl) }
