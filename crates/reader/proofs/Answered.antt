@@ -71,7 +71,8 @@ module _ (t : List ℕ) (x : Notes) (b : List ℕ) (g : Ready t x) (n : length b
     pub trace-there : o + 18 ≤ length t
     unfolding openingSize isTrace
     trace-there =
-        let k : u8 t o ≡ 2 = eqb-true _ _ (first-holds (SizedFragment t (x .sizes)) (isTrace t) (fragmentsOf t) o trace-at (g .noted .sized .each) .0) in
+        let is = first-holds (SizedFragment t (x .sizes)) (isTrace t) (fragmentsOf t) o trace-at (g .noted .sized .each) .0 in
+        let k : u8 t o ≡ 2 = eqb-true _ _ is in
         rw (k, openingSize) at (trace-sized .stands .there)
 
     module _ (r : Found) (j : r ≡ foundOf (rootPlace t o 0)) (u : Found) (v : u ≡ foundOf (uuidPlace t o)) where
@@ -144,7 +145,8 @@ module _ (t : Asked) (b ws : List ℕ) (y : Result) where
   stream-answers {r} {ws′} d one few e =
       let a : eqb (length b) 0 ≡ false = ne-eqb (length b) 0 (λ z. omega arith) in
       rw (a, le-ltb streamLimit (length b) few, readStream) (rw (d .did .out)
-      (out-answers (d .did .listed) (r .went) (r .used) (d .did .counted) ws ws′ (d .did .list) y (r .state) (d .slots) (length ws - r .used) e))
+      (out-answers (d .did .listed) (r .went) (r .used) (d .did .counted) ws ws′ (d .did .list) y (r .state) (d .slots)
+      (length ws - r .used) e))
 
   -- "0 entries, place 0" (21)
   size-answers : (eqb (length b) 0 || ltb streamLimit (length b)) ≡ true → y ≡ refusedWith (stopAt StreamSize (bitPlace 0)) 0
@@ -158,7 +160,8 @@ module _ (t : Asked) (b ws : List ℕ) (y : Result) where
   pub empty-answers : length b ≡ 0 → y ≡ refusedWith (stopAt StreamSize (bitPlace 0)) 0 → Answers (readStream t b (length ws)) y ws ws
   empty-answers h e = size-answers (rw (eq-eqb (length b) 0 h) refl) e
 
-  pub large-answers : streamLimit < length b → y ≡ refusedWith (stopAt StreamSize (bitPlace 0)) 0 → Answers (readStream t b (length ws)) y ws ws
+  pub large-answers : streamLimit < length b → y ≡ refusedWith (stopAt StreamSize (bitPlace 0)) 0
+      → Answers (readStream t b (length ws)) y ws ws
   large-answers h e =
       let a : eqb (length b) 0 ≡ false = ne-eqb (length b) 0 (λ z. omega arith) in
       size-answers (rw (a, lt-ltb streamLimit (length b) h) refl) e
@@ -167,7 +170,9 @@ module _ (t : Asked) (b ws : List ℕ) (y : Result) where
 
 module _ (t b ws : List ℕ) where
   -- "20: table refused; first id is its number, place its byte"
-  refused-answers : (m : ℕ) (y : List ℕ) → Answers (readParsed t (bad m y) b (length ws)) (record { number = 20; entries = 0; place = (byteOf t y) .0; first = m; second = 0 }) ws ws
+  refused-answers : (m : ℕ) (y : List ℕ)
+      → Answers (readParsed t (bad m y) b (length ws))
+      (record { number = 20; entries = 0; place = (byteOf t y) .0; first = m; second = 0 }) ws ws
   unfolding readParsed resultOf numberOf placeOf firstOf secondOf listAfter words
   refused-answers m y = record { result = refl; list = refl }
 
@@ -196,7 +201,8 @@ module _ (t b ws : List ℕ) where
   unfolding readAll checked
   accepted-reads n h = by (parse t) refl h
     where
-      by : (o : Parsed Table) → parse t ≡ o → checkedOf t o ≡ Accepted n → readParsed t o b (length ws) ≡ readStream (askedAt t) b (length ws)
+      by : (o : Parsed Table) → parse t ≡ o → checkedOf t o ≡ Accepted n
+          → readParsed t o b (length ws) ≡ readStream (askedAt t) b (length ws)
       by (bad m y) e h = let z : _≡_ {A = ℕ} 0 1 = unfold checkedOf in cc in absurd (omega arith)
       by (good T y) e h = unfold readParsed in ap (λ a. readStream a b (length ws)) (asked-at t T y e)
 
