@@ -44,6 +44,8 @@ module _ (t : List ℕ) (root : Found) (e : Env) (st : State) (l : Slots) where
   unfolding classOf readRoot readMembers membersAt _⨾_
   root-reads p h s = rw (h) (after-pass _)
 
-  pub a-root : (p : ℕ) {r : Field} {ws ws′ : List ℕ} → root ≡ At p → FieldReads (readMembers e (membersAt (stoodAt depthLimit t) p 1)) st l r ws ws′
+  pub a-root : (p : ℕ) {r : Field} {ws ws′ : List ℕ} → root ≡ At p
+      → FieldReads (readMembers e (membersAt (stoodAt depthLimit t) p 1)) st l r ws ws′
       → FieldReads (readRoot e (classOf t root)) st l r ws ws′
-  a-root p {r} {ws} {ws′} h did = record { did = rw (root-reads p h (full st l (length ws))) at (did .did); kept = did .kept; many = did .many }
+  a-root p {r} {ws} {ws′} h did =
+      record { did = rw (root-reads p h (full st l (length ws))) at (did .did); kept = did .kept; many = did .many }
