@@ -28,6 +28,7 @@ and-none true = refl
 and-none false = refl
 
 -- the branch that a test takes first agrees, and the other is the same
-pub if-agree : {A : Type 0} (b : Bool) (x y z : A) → (b ≡ true → x ≡ y) → _≡_ {A = A} (elim b [ true ↦ x | false ↦ z ]) (elim b [ true ↦ y | false ↦ z ])
+pub if-agree : {A : Type 0} (b : Bool) (x y z : A) → (b ≡ true → x ≡ y)
+    → _≡_ {A = A} (elim b [ true ↦ x | false ↦ z ]) (elim b [ true ↦ y | false ↦ z ])
 if-agree true x y z h = h refl
 if-agree false x y z h = refl
