@@ -9,7 +9,7 @@ use mathlib.Core.Option.{some}
 use lib.ListN.{length, getD}
 use borrow.Author.Tests.{lt-ltb, le-ltb}
 use Rattle.rules.specs.Record.{u8}
-use Rattle.class_layout.specs.declared.Found.the-variants.{At, Nothing}
+use Rattle.class_layout.specs.declared.TablePlace.the-variants.{At, Nothing}
 use Rattle.class_layout.specs.Fragments.{openingSize, behindFragment, fragmentsFrom, fragmentsOf, firstOf, Fragment, All}
 use Rattle.class_layout.specs.Sizes.{foundOf, SizedFragment, Sized}
 

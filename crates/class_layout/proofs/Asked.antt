@@ -18,7 +18,7 @@ use Rattle.rules.specs.Record.{root, class, range, option, u8, u64, size, recor
 use Rattle.rules.specs.Table.{Table, findStream, findEvent, asked}
 use Rattle.rules.specs.Parse.{Parsed, bad, good, Parser, then, one, sound, missing, parseRoots, rootNumbers, isTimed, hasUuid, noTable}
 use Rattle.rules.specs.Parse.{rootOf, add, parseFragment, parseOpened, parseFragments, parse, checkedOf, checked}
-use Rattle.rules.specs.Faults.{Seen, noneSeen, seen, recordFault, openFault, firstFault}
+use Rattle.rules.specs.Faults.{Ids, noIds, seen, recordFault, openFault, firstFault}
 use Rattle.facts.proofs.Truth.{or-false}
 use Rattle.class_layout.specs.Fragments.{isTrace, isStream, isEvent, firstOf, openingSize, rootsOf, rootPlaces, behindRoots}
 use Rattle.class_layout.specs.Fragments.{rootPlace, behindFragment, fragmentsFrom, fragmentsOf, findTraceAt, findStreamAt}
@@ -40,7 +40,7 @@ module _ (t : List ℕ) where
     bytes : size (drop at t) ≡ openingSize (u8 t at)
     roots : rootNumbers g ≡ rootsOf (u8 t at)
 
-  opened : (q : Seen) (at : ℕ) (g : Opening) → recordOf (drop at t) ≡ fragment g → openFault q (fragment g) ≡ 0 → Opened at g
+  opened : (q : Ids) (at : ℕ) (g : Opening) → recordOf (drop at t) ≡ fragment g → openFault q (fragment g) ≡ 0 → Opened at g
   unfolding openFault openingSize rootsOf rootNumbers
   opened q at (preamble v) e z = absurd (omega arith)
   opened q at (traceClass u l) e z =
@@ -114,7 +114,7 @@ module _ (t : List ℕ) where
         (λ k. elim (eqb k 5 && (eqb (u64 t (at + 1)) i && eqb (u64 t (at + 9)) j)) [ true ↦ some at | false ↦ findEventAt t os i j ])
         e
 
-  added : (q : Seen) (g : Opening) (at : ℕ) (cs : List (Option Class)) (os : List ℕ) (T : Table) → recordOf (drop at t) ≡ fragment g
+  added : (q : Ids) (g : Opening) (at : ℕ) (cs : List (Option Class)) (os : List ℕ) (T : Table) → recordOf (drop at t) ≡ fragment g
       → openFault q (fragment g) ≡ 0
       → Fragment t at → ((i : ℕ) → rootOf cs i ≡ rootClass t at i) → Tabled os T → Tabled (at ∷ os) (add g cs T)
   unfolding openFault add uuidAt headerAt findStream findEvent streamClassAt eventClassAt
@@ -193,10 +193,10 @@ module _ (t : List ℕ) where
       }
 
   -- what the table says is had from these fragments, and no two event classes have the same ids
-  abbrev Asks : Seen → Table → List ℕ → Type 0
+  abbrev Asks : Ids → Table → List ℕ → Type 0
   Asks q T os = Tabled os T × Once t q os
 
-  fragments-stand : (left : ℕ) (q : Seen) (at : ℕ) (T : Table) (y : List ℕ) → at ≤ length t → parseFragments left q (drop at t) ≡ good T y
+  fragments-stand : (left : ℕ) (q : Ids) (at : ℕ) (T : Table) (y : List ℕ) → at ≤ length t → parseFragments left q (drop at t) ≡ good T y
       → Asks q T (fragmentsFrom left t at)
   unfolding parseFragments fragmentsFrom parseOpened parseFragment openFault behindFragment rootClass rootPlace
   fragments-stand zero q at T y l e = (rw (← good-value e) none-tabled, none-once t q)
@@ -204,7 +204,7 @@ module _ (t : List ℕ) where
       by (ltb at (length t)) (λ q at T y l e. fragments-stand left q at T y l e) (rw (missing-at at, parseFragments) at e)
     where
       Rest : Type 0
-      Rest = (q : Seen) (at : ℕ) (T : Table) (y : List ℕ) → at ≤ length t → parseFragments left q (drop at t) ≡ good T y
+      Rest = (q : Ids) (at : ℕ) (T : Table) (y : List ℕ) → at ≤ length t → parseFragments left q (drop at t) ≡ good T y
           → Asks q T (fragmentsFrom left t at)
 
       opening : Rest → (r : Record) → recordOf (drop at t) ≡ r → (b : Bool) → recordFault b q r (openFault q r) ≡ 0
@@ -273,22 +273,22 @@ module _ (t : List ℕ) (T : Table) (y : List ℕ) (e : parse t ≡ good T y) wh
     limit : length t ≤ 65536
     first : u8 t 0 ≡ 1
     says : Tabled t (fragmentsOf t) T
-    once : Once t noneSeen (fragmentsOf t)
+    once : Once t noIds (fragmentsOf t)
 
   accepted : Accepted-table
   unfolding parse sound fragmentsOf behindRoots
   accepted = by (missing t || ltb 65536 (length t)) refl e
     where
       rest : Parser Table
-      rest x = then (parseRoots noneSeen false false [] x) λ cs x. parseFragments (length x) noneSeen x
+      rest x = then (parseRoots noIds false false [] x) λ cs x. parseFragments (length x) noIds x
 
       behind-first : (n : ℕ) → firstFault (ltb (length t) (size t)) (recordOf t) ≡ n → sound n t rest ≡ good T y
-          → (u8 t 0 ≡ 1) × Asks t noneSeen T (fragmentsFrom (length t - 2) t 2)
+          → (u8 t 0 ≡ 1) × Asks t noIds T (fragmentsFrom (length t - 2) t 2)
       behind-first zero z e =
           let f = first-fine t _ (recordOf t) refl refl z in
-          let a = then-good (parseRoots noneSeen false false [] (drop 2 t)) _ T y (rw (f .onward) at e) in
-          let r = roots-stand t noneSeen false false [] 2 (a .value) (a .rest) (f .there) (a .first) in
-          (f .kind, fragments-stand t (length t - 2) noneSeen 2 T y (f .there) (rw (r .rest, length-drop 2 t) at (a .second)))
+          let a = then-good (parseRoots noIds false false [] (drop 2 t)) _ T y (rw (f .onward) at e) in
+          let r = roots-stand t noIds false false [] 2 (a .value) (a .rest) (f .there) (a .first) in
+          (f .kind, fragments-stand t (length t - 2) noIds 2 T y (f .there) (rw (r .rest, length-drop 2 t) at (a .second)))
       behind-first (suc n) z e = absurd (bad-good e)
 
       by : (b : Bool) → (missing t || ltb 65536 (length t)) ≡ b

@@ -10,7 +10,7 @@ use lib.Dec.{eqb}
 use borrow.Author.Tests.{ne-eqb}
 use Rattle.rules.specs.Record.{u8}
 use Rattle.rules.specs.Parse.{uuidOf}
-use Rattle.class_layout.specs.declared.Found.the-variants.{At, Nothing}
+use Rattle.class_layout.specs.declared.TablePlace.the-variants.{At, Nothing}
 use Rattle.class_layout.specs.Fragments.{firstOf, uuidAt, All}
 use Rattle.class_layout.specs.Sizes.{foundOf, uuidPlace}
 

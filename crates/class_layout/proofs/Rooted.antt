@@ -13,7 +13,7 @@ use Rattle.rules.specs.Limits.{depthLimit}
 use Rattle.rules.specs.Class.{Class}
 use Rattle.rules.specs.Record.{Record, unknown, fragment, root, class, range, option, u8, size, recordOf, behind}
 use Rattle.rules.specs.Parse.{bad, good, then, one, missing, isRoot, anyRoot, parseClass, parseRoots, rootOf}
-use Rattle.rules.specs.Faults.{Seen, top, Under, rootFault}
+use Rattle.rules.specs.Faults.{Ids, top, Under, rootFault}
 use Rattle.facts.proofs.Numbers.{lt-or-ge}
 use Rattle.facts.proofs.Truth.{and-left, and-right, and-none}
 use Rattle.class_layout.specs.Trees.{classAt, nextAt, whole}
@@ -103,7 +103,7 @@ module _ (t : List ℕ) where
       wholes zero p e = absurd (none-some e)
       wholes (suc i) p e = b .wholes i p e
 
-  pub roots-stand : (q : Seen) (timed u : Bool) (ns : List ℕ) (at : ℕ) (cs : List (Option Class)) (x : List ℕ) → at ≤ length t
+  pub roots-stand : (q : Ids) (timed u : Bool) (ns : List ℕ) (at : ℕ) (cs : List (Option Class)) (x : List ℕ) → at ≤ length t
       → parseRoots q timed u ns (drop at t) ≡ good cs x → RootsStand (rootPlaces t at ns) at (behindRoots t at ns) cs x
   unfolding parseRoots rootPlaces behindRoots
   roots-stand q timed u [] at cs x l e = by (not (missing (drop at t)) && anyRoot (recordOf (drop at t))) e

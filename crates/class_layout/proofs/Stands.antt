@@ -16,7 +16,7 @@ use Rattle.rules.specs.Record.{elementsOf, option?, options, Record, unknown, f
 use Rattle.rules.specs.Record.{recordOf}
 use Rattle.rules.specs.Parse.{good, Parser, then, Ranges, rangeOf, countOf, theSign, selected, parseRanges, parseMembers, parseOptions}
 use Rattle.rules.specs.Parse.{parseShape, parseBody, parseClass}
-use Rattle.rules.specs.Faults.{Seen, Spot, inside, memberSpot, Under, signOf, otherSign, meets, rangeFault, optionFault, out, classFault}
+use Rattle.rules.specs.Faults.{Ids, Spot, inside, memberSpot, Under, signOf, otherSign, meets, rangeFault, optionFault, out, classFault}
 use Rattle.facts.proofs.Truth.{or-false, clash}
 use Rattle.class_layout.specs.Trees.{shapeOf, recordSize, rangesAt, signAt, optionClass, optionalOf, Stood, membersAt, behindMembers}
 use Rattle.class_layout.specs.Trees.{optionsAt, behindOptions, classIn, nextIn, stoodAt, classAt, nextAt, wholeMembers, wholeOptions}
@@ -84,7 +84,7 @@ module _ (t : List ℕ) where
   abbrev RangesStand : ℕ → ℕ → Option Sign → Ranges → List ℕ → Type 0
   RangesStand at n o p x = Took t Unit (signFrom n (signAt t at) o, rangesAt t at n) at (at + 18 * n) p x
 
-  ranges-stand : (q : Seen) (earlier : List Range) (n : ℕ) (o : Option Sign) (at : ℕ) (p : Ranges) (x : List ℕ) → at ≤ length t
+  ranges-stand : (q : Ids) (earlier : List Range) (n : ℕ) (o : Option Sign) (at : ℕ) (p : Ranges) (x : List ℕ) → at ≤ length t
       → parseRanges q earlier n o (drop at t) ≡ good p x → RangesStand at n o p x
   unfolding parseRanges rangesAt signAt rangeFault rangeOf
   ranges-stand q earlier zero o at p x l h =
@@ -133,7 +133,7 @@ module _ (t : List ℕ) where
           }
 
   -- Members and options: g says of a byte that a class stands whole there, h what stands there, f parses it
-  module _ (q : Seen) (f : Spot → Parser Class) (g : ℕ → Type 0) (h : ℕ → Stood)
+  module _ (q : Ids) (f : Spot → Parser Class) (g : ℕ → Type 0) (h : ℕ → Stood)
       (deeper : (z : Spot) (p : ℕ) (c : Class) (x : List ℕ) → f z (drop p t) ≡ good c x
       → Took t (g p) ((h p) .class) (p + 1) ((h p) .next) c x) where
     members-stand : (z : Spot) (n at : ℕ) (cs : Classes) (x : List ℕ) → at ≤ length t → parseMembers f z n (drop at t) ≡ good cs x
@@ -302,7 +302,7 @@ module _ (t : List ℕ) where
 abbrev pub Stands : ℕ → List ℕ → ℕ → Class → List ℕ → Type 0
 Stands d t at c x = Took t (whole d t at) (classAt d t at) (at + 1) (nextAt d t at) c x
 
-pub stands : (q : Seen) (u : Under) (d : ℕ) (z : Spot) (t : List ℕ) (at : ℕ) (c : Class) (x : List ℕ)
+pub stands : (q : Ids) (u : Under) (d : ℕ) (z : Spot) (t : List ℕ) (at : ℕ) (c : Class) (x : List ℕ)
     → parseClass q u d z (drop at t) ≡ good c x → Stands d t at c x
 unfolding parseClass classFault parseBody whole stoodAt
 stands q u zero z t at c x e = absurd (bad-good (one-good q _ _ t at c x e .rest))

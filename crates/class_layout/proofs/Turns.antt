@@ -10,11 +10,11 @@ use lib.ListN.{length, getD, List·getD-eq-default}
 use Rattle.rules.specs.Limits.{depthLimit}
 use Rattle.rules.specs.Record.{u8}
 use Rattle.facts.proofs.Numbers.{lt-or-ge}
-use Rattle.class_layout.specs.declared.Found.the-variants.{At, Nothing}
+use Rattle.class_layout.specs.declared.TablePlace.the-variants.{At, Nothing}
 use Rattle.class_layout.specs.declared.openings.Opening.{Opening}
 use Rattle.class_layout.specs.Trees.{nextAt, whole}
 use Rattle.class_layout.specs.Fragments.{rootHere, rootPlaces, behindRoots, rootPlace, behindFragment, Fragment}
-use Rattle.class_layout.specs.Sizes.{foundOf, SizedRoots, SizedFragment, numbered, Opens, behindRoot, SizedRoot}
+use Rattle.class_layout.specs.Sizes.{foundOf, SizedRoots, SizedFragment, numbered, OpeningOf, behindRoot, SizedRoot}
 
 -- a class that stands whole begins before the table's end, past which every byte reads as 0
 pub whole-inside : (d : ℕ) (t : List ℕ) (p : ℕ) → whole d t p → p < length t
@@ -57,7 +57,7 @@ pub record Turn (t s : List ℕ) (o turn at number left : ℕ) : Type 0 where
   pub roots : (j p : ℕ) → getD (rootPlaces t at (numbered number more)) j none ≡ some p
       → whole depthLimit t p × (p + getD s p 0 ≡ nextAt depthLimit t p)
 
-module _ (t : List ℕ) (o turn : ℕ) {r : Opening} (e : Opens (u8 t o) r) where
+module _ (t : List ℕ) (o turn : ℕ) {r : Opening} (e : OpeningOf (u8 t o) r) where
   places-are : (j : ℕ) → rootPlace t o j ≡ getD (rootPlaces t (o + r .size) (numbered (r .first) (r .count))) j none
   unfolding rootPlace
   places-are j = rw (e .size, ← e .roots)
@@ -145,7 +145,7 @@ pub record RootsLeft (t s : List ℕ) (o at number left : ℕ) : Type 0 where
       → whole depthLimit t p × (p + getD s p 0 ≡ nextAt depthLimit t p)
 
 module _ {t s : List ℕ} {o : ℕ} where
-  pub roots-start : {r : Opening} → Fragment t o → SizedRoots t s o → Opens (u8 t o) r → RootsLeft t s o (o + r .size) (r .first) (r .count)
+  pub roots-start : {r : Opening} → Fragment t o → SizedRoots t s o → OpeningOf (u8 t o) r → RootsLeft t s o (o + r .size) (r .first) (r .count)
   unfolding behindFragment
   roots-start h k e = record {
     same = rw (e .size, ← e .roots);

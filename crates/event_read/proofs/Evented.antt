@@ -20,10 +20,10 @@ use Rattle.rules.specs.Field.{Env}
 use Rattle.rules.specs.Table.{StreamClass, Asked}
 use Rattle.rules.specs.Packet.{mark, readRoot, withEvent, startEvent, readEvent}
 use Rattle.facts.proofs.Steps.{seq-assoc}
-use Rattle.leaf_find_number.specs.declared.Frame.{Frame}
-use Rattle.listing.specs.declared.State.{State}
+use Rattle.frame.specs.declared.Frame.{Frame}
+use Rattle.listing.specs.declared.Progress.{Progress}
 use Rattle.listing.specs.declared.Went.the-variants.{On}
-use Rattle.leaf_find_number.specs.Framed.{Framed, envOf}
+use Rattle.frame.specs.Framed.{Framed, envOf}
 use Rattle.listing.specs.Did.{full, outOf}
 use Rattle.listing.proofs.Checks.{check-stops, check-goes, room-first, no-room-first}
 use Rattle.listing.proofs.Roles.{went-no-further}
@@ -37,19 +37,19 @@ use Rattle.listing.proofs.Marks.{change-on}
 use Rattle.outcome.proofs.Parted.{Parted}
 
 -- a step that stopped with nothing listed
-pub nothing-did : (M : Step) (st : State) (l : Slots) (ws : List ℕ) (v : Stop) → M (full st l (length ws)) ≡ stop [] v
+pub nothing-did : (M : Step) (st : Progress) (l : Slots) (ws : List ℕ) (v : Stop) → M (full st l (length ws)) ≡ stop [] v
     → EventDid M st l (stoppedRan v 0 st) ws ws
 nothing-did M st l ws v e = record { slots = l; kept = refl; did = went-no-further _ st l v ws e }
 
 -- "38 if the place did not move"
-unfoldable pub moved : State → Step
+unfoldable pub moved : Progress → Step
 moved st = check (λ s. eqb (s .place .0) (st .place .0)) EventTookNoBits
 
 -- an event behind entry 4: its header, its body, and 38
-unfoldable pub behindStart : Asked → StreamClass → Env → State → Step
+unfoldable pub behindStart : Asked → StreamClass → Env → Progress → Step
 behindStart a c e st = readRoot e (c .header) ⨾ (bodyOf a c e ⨾ moved st)
 
-module _ (a : Asked) (c : StreamClass) (e : Env) (n : ℕ) (st : State) (l : Slots) (room : ℕ) where
+module _ (a : Asked) (c : StreamClass) (e : Env) (n : ℕ) (st : Progress) (l : Slots) (room : ℕ) where
   abbrev Look : Step
   Look s = withEvent (c .id) (s .said .event) (a .event (c .id) (s .said .event))
       (λ d. mark eventClassFound 0 (s .said .event) ⨾ readRoot e (c .common) ⨾ readRoot e (d .specific) ⨾ readRoot e (d .payload)) s
@@ -88,7 +88,7 @@ unset-again l h =
     (omega (arith, length-take packetSlotCount l)))
 
 -- entry 4 stands in front
-module _ (a : Asked) (c : StreamClass) (b u : List ℕ) (f : Frame) (n : ℕ) (st : State) (l : Slots) (ws ws₁ : List ℕ) (h : 4 ≤ length ws)
+module _ (a : Asked) (c : StreamClass) (b u : List ℕ) (f : Frame) (n : ℕ) (st : Progress) (l : Slots) (ws ws₁ : List ℕ) (h : 4 ≤ length ws)
     (many : length l ≡ slotCount) (framed : Framed b f (st .place)) (e : ws₁ ≡ words (entry eventStarts (st .place) 0 n ∷ []) ++ drop 4 ws)
   where
     abbrev Event : Step
@@ -113,7 +113,7 @@ module _ (a : Asked) (c : StreamClass) (b u : List ℕ) (f : Frame) (n : ℕ) (s
     }
 
 -- what is left lists nothing: it stops, or the event is done
-module _ (m M : Step) (came : State) (l₀ : Slots) {ws₀ ws : List ℕ} {used : ℕ} {st : State} {l : Slots}
+module _ (m M : Step) (came : Progress) (l₀ : Slots) {ws₀ ws : List ℕ} {used : ℕ} {st : Progress} {l : Slots}
     (p : Part (M (full came l₀ (length ws₀))) m ws₀ ws used st l) where
   pub left-stops : (v : Stop) → m (full st l (length ws₀ - used)) ≡ stop [] v → EventDid M came l₀ (stoppedRan v used came) ws₀ ws
   unfolding onto outOf
@@ -146,7 +146,7 @@ module _ (m M : Step) (came : State) (l₀ : Slots) {ws₀ ws : List ℕ} {used 
     };
   }
 
-module _ (st₀ st : State) (l : Slots) (room : ℕ) where
+module _ (st₀ st : Progress) (l : Slots) (room : ℕ) where
   pub not-moved : st .place .0 ≡ st₀ .place .0 → moved st₀ (full st l room) ≡ stop [] (stopAt EventTookNoBits (st .place))
   unfolding moved refuse
   not-moved h = check-stops _ EventTookNoBits (full st l room) (eq-eqb _ _ h)

@@ -16,9 +16,9 @@ use Rattle.facts.proofs.Truth.{clash}
 use Rattle.class_layout.specs.Fragments.{askedAt, streamClassAt}
 use Rattle.class_layout.specs.Notes.{Notes, Prepared}
 use Rattle.class_layout.specs.Sizes.{Sized}
-use Rattle.leaf_find_number.specs.declared.Frame.{Frame}
-use Rattle.leaf_find_number.specs.Framed.{envOf}
-use Rattle.listing.specs.declared.State.{State}
+use Rattle.frame.specs.declared.Frame.{Frame}
+use Rattle.frame.specs.Framed.{envOf}
+use Rattle.listing.specs.declared.Progress.{Progress}
 use Rattle.listing.specs.declared.Went.the-variants.{On, Stopped}
 use Rattle.listing.specs.Did.{Did, full}
 use Rattle.listing.proofs.Parts.{Part, lent, merged}
@@ -49,7 +49,7 @@ pub record Given : Type 0 where
   pub table : List ℕ
   pub notes : Notes
   pub asking : Asking
-  pub begun : State
+  pub begun : Progress
 
 abbrev pub envGiven : Given → Env
 envGiven g = envOf (g .stream) (g .uuid) (g .frame)
@@ -70,7 +70,7 @@ eventLoop g all ws₀ class turn = record {
 
 -- what a round keeps
 pub record EventRound (g : Given) (all : Out) (ws₀ : List ℕ) (class turn : ℕ) (run : Run) (pile : List Run) (off : ℕ) (ws : List ℕ)
-    (used : ℕ) (st : State) (l : Slots) : Type 0 where
+    (used : ℕ) (st : Progress) (l : Slots) : Type 0 where
   pub early : turn ≤ turns
   pub few : off ≤ runs
   pub size : length pile ≡ runs
@@ -79,12 +79,12 @@ pub record EventRound (g : Given) (all : Out) (ws₀ : List ℕ) (class turn : �
   pub round : Round (piled (eventLoop g all ws₀ class turn) pile off) run ws used st l
 
 module _ {g : Given} {all : Out} {ws₀ : List ℕ} {class turn : ℕ} {run : Run} {pile : List Run} {off : ℕ} {ws : List ℕ} {used : ℕ}
-    {st : State} {l : Slots} (h : EventRound g all ws₀ class turn run pile off ws used st l) where
+    {st : Progress} {l : Slots} (h : EventRound g all ws₀ class turn run pile off ws used st l) where
   abbrev here : Loop
   here = eventLoop g all ws₀ class turn
 
   -- the same turn, and the same runs put off
-  pub gone-on : {run′ : Run} {ws′ : List ℕ} {used′ : ℕ} {st′ : State} {l′ : Slots} → Round (piled here pile off) run′ ws′ used′ st′ l′
+  pub gone-on : {run′ : Run} {ws′ : List ℕ} {used′ : ℕ} {st′ : Progress} {l′ : Slots} → Round (piled here pile off) run′ ws′ used′ st′ l′
       → EventRound g all ws₀ class turn run′ pile off ws′ used′ st′ l′
   gone-on r = record {
     early = h .early;
@@ -96,7 +96,7 @@ module _ {g : Given} {all : Out} {ws₀ : List ℕ} {class turn : ℕ} {run : Ru
   }
 
   -- a run is put off for another
-  pub put-off : {rest run′ : Run} {ws′ : List ℕ} {used′ : ℕ} {st′ : State} {l′ : Slots} → off < runs
+  pub put-off : {rest run′ : Run} {ws′ : List ℕ} {used′ : ℕ} {st′ : Progress} {l′ : Slots} → off < runs
       → WholeRun depthLimit (g .table) rest → Round (apartFrom (piled here pile off) rest) run′ ws′ used′ st′ l′
       → EventRound g all ws₀ class turn run′ (set pile off rest) (off + 1) ws′ used′ st′ l′
   put-off {rest} some stands r =
@@ -128,7 +128,7 @@ module _ {g : Given} {all : Out} {ws₀ : List ℕ} {class turn : ℕ} {run : Ru
   none-off e = rw e at h
 
 pub still-none : {g : Given} {all : Out} {ws₀ : List ℕ} {class turn : ℕ} {run : Run} {pile : List Run} {off : ℕ} {ws : List ℕ} {used : ℕ}
-    {st : State} {l : Slots} → off ≡ 0 → EventRound g all ws₀ class turn run pile 0 ws used st l
+    {st : Progress} {l : Slots} → off ≡ 0 → EventRound g all ws₀ class turn run pile 0 ws used st l
     → EventRound g all ws₀ class turn run pile off ws used st l
 still-none e h = rw e h
 
@@ -148,7 +148,7 @@ pub begun-round : (g : Given) (m : Step) (l : Slots) (ws ws₁ : List ℕ) → O
     → Parted (g .stream) (g .frame) m
     (behindStart (askedAt (g .table)) (streamClassAt (g .table) (g .asking .class)) (envGiven g) (g .begun)) (g .begun) l ws ws₁ 4
     (startState (g .begun)) (packetSlots l)
-    → {st₁ : State} {l₁ : Slots} {run₁ : Run} → st₁ ≡ startState (g .begun) → l₁ ≡ packetSlots l → run₁ ≡ headerRun (g .asking)
+    → {st₁ : Progress} {l₁ : Slots} {run₁ : Run} → st₁ ≡ startState (g .begun) → l₁ ≡ packetSlots l → run₁ ≡ headerRun (g .asking)
     → (pile : List Run) → length pile ≡ runs
     → EventRound g (m (full (g .begun) l (length ws))) ws 0 1 run₁ pile 0 ws₁ 4 (stateAt (g .begun .place) (g .begun .order) st₁) l₁
 unfolding behindStart
@@ -172,12 +172,12 @@ begun-round g m l ws ws₁ of noted many p is-state is-slots is-run pile size =
     }
 
 -- What stopped hands on no slots
-pub event-stopped : (m : Step) (came : State) (l : Slots) {ws₀ ws : List ℕ} {v : Stop} {n : ℕ}
+pub event-stopped : (m : Step) (came : Progress) (l : Slots) {ws₀ ws : List ℕ} {v : Stop} {n : ℕ}
     → Did (m (full came l (length ws₀))) came (Stopped v) n came l ws₀ ws → EventDid m came l (stoppedRan v n came) ws₀ ws
 event-stopped m came l did = record { slots = l; kept = refl; did = did }
 
 -- A turn
-pub record TurnRound (g : Given) (all : Out) (ws₀ : List ℕ) (class turn : ℕ) (pile : List Run) (ws : List ℕ) (used : ℕ) (st : State)
+pub record TurnRound (g : Given) (all : Out) (ws₀ : List ℕ) (class turn : ℕ) (pile : List Run) (ws : List ℕ) (used : ℕ) (st : Progress)
     (l : Slots) (r : Turn) (ys : List ℕ) : Type 0 where
   pub room : used + r .used ≤ length ws₀
   pub same : length (merged used ws ys) ≡ length ws₀
@@ -187,7 +187,7 @@ pub record TurnRound (g : Given) (all : Out) (ws₀ : List ℕ) (class turn : �
       (heldTo (r .last) st) l
 
 pub turn-round : {g : Given} {all : Out} {ws₀ : List ℕ} {class turn : ℕ} {run : Run} {pile : List Run} {ws : List ℕ} {used : ℕ}
-    {st : State} {l : Slots} → EventRound g all ws₀ class turn run pile 0 ws used st l → Sized (g .table) (g .notes .sizes)
+    {st : Progress} {l : Slots} → EventRound g all ws₀ class turn run pile 0 ws used st l → Sized (g .table) (g .notes .sizes)
     → OfStream (g .table) (g .asking) → over run ≡ true → turn < turns → {r : Turn} {ys : List ℕ}
     → Gives (turnOf (g .table) (g .asking) turn class st (length (lent used ws))) r (lent used ws) ys
     → TurnRound g all ws₀ class turn pile ws used st l r ys
@@ -223,7 +223,7 @@ turn-round {g} {all} {ws₀} {class} {turn} {run} {pile} {ws} {used} {st} {l} h 
 
 -- How it ends: 38 is left
 pub round-ends : {g : Given} {all : Out} {ws₀ : List ℕ} {class turn : ℕ} {run : Run} {pile : List Run} {ws : List ℕ} {used : ℕ}
-    {st : State} {l : Slots} → EventRound g all ws₀ class turn run pile 0 ws used st l → over run ≡ true → turns ≤ turn
+    {st : Progress} {l : Slots} → EventRound g all ws₀ class turn run pile 0 ws used st l → over run ≡ true → turns ≤ turn
     → Part all (moved (g .begun)) ws₀ ws used st l
 round-ends {g} {class = class} {turn = turn} {run = run} {pile = pile} h done none =
     rw (turns-end (g .table) (g .asking) (envGiven g) class (moved (g .begun)) run turn done none) at (pile-end pile (h .round) .part)

@@ -1,4 +1,10 @@
 -- Laws of tests that are joined, and of cases by a test.
+--
+-- clash                 false is not true
+-- or-false, or-true     what follows from a test `a || b` that failed, and that held
+-- and-left, and-right   what follows from a test `a && b` that held
+-- and-none              `a && false` fails
+-- if-agree              two cases by one test agree where their first branches do
 use mathlib.Core.Path.{_≡_, refl}
 use Prim.Native.Nat.{ℕ}
 use native.Mathlib.Omega.{arith}

@@ -16,9 +16,8 @@ use Rattle.rules.specs.Limits.{lengthLimit}
 use Rattle.rules.specs.Record.{u8}
 use Rattle.rules.specs.Class.{Sign, Range, anyHolds}
 use Rattle.places.proofs.Multiple.{align-near}
-use Rattle.leaf_find_number.specs.declared.Frame.{Frame}
-use Rattle.leaf_find_number.specs.Framed.{Framed}
-use Rattle.leaf_find_number.specs.Found.{alignedAt}
+use Rattle.frame.specs.declared.Frame.{Frame}
+use Rattle.frame.specs.Framed.{Framed, alignedAt}
 use Rattle.slots.specs.Taken.{lengthOf, numberOf}
 use Rattle.class_layout.specs.Trees.{shapeOf, shapes, recordSize, rangesAt, signAt, optionClass, Stood, stoodAt, nextAt, behindMembers}
 use Rattle.class_layout.specs.Trees.{wholeMembers, wholeOptions, wholeIn, whole}

@@ -17,7 +17,7 @@ use Rattle.class_layout.proofs.Turns.{whole-inside}
 use Rattle.class_layout.proofs.Aligned.{aligned}
 use Rattle.field_choice.specs.declared.Choice.the-variants.{Class}
 use Rattle.field_choice.specs.Choice.{InTable, optionFrom}
-use Rattle.field_inside.specs.Inside.{Opens}
+use Rattle.field_inside.specs.Inside.{HolderStands}
 
 -- f and f′ agree on where the classes end that stand whole by g, and these do by g′ too
 module _ (t : List ℕ) (g g′ : ℕ → Type 0) (f f′ : ℕ → Stood) (each : (p : ℕ) → g p → g′ p)
@@ -73,7 +73,7 @@ module _ (t : List ℕ) (x : Notes) (r : Prepared t x) where
       shape-too t (whole d t) (InTable t) (stoodAt d t) (endNoted (x .sizes)) (λ p v. whole-inside d t p v) (end-same d) at
       (shapeOf (u8 t at)) (w .parts)
 
-  pub opens : (d at : ℕ) → whole d t at → 28 ≤ u8 t at → Opens t x at
+  pub opens : (d at : ℕ) → whole d t at → 28 ≤ u8 t at → HolderStands t x at
   unfolding whole
   opens zero at w k = absurd w
   opens (suc d) at w k = record {

@@ -21,9 +21,8 @@ use Rattle.rules.specs.Entry.{entry}
 use Rattle.rules.specs.Step.{State, Step, _⨾_, onto, after, refuse, listed}
 use Rattle.rules.specs.Field.{Env, aligned, fit, field, fromSlot, asFlag, asNumber, asLength, times, present, read, readMembers, readOption}
 use Rattle.facts.proofs.Steps.{onto-nil, after-pass}
-use Rattle.leaf_find_number.specs.declared.Frame.{Frame}
-use Rattle.leaf_find_number.specs.Framed.{Framed, envOf}
-use Rattle.leaf_find_number.specs.Found.{alignedAt}
+use Rattle.frame.specs.declared.Frame.{Frame}
+use Rattle.frame.specs.Framed.{Framed, envOf, alignedAt}
 use Rattle.slots.specs.Taken.{lengthOf, numberOf}
 use Rattle.listing.proofs.Checks.{check-stops, check-goes, room-first}
 use Rattle.class_layout.specs.Trees.{shapeOf, shapes, rangesAt, signAt, optionClass, optionalOf, Stood, membersAt, optionsAt, classIn}

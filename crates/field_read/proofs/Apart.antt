@@ -21,7 +21,7 @@ use Rattle.rules.specs.Field.{read}
 use Rattle.facts.proofs.Numbers.{lt-or-ge}
 use Rattle.facts.proofs.Truth.{clash}
 use Rattle.class_layout.specs.Trees.{classAt}
-use Rattle.listing.specs.declared.State.{State}
+use Rattle.listing.specs.declared.Progress.{Progress}
 use Rattle.listing.specs.Did.{full}
 use Rattle.listing.proofs.Parts.{Part, lent, merged}
 use Rattle.field_inside.specs.declared.look.Inside.{Inside}
@@ -57,7 +57,7 @@ apartFrom w r = withBehind w (left w r)
 
 -- A field that is opened in a run of its own, whatever its run has put off
 
-pub record ApartRound (w : Loop) (r : Run) (ws : List ℕ) (used : ℕ) (st : State) (l : Slots) (o : Opened) (ys : List ℕ) : Type 0 where
+pub record ApartRound (w : Loop) (r : Run) (ws : List ℕ) (used : ℕ) (st : Progress) (l : Slots) (o : Opened) (ys : List ℕ) : Type 0 where
   pub same : length (merged used ws ys) ≡ length (w .list)
   pub few : o .elements ≡ false → o .count ≤ length (w .table)
   pub rest-stands : WholeRun (w .depths) (w .table) (behindRun r (w .notes .sizes) (r .next) (r .todo - 1))
@@ -65,7 +65,7 @@ pub record ApartRound (w : Loop) (r : Run) (ws : List ℕ) (used : ℕ) (st : St
   pub goes : o .on ≡ true → Round (apartFrom w (behindRun r (w .notes .sizes) (r .next) (r .todo - 1)))
       (aloneRun (o .from) (o .count) (o .elements)) (merged used ws ys) (used + 4) (stateAt (o .place) (st .order) st) l
 
-module _ {w : Loop} {r : Run} {ws : List ℕ} {used : ℕ} {st : State} {l : Slots} {c : Content} (h : Holder w r ws used st l c) where
+module _ {w : Loop} {r : Run} {ws : List ℕ} {used : ℕ} {st : Progress} {l : Slots} {c : Content} (h : Holder w r ws used st l c) where
   abbrev rest : Run
   rest = behindRun r (w .notes .sizes) (r .next) (r .todo - 1)
 
@@ -123,7 +123,7 @@ abbrev pub Standing : Loop → List Run → ℕ → Type 0
 Standing w p n = (i : ℕ) → i < n → WholeRun (w .depths) (w .table) (getD p i noRun)
 
 -- none is put off
-module _ {w : Loop} (p : List Run) {r : Run} {ws : List ℕ} {used : ℕ} {st : State} {l : Slots} where
+module _ {w : Loop} (p : List Run) {r : Run} {ws : List ℕ} {used : ℕ} {st : Progress} {l : Slots} where
   pub pile-start : Round w r ws used st l → Round (piled w p 0) r ws used st l
   unfolding pileLeft
   pile-start q = record { stands = q .stands; noted = q .noted; framed = q .framed; many = q .many; part = q .part }
@@ -154,7 +154,7 @@ push-stands w p n r k all one i small = by (lt-or-ge i n)
     by (inr a) = let e : i ≡ n = omega arith in rw (e, getD-set-same p n r noRun k) one
 
 -- a run is put off
-pub push-round : (w : Loop) (p : List Run) (n : ℕ) (rest : Run) {r : Run} {ws : List ℕ} {used : ℕ} {st : State} {l : Slots}
+pub push-round : (w : Loop) (p : List Run) (n : ℕ) (rest : Run) {r : Run} {ws : List ℕ} {used : ℕ} {st : Progress} {l : Slots}
     → n < length p → Standing w p n → WholeRun (w .depths) (w .table) rest → Round (apartFrom (piled w p n) rest) r ws used st l
     → Round (piled w (set p n rest) (n + 1)) r ws used st l × Standing w (set p n rest) (n + 1)
 push-round w p n rest {r} {ws} {used} {st} {l} k all one q = (
@@ -168,7 +168,7 @@ pile-pop w p zero k = absurd (omega arith)
 pile-pop w p (suc n) k = let less : suc n - 1 ≡ n = omega arith in rw less refl
 
 -- the latest comes back
-pub pop-round : (w : Loop) (p : List Run) (n : ℕ) {r : Run} {ws : List ℕ} {used : ℕ} {st : State} {l : Slots} → 0 < n → Standing w p n
+pub pop-round : (w : Loop) (p : List Run) (n : ℕ) {r : Run} {ws : List ℕ} {used : ℕ} {st : Progress} {l : Slots} → 0 < n → Standing w p n
     → Round (piled w p n) r ws used st l → over r ≡ true
     → Round (piled w p (n - 1)) (getD p (n - 1) noRun) ws used st l × Standing w p (n - 1)
 pop-round w p n {r} {ws} {used} {st} {l} k all q e = (

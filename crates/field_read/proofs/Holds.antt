@@ -15,7 +15,7 @@ use Rattle.rules.specs.Slots.{Slots, slotAt}
 use Rattle.rules.specs.Entry.{entry, words}
 use Rattle.rules.specs.declared.Content.{Content}
 use Rattle.rules.specs.Record.{u8}
-use Rattle.rules.specs.Step.{State as Full, Step, after, _⨾_, refuse, listed}
+use Rattle.rules.specs.Step.{State, Step, after, _⨾_, refuse, listed}
 use Rattle.facts.proofs.Truth.{clash}
 use Rattle.class_layout.specs.Trees.{whole, wholeMembers, stoodAt}
 use Rattle.class_layout.specs.Notes.{Notes, Prepared}
@@ -23,14 +23,14 @@ use Rattle.field_inside.specs.declared.look.Inside.{Inside}
 use Rattle.field_inside.specs.declared.look.Inside.the-variants.{Members, Elements, Refused}
 use Rattle.field_inside.specs.declared.opening.Opened.{Opened}
 use Rattle.field_inside.specs.Opening.{openedAs, wentIn, listOpened}
-use Rattle.field_inside.specs.Inside.{insideOf, slotReadAt, opened, Opens}
+use Rattle.field_inside.specs.Inside.{insideOf, slotReadAt, opened, HolderStands}
 use Rattle.field_inside.specs.Held.{Held, Placed, HeldMembers, HeldElements}
 use Rattle.field_inside.proofs.Noted.{opens}
 use Rattle.field_inside.proofs.Opened.{inside-read}
 use Rattle.field_inside.proofs.Held.{inside-whole}
-use Rattle.leaf_find_number.specs.declared.Frame.{Frame}
-use Rattle.leaf_find_number.specs.Framed.{Framed, envOf}
-use Rattle.listing.specs.declared.State.{State}
+use Rattle.frame.specs.declared.Frame.{Frame}
+use Rattle.frame.specs.Framed.{Framed, envOf}
+use Rattle.listing.specs.declared.Progress.{Progress}
 use Rattle.listing.specs.declared.Went.{Went}
 use Rattle.listing.specs.declared.Went.the-variants.{On, Stopped}
 use Rattle.listing.specs.Did.{full, atPlace}
@@ -42,7 +42,7 @@ use Rattle.class_layout.proofs.Standing.{depth-some}
 use Rattle.field_read.proofs.Turns.{Call, call, outcome, CallReads, stoppedCall, classRead, membersRead, elementsRead, did-length}
 
 -- the class at a byte holds fields, and c is the content of the slot that it reads
-pub record Holder (b u : List ℕ) (f : Frame) (t : List ℕ) (x : Notes) (d at : ℕ) (c : Content) (st : State) (l : Slots)
+pub record Holder (b u : List ℕ) (f : Frame) (t : List ℕ) (x : Notes) (d at : ℕ) (c : Content) (st : Progress) (l : Slots)
     (ws : List ℕ) : Type 0 where
   pub stands : whole d t at
   pub holds : 28 ≤ u8 t at
@@ -73,9 +73,9 @@ closed-reads {w} {ws} {r} k = by (r .went) refl
     by On on = k .goes on
     by (Stopped v) off = k .stops v off
 
-module _ {b u : List ℕ} {f : Frame} {t : List ℕ} {x : Notes} {d at : ℕ} {c : Content} {st : State} {l : Slots} {ws : List ℕ}
+module _ {b u : List ℕ} {f : Frame} {t : List ℕ} {x : Notes} {d at : ℕ} {c : Content} {st : Progress} {l : Slots} {ws : List ℕ}
     (h : Holder b u f t x d at c st l ws) where
-  pub can-look : Opens t x at
+  pub can-look : HolderStands t x at
   can-look = opens t x (h .noted) d at (h .stands) (h .holds)
 
   -- its own depth is one of those left
@@ -105,7 +105,7 @@ module _ {b u : List ℕ} {f : Frame} {t : List ℕ} {x : Notes} {d at : ℕ} {c
   abbrev this : Call
   this = call b u f (classRead d t at) st l ws
 
-  abbrev s : Full
+  abbrev s : State
   s = full st l (length ws)
 
   opened-read : outcome this ≡ opened (envOf b u f) (u8 t at) (d - 1) t (insideOf t x at f (st .place) c) s

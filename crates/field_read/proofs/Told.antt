@@ -19,7 +19,7 @@ use Rattle.class_layout.specs.Trees.{whole, classAt}
 use Rattle.leaf_after.specs.declared.Leaves.{Leaves}
 use Rattle.leaf_read.specs.Reads.{leafSlot}
 use Rattle.leaf_read.specs.Leaves.{contentOf, LeavesListed, listBehind, leavesRead, Standing as InRow}
-use Rattle.listing.specs.declared.State.{State}
+use Rattle.listing.specs.declared.Progress.{Progress}
 use Rattle.listing.specs.declared.Went.the-variants.{On}
 use Rattle.listing.specs.declared.role.Roled.{Roled}
 use Rattle.listing.specs.Did.{RoleDid}
@@ -44,7 +44,7 @@ use Rattle.field_read.proofs.Apart.{apartFrom, ApartRound, apart-round}
 
 -- The run, with what it had put off in front where nothing else was left
 
-pub forward-round : {w : Loop} {r r′ : Run} {ws : List ℕ} {used : ℕ} {st : State} {l : Slots} → r′ ≡ forwardRun r → Round w r ws used st l
+pub forward-round : {w : Loop} {r r′ : Run} {ws : List ℕ} {used : ℕ} {st : Progress} {l : Slots} → r′ ≡ forwardRun r → Round w r ws used st l
     → Round w r′ ws used st l
 forward-round e h = rw e (same-round (forward-same _ _ _ (h .stands)) h)
 
@@ -52,18 +52,18 @@ pub forward-left : (r : Run) {r′ : Run} → r′ ≡ forwardRun r → over r�
 forward-left r e h = rw e (forward-some r (rw e at h))
 
 -- its first field
-pub first-whole : {w : Loop} {r : Run} {ws : List ℕ} {used : ℕ} {st : State} {l : Slots} {n : ℕ} → n ≡ firstAt r → Round w r ws used st l
+pub first-whole : {w : Loop} {r : Run} {ws : List ℕ} {used : ℕ} {st : Progress} {l : Slots} {n : ℕ} → n ≡ firstAt r → Round w r ws used st l
     → 0 < countOf r → whole (w .depths) (w .table) n
 first-whole e h some = rw e (first-there h some)
 
 -- Leaves at its front
 
 -- so many from a byte on, of one class again and again or one behind the other, by the content of the slot that they read
-abbrev pub leavesAt : Loop → State → ℕ → List ℕ → Bool → Content → ℕ → ℕ → LeavesListed
+abbrev pub leavesAt : Loop → Progress → ℕ → List ℕ → Bool → Content → ℕ → ℕ → LeavesListed
 leavesAt w st used ws again x n count =
     leavesRead again (w .table) (w .stream) (w .uuid) (w .frame) x n count (st .place) (st .order) (length (lent used ws))
 
-module _ {w : Loop} {r : Run} {ws : List ℕ} {used : ℕ} {st : State} {l : Slots} (h : Round w r ws used st l) (some : 0 < countOf r)
+module _ {w : Loop} {r : Run} {ws : List ℕ} {used : ℕ} {st : Progress} {l : Slots} (h : Round w r ws used st l) (some : 0 < countOf r)
     {again : Bool} {n count : ℕ} (is-element : again ≡ element r) (is-first : n ≡ firstAt r) (is-count : count ≡ countOf r) where
   pub leaves-in-row : InRow again (w .table) n count
   leaves-in-row =
@@ -77,7 +77,7 @@ module _ {w : Loop} {r : Run} {ws : List ℕ} {used : ℕ} {st : State} {l : Slo
       (rw (is-element, is-first, is-count) at f)
 
 -- the last one's slot is set, and its role is due
-pub leaves-due : {w : Loop} {r r′ : Run} {ws : List ℕ} {used : ℕ} {st : State} {l l′ : Slots} {q : Leaves} {ys : List ℕ}
+pub leaves-due : {w : Loop} {r r′ : Run} {ws : List ℕ} {used : ℕ} {st : Progress} {l l′ : Slots} {q : Leaves} {ys : List ℕ}
     → LeavesRound w r ws used st l q ys → q .on ≡ true → length l ≡ slotCount → r′ ≡ behindRun r (w .notes .sizes) (q .at) (q .todo)
     → (l′ ≡ setSlot l (q .slot) (contentOf (u8 (w .table) (q .at)) (q .value))) ⊎ ((slotCount ≤ q .slot) × (l′ ≡ l))
     → Kept w (role (roleOf (q .role)) (q .width) (q .value) ⨾ left w r′) r′ (merged used ws ys) (used + q .used)
@@ -88,14 +88,14 @@ leaves-due {l = l} {q = q} d on many e set =
     rw e (⊎-elim (λ f. rw f h) (λ f. rw (f .1) (rw (no-slot l (q .slot) _ many (f .0)) at h)) set)
 
 -- a role that was applied
-pub role-did : {w : Loop} {m : Step} {r : Run} {ws : List ℕ} {used : ℕ} {st st′ : State} {l : Slots} {q : Roled} {ys : List ℕ} (k n v : ℕ)
+pub role-did : {w : Loop} {m : Step} {r : Run} {ws : List ℕ} {used : ℕ} {st st′ : Progress} {l : Slots} {q : Roled} {ys : List ℕ} (k n v : ℕ)
     → Kept w (role (roleOf k) n v ⨾ m) r ws used st l → st′ ≡ st → RoleDid (role (roleOf k) n v) st′ q (lent used ws) ys
     → RoleRound w m r ws used st l q ys
 role-did k n v h e did = role-round k n v h (rw e at did)
 
 -- A field that holds others, taken as a member
 
-pub taken-round : {w : Loop} {r r′ : Run} {ws : List ℕ} {used : ℕ} {st : State} {l : Slots} → r′ ≡ takenRun r → 0 < countOf r
+pub taken-round : {w : Loop} {r r′ : Run} {ws : List ℕ} {used : ℕ} {st : Progress} {l : Slots} → r′ ≡ takenRun r → 0 < countOf r
     → Round w r ws used st l → Round w r′ ws used st l
 taken-round e some h = rw e (same-round (taken-same _ _ _ (h .stands) some) h)
 
@@ -106,7 +106,7 @@ FirstAt r n = (0 < r .todo) × (r .next ≡ n)
 pub taken-next : (r : Run) {r′ : Run} {n : ℕ} → n ≡ firstAt r → r′ ≡ takenRun r → 0 < countOf r → FirstAt r′ n
 taken-next r e f some = rw (e, f) (taken-first 0 [] r some)
 
-pub holds-first : {w : Loop} {r : Run} {ws : List ℕ} {used : ℕ} {st : State} {l : Slots} {n : ℕ} {x : Content} → Round w r ws used st l
+pub holds-first : {w : Loop} {r : Run} {ws : List ℕ} {used : ℕ} {st : Progress} {l : Slots} {n : ℕ} {x : Content} → Round w r ws used st l
     → FirstAt r n → 28 ≤ u8 (w .table) n → 4 ≤ length ws - used → slotAt l (slotReadAt (w .table) n) ≡ x → Holder w r ws used st l x
 holds-first h first kind room told = record {
   round = h;
@@ -116,7 +116,7 @@ holds-first h first kind room told = record {
   told = rw (first .1) told;
 }
 
-module _ {w : Loop} {r : Run} {ws : List ℕ} {used : ℕ} {st : State} {l : Slots} {x : Content} (h : Holder w r ws used st l x) {n : ℕ}
+module _ {w : Loop} {r : Run} {ws : List ℕ} {used : ℕ} {st : Progress} {l : Slots} {x : Content} (h : Holder w r ws used st l x) {n : ℕ}
     (first : FirstAt r n) where
   abbrev t : List ℕ
   t = w .table
@@ -154,7 +154,7 @@ module _ {w : Loop} {r : Run} {ws : List ℕ} {used : ℕ} {st : State} {l : Slo
   apart-run d e f on = rw (e, f, sym (first .1)) (d .rest-stands, d .goes on)
 
   -- a field that was read by itself
-  pub field-did : {q : Field} {ys : List ℕ} {st′ : State} → st′ ≡ st
+  pub field-did : {q : Field} {ys : List ℕ} {st′ : Progress} → st′ ≡ st
       → FieldReads (read (env w) (classAt (w .depths) t n)) st′ l q (lent used ws) ys → FieldRound w r ws used q ys
   field-did e did = field-round h (rw (first .1) (rw e at did))
 

@@ -21,7 +21,7 @@ use Rattle.rules.specs.Parse.{Parsed, bad, good, Parser, then, sound, missing, 
 use Rattle.rules.specs.Parse.{isRoot, anyRoot, noTable, rootOf, rootNumbers, isTimed, hasUuid, add}
 use Rattle.rules.specs.Parse.{parseRanges, parseMembers, parseOptions, parseShape, parseBody, parseClass, parseRoots}
 use Rattle.rules.specs.Parse.{parseFragment, parseOpened, parseFragments, parse}
-use Rattle.rules.specs.Faults.{pick, Seen, noneSeen, seen, Spot, top, inside, memberSpot, Under, out, badNumber, badSlot, isTop}
+use Rattle.rules.specs.Faults.{pick, Ids, noIds, seen, Spot, top, inside, memberSpot, Under, out, badNumber, badSlot, isTop}
 use Rattle.rules.specs.Faults.{recordFault, classFault, optionFault, rootFault, openFault, firstFault}
 use Rattle.facts.proofs.Truth.{or-false, or-true}
 use Rattle.facts.proofs.Faults.{pick-zero, pick-false}
@@ -95,7 +95,7 @@ module _ {N : ℕ → Type 0} {S : ℕ → ℕ → Type 0} {W : ℕ → Type 0} 
   yields-then P Q (bad n x) F h k = tt
   yields-then P Q (good a x) F h k = k a x (h .0) (h .1)
 
-  yields-one : {A : Type 0} (Q : A → Type 0) (q : Seen) (more : Record → ℕ) (f : Record → Parser A) (x : List ℕ) → G x
+  yields-one : {A : Type 0} (Q : A → Type 0) (q : Ids) (more : Record → ℕ) (f : Record → Parser A) (x : List ℕ) → G x
       → ((r : Record) → recordOf x ≡ r → more r ≡ 0 → Yields Q (f r (behind x))) → Yields Q (one q more f x)
   unfolding one
   yields-one Q q more f x g h = by (pick (missing x) 3 (recordFault (ltb (length x) (size x)) q (recordOf x) (more (recordOf x)))) refl
@@ -111,7 +111,7 @@ module _ {N : ℕ → Type 0} {S : ℕ → ℕ → Type 0} {W : ℕ → Type 0} 
   abbrev AnyRanges : Ranges → Type 0
   AnyRanges p = Unit {0}
 
-  yields-ranges : (q : Seen) (earlier : List Range) (n : ℕ) (o : Option Sign) (x : List ℕ) → G x
+  yields-ranges : (q : Ids) (earlier : List Range) (n : ℕ) (o : Option Sign) (x : List ℕ) → G x
       → Yields AnyRanges (parseRanges q earlier n o x)
   unfolding parseRanges
   yields-ranges q earlier zero o x g = (tt, g)
@@ -137,7 +137,7 @@ module _ {N : ℕ → Type 0} {S : ℕ → ℕ → Type 0} {W : ℕ → Type 0} 
         yields-then (Members n) _ (parseMembers f inside n y) _ (yields-members n inside y k) (λ cs v q j.
         let e : count cs ≡ n = q .1 in (((p, q .0), omega arith), j)))
 
-    yields-options : (q : Seen) (n k : ℕ) (p : Ranges) (x : List ℕ) → ((j : ℕ) → j < k + n → W j) → G x
+    yields-options : (q : Ids) (n k : ℕ) (p : Ranges) (x : List ℕ) → ((j : ℕ) → j < k + n → W j) → G x
         → Yields (OptionsFrom k) (parseOptions q f n p x)
     unfolding parseOptions
     yields-options q zero k p x w g = (tt, g)
@@ -158,7 +158,7 @@ module _ {N : ℕ → Type 0} {S : ℕ → ℕ → Type 0} {W : ℕ → Type 0} 
         by none = g
         by (some s) = g
 
-    yields-shape : (q : Seen) (z : Spot) (y : Says) (s : Shape) (x : List ℕ) → N (y .length) → S r (y .sets)
+    yields-shape : (q : Ids) (z : Spot) (y : Says) (s : Shape) (x : List ℕ) → N (y .length) → S r (y .sets)
         → ((k : ℕ) → k ≤ y .count → W k) → G x → Yields (Fits N (S r) W) (parseShape q f z y s x)
     unfolding parseShape
     yields-shape q z y (bitField k) x n i w g = ((n, i), g)
@@ -183,7 +183,7 @@ module _ {N : ℕ → Type 0} {S : ℕ → ℕ → Type 0} {W : ℕ → Type 0} 
         let all = yields-options q (y .count) 0 (none, []) x (λ j l. w j (omega arith)) g in
         yields-then (OptionsFrom 0) _ (parseOptions q f (y .count) (none, []) x) _ all (λ os x p g. (p, g))
 
-  yields-class : (q : Seen) (u : Under) (left : ℕ) (z : Spot) (x : List ℕ) → G x → Yields (Fits N (S (u .root)) W) (parseClass q u left z x)
+  yields-class : (q : Ids) (u : Under) (left : ℕ) (z : Spot) (x : List ℕ) → G x → Yields (Fits N (S (u .root)) W) (parseClass q u left z x)
   unfolding parseClass
   yields-class q u zero z x g = yields-one _ q _ _ x g (λ r e c. tt)
   yields-class q u (suc left) z x g = yields-one _ q _ _ x g (λ r e c. body (λ z x g. yields-class q u left z x g) r e c)
@@ -210,7 +210,7 @@ module _ {N : ℕ → Type 0} {S : ℕ → ℕ → Type 0} {W : ℕ → Type 0} 
   FitRoots (n ∷ ns) [] = Unit {0}
   FitRoots (n ∷ ns) (c ∷ cs) = FitRoot N (S n) W c × FitRoots ns cs
 
-  pub yields-roots : (q : Seen) (timed u? : Bool) (ns : List ℕ) (x : List ℕ) → G x → Yields (FitRoots ns) (parseRoots q timed u? ns x)
+  pub yields-roots : (q : Ids) (timed u? : Bool) (ns : List ℕ) (x : List ℕ) → G x → Yields (FitRoots ns) (parseRoots q timed u? ns x)
   unfolding parseRoots
   yields-roots q timed u? [] x g = by (not (missing x) && anyRoot (recordOf x))
     where
@@ -275,12 +275,12 @@ module _ {N : ℕ → Type 0} {S : ℕ → ℕ → Type 0} {W : ℕ → Type 0} 
       let payload = root-fits (4 ∷ 5 ∷ []) cs 1 h in
       record { header = k .header; streams = k .streams; events = ((specific, payload), k .events) }
 
-  yields-fragments : (left : ℕ) (q : Seen) (x : List ℕ) → G x → Yields FitTable (parseFragments left q x)
+  yields-fragments : (left : ℕ) (q : Ids) (x : List ℕ) → G x → Yields FitTable (parseFragments left q x)
   unfolding parseFragments
   yields-fragments zero q x g = (unfold noTable in record { header = tt; streams = tt; events = tt }, g)
   yields-fragments (suc left) q x g = by (missing x) (λ q x g. yields-fragments left q x g)
     where
-      opened : ((q : Seen) (x : List ℕ) → G x → Yields FitTable (parseFragments left q x))
+      opened : ((q : Ids) (x : List ℕ) → G x → Yields FitTable (parseFragments left q x))
           → (r : Record) → Yields FitTable (parseOpened q (parseFragments left) r (behind x))
       opened rec unknown = unfold parseOpened in tt
       opened rec (fragment h) =
@@ -294,7 +294,7 @@ module _ {N : ℕ → Type 0} {S : ℕ → ℕ → Type 0} {W : ℕ → Type 0} 
       opened rec (range s l h) = unfold parseOpened in tt
       opened rec (option n) = unfold parseOpened in tt
 
-      by : (b : Bool) → ((q : Seen) (x : List ℕ) → G x → Yields FitTable (parseFragments left q x))
+      by : (b : Bool) → ((q : Ids) (x : List ℕ) → G x → Yields FitTable (parseFragments left q x))
           → Yields FitTable (elim b [
             | true ↦ good noTable x
             | false ↦ one q (openFault q) (λ r x. parseOpened q (parseFragments left) r x) x
@@ -307,13 +307,13 @@ module _ {N : ℕ → Type 0} {S : ℕ → ℕ → Type 0} {W : ℕ → Type 0} 
   yields-parse x g = by (missing x || ltb 65536 (length x))
     where
       rest : Parser Table
-      rest x = then (parseRoots noneSeen false false [] x) λ cs x. parseFragments (length x) noneSeen x
+      rest x = then (parseRoots noIds false false [] x) λ cs x. parseFragments (length x) noIds x
 
       first : (v : ℕ) → Yields FitTable (sound v x rest)
       first zero = unfold sound in
-          let none = yields-roots noneSeen false false [] (behind x) (tells .on x g) in
-          yields-then (FitRoots []) _ (parseRoots noneSeen false false [] (behind x)) _ none
-          (λ cs y p k. yields-fragments (length y) noneSeen y k)
+          let none = yields-roots noIds false false [] (behind x) (tells .on x g) in
+          yields-then (FitRoots []) _ (parseRoots noIds false false [] (behind x)) _ none
+          (λ cs y p k. yields-fragments (length y) noIds y k)
       first (suc v) = unfold sound in tt
 
       by : (b : Bool)

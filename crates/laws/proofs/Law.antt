@@ -1,5 +1,16 @@
 -- Laws of every field's reading, proved once over the classes: what holds of the parts of a reading, and under their composition, holds
 -- of it.
+--
+-- FieldKind                      the kinds of a field's entry
+-- Fits, FitMembers, FitOptions,  what is asked of the numbers of a class, of members, of options and of a root
+--   FitRoot
+-- fits, fitMembers, fitRoot      where every number will do, every class does
+-- SlotOf                         what is asked of a slot's number
+-- Law                            a law of steps, by the parts that every reading is made of
+-- law-read, law-members,         it holds of a field's reading, of members one after another, of a root's
+--   law-root
+-- law-times                      it holds of a step that is done n times
+-- Any, any-slot, law-any         a law that asks nothing of the numbers
 use Prim.Native.Nat.{ℕ, zero, suc, _+_, _^_, _≤_, max}
 use native.Mathlib.Omega.{arith}
 use lib.Pow.{pow-pos}

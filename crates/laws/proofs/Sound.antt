@@ -4,7 +4,7 @@ use Prim.Native.Nat.{ℕ}
 use native.Mathlib.Omega.{arith}
 use mathlib.Core.Bool.{Bool, false}
 use Rattle.rules.specs.Record.{Record, unknown, fragment, root, class, range, option}
-use Rattle.rules.specs.Faults.{pick, Seen, recordFault, fragmentFault}
+use Rattle.rules.specs.Faults.{pick, Ids, recordFault, fragmentFault}
 use Rattle.facts.proofs.Faults.{pick-false, pick-zero, fragment-zero}
 
 pub record Sound (b s : Bool) (m : ℕ) : Type 0 where
@@ -17,7 +17,7 @@ plain-sound b s m h =
     let k = pick-zero b 2 (pick s 3 m) h in
     record { there = pick-false b 2 _ h; fits = pick-false s 2 _ k; later = pick-zero s 2 _ k }
 
-pub no-fault : (b s : Bool) (q : Seen) (r : Record) (m : ℕ) → pick b 3 (recordFault s q r m) ≡ 0 → Sound b s m
+pub no-fault : (b s : Bool) (q : Ids) (r : Record) (m : ℕ) → pick b 3 (recordFault s q r m) ≡ 0 → Sound b s m
 unfolding recordFault
 no-fault b s q unknown m h = absurd (omega (arith, pick-zero b 2 2 h))
 no-fault b s q (fragment g) m h =

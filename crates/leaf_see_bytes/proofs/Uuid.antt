@@ -15,11 +15,11 @@ use Rattle.rules.specs.Place.{byteLength}
 use Rattle.rules.specs.Entry.{entry}
 use Rattle.rules.specs.Field.{sameBytes}
 use Rattle.facts.proofs.Truth.{and-left, and-right}
-use Rattle.leaf_find_number.specs.declared.find.Found.{Found}
-use Rattle.leaf_find_number.specs.declared.find.Found.the-variants.{At, Refused}
+use Rattle.leaf_find_number.specs.declared.Found.{Found}
+use Rattle.leaf_find_number.specs.declared.Found.the-variants.{At, Refused}
 use Rattle.leaf_after.specs.declared.Seen.the-variants.{OtherUuid}
 use Rattle.leaf_after.specs.Seeing.{seen, plainSeen, uuidSeen, blobSeen}
-use Rattle.leaf_see_bytes.specs.Within.{Within}
+use Rattle.leaf_see_bytes.specs.InStream.{InStream}
 
 same-refl : (xs : List ℕ) → sameBytes xs xs ≡ true
 unfolding sameBytes
@@ -68,8 +68,8 @@ module _ (stream uuid : List ℕ) (at count : ℕ) (h : at + count ≤ length st
 -- A BLOB that was found lies in the stream
 
 module _ (b : List ℕ) {x : Found} {p : BitPlace} {n v : ℕ} (found : x ≡ At p n v) {q : ByteLength} (byte : q ≡ byteLength (p .0 / 8)) where
-  pub found-within : Within b x → q .0 + v ≤ length b
-  unfolding Within
+  pub found-within : InStream b x → q .0 + v ≤ length b
+  unfolding InStream
   found-within w = rw (byte) (rw (found) at w)
 
 -- What is seen

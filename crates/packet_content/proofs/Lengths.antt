@@ -9,7 +9,7 @@ use Rattle.rules.specs.declared.Refusal.the-variants.{ListFull, LengthsContradi
 use Rattle.rules.specs.Verdict.{stopAt}
 use Rattle.rules.specs.Place.{further}
 use Rattle.rules.specs.Entry.{entry, lengthsSettled}
-use Rattle.rules.specs.Step.{State as Whole, stop, Step, onto}
+use Rattle.rules.specs.Step.{State, stop, Step, onto}
 use Rattle.rules.specs.Table.{StreamClass, Asked}
 use Rattle.rules.specs.Packet.{readEvents, readContent, above}
 use Rattle.contradictions.specs.Lengths.{contradicts}
@@ -38,7 +38,7 @@ lengths b p q total content h =
       reach = ltb-false _ _ (x .1);
     }
 
-module _ (t : Asked) (c : StreamClass) (b : List ℕ) (p : BitPlace) (total content : ℕ) (s : Whole) where
+module _ (t : Asked) (c : StreamClass) (b : List ℕ) (p : BitPlace) (total content : ℕ) (s : State) where
   abbrev pub eventsOf : Step
   eventsOf =
       readEvents t c (record { bytes = b; start = p; bound = further p content; uuid = t .uuid }) (further p total) 0

@@ -10,8 +10,8 @@ use Rattle.rules.specs.Record.{Shape, bitField, lebField, signedLebField, zeroS
 use Rattle.rules.specs.Record.{elementsOf, option?, options, u8}
 use Rattle.rules.specs.Table.{StreamClass, Asked}
 use Rattle.laws.proofs.Law.{Any, Fits, FitMembers, FitOptions, FitRoot}
-use Rattle.class_layout.specs.declared.Found.{Found}
-use Rattle.class_layout.specs.declared.Found.the-variants.{At, Nothing}
+use Rattle.class_layout.specs.declared.TablePlace.{TablePlace}
+use Rattle.class_layout.specs.declared.TablePlace.the-variants.{At, Nothing}
 use Rattle.class_layout.specs.Trees.{Stood, shapeOf, optionalOf, membersAt, optionsAt, optionClass, classIn, stoodAt, classAt}
 use Rattle.class_layout.specs.Trees.{wholeMembers, wholeOptions, wholeIn, whole}
 use Rattle.class_layout.specs.Fragments.{askedAt, streamClassAt, findStreamAt, fragmentsOf, mapOption, rootClass, rootPlace}
@@ -66,7 +66,7 @@ unfolding whole stoodAt
 whole-fits t zero p w = absurd w
 whole-fits t (suc d) p w = shape-fits t (whole d t) (stoodAt d t) (λ q v. whole-fits t d q v) p (shapeOf (u8 t p)) (w .parts)
 
-found-fits : (t : List ℕ) (x : Found) → RootStands t x → FitRoot Positive Any Any (classOf t x)
+found-fits : (t : List ℕ) (x : TablePlace) → RootStands t x → FitRoot Positive Any Any (classOf t x)
 unfolding RootStands classOf
 found-fits t Nothing w = tt
 found-fits t (At p) w = whole-fits t depthLimit p w
@@ -97,7 +97,7 @@ pub record Fit (t : Asked) : Type 0 where
   pub header : FitRoot Positive Any Any (t .header)
   pub context : (i : ℕ) (c : StreamClass) → t .stream i ≡ some c → FitRoot Positive Any Any (c .context)
 
-pub lent-fits : (t : List ℕ) (x : Notes) (u : List ℕ) (h : Found) (b : List ℕ) → Lent t x u h b → Fit (askedAt t)
+pub lent-fits : (t : List ℕ) (x : Notes) (u : List ℕ) (h : TablePlace) (b : List ℕ) → Lent t x u h b → Fit (askedAt t)
 lent-fits t x u h b g = record {
   header = subst (FitRoot Positive Any Any) (g .header) (found-fits t h (g .stands));
   context = context-fits t (x .sizes) (g .ready .noted .sized);

@@ -16,14 +16,14 @@ use Rattle.rules.specs.Slots.{Slots, noSlots, packetSlots}
 use Rattle.rules.specs.Entry.{entry, words, packetStarts, streamClassFound}
 use Rattle.rules.specs.Step.{Out, _⨾_}
 use Rattle.rules.specs.Packet.{readRoot, readPacket, differs, startPacket}
-use Rattle.listing.specs.declared.State.{State}
-use Rattle.leaf_find_number.specs.declared.Frame.{Frame}
+use Rattle.listing.specs.declared.Progress.{Progress}
+use Rattle.frame.specs.declared.Frame.{Frame}
 use Rattle.listing.specs.declared.Went.the-variants.{On, Stopped}
 use Rattle.listing.specs.Did.{full}
-use Rattle.leaf_find_number.specs.Framed.{Framed, envOf}
+use Rattle.frame.specs.Framed.{Framed, envOf}
 use Rattle.listing.proofs.Parts.{Part, part-step, part-stop, back-room, lent, merged}
-use Rattle.class_layout.specs.declared.Found.{Found}
-use Rattle.class_layout.specs.declared.Found.the-variants.{At, Nothing}
+use Rattle.class_layout.specs.declared.TablePlace.{TablePlace}
+use Rattle.class_layout.specs.declared.TablePlace.the-variants.{At, Nothing}
 use Rattle.class_layout.specs.Fragments.{askedAt, streamClassAt, findStreamAt, fragmentsOf, mapOption}
 use Rattle.class_layout.specs.Sizes.{foundOf}
 use Rattle.class_layout.specs.Notes.{Notes}
@@ -45,7 +45,7 @@ start-framed b p h s = record { whole = s .whole; begun = omega arith; within = 
 
 -- Behind the header
 
-module _ (t b : List ℕ) (p : BitPlace) (i : Stated) (st : State) (l : Slots) (ws : List ℕ) (x : Bool)
+module _ (t b : List ℕ) (p : BitPlace) (i : Stated) (st : Progress) (l : Slots) (ws : List ℕ) (x : Bool)
     (k : x ≡ differs (st .said .stream) i) where
   abbrev Headed : Out
   Headed = behindHeader (askedAt t) b p i (full st l (length ws))
@@ -57,7 +57,7 @@ module _ (t b : List ℕ) (p : BitPlace) (i : Stated) (st : State) (l : Slots) (
     pub header-ran-full : length ws < 4 → RanDid Headed st (stoppedRan (stopAt ListFull (st .place)) 0 st) ws ws
     header-ran-full h = refused-ran Headed st l ws _ (header-full (askedAt t) b p i (full st l (length ws)) (sym k ∙ same) h)
 
-    module _ (room : 4 ≤ length ws) (y : Found) (j : y ≡ foundOf (findStreamAt t (fragmentsOf t) (st .said .stream))) where
+    module _ (room : 4 ≤ length ws) (y : TablePlace) (j : y ≡ foundOf (findStreamAt t (fragmentsOf t) (st .said .stream))) where
       pub header-ran-unknown : y ≡ Nothing
           → RanDid Headed st (stoppedRan (stopAt (StreamClassUnknown (st .said .stream)) (st .place)) 0 st) ws ws
       unfolding mapOption askedAt
@@ -82,18 +82,18 @@ unfolding packetSlots noSlots
 none-unset = refl
 
 -- behind a header that was read as r says, with ws₁ on the list and ys in what was lent of it: the rest of the packet
-abbrev pub RestLeft : (t b : List ℕ) (k : ℕ) (i : Stated) (st : State) (ws ws₁ : List ℕ) (r : Field) (ys : List ℕ) (l : Slots) → Type 0
+abbrev pub RestLeft : (t b : List ℕ) (k : ℕ) (i : Stated) (st : Progress) (ws ws₁ : List ℕ) (r : Field) (ys : List ℕ) (l : Slots) → Type 0
 RestLeft t b k i st ws ws₁ r ys l =
     Part (readPacket (askedAt t) b k i (full st l (length ws))) (behindHeader (askedAt t) b (st .place) i) ws (merged 4 ws₁ ys)
     (4 + r .used) (r .state) (r .slots)
 
-module _ (t : List ℕ) (x : Notes) (u b : List ℕ) (h : Found) (given : Lent t x u h b) (k : ℕ) (i : Stated) (st : State) (ws : List ℕ) where
+module _ (t : List ℕ) (x : Notes) (u b : List ℕ) (h : TablePlace) (given : Lent t x u h b) (k : ℕ) (i : Stated) (st : Progress) (ws : List ℕ) where
   pub packet-ran-full : (l : Slots) → length ws < 4
       → RanDid (readPacket (askedAt t) b k i (full st l (length ws))) st (stoppedRan (stopAt ListFull (st .place)) 0 st) ws ws
   packet-ran-full l h = refused-ran _ st l ws _ (packet-full (askedAt t) b k i (full st l (length ws)) h)
 
   module _ (room : 4 ≤ length ws) {ws₁ : List ℕ} (w : ws₁ ≡ words (entry packetStarts (st .place) 0 k ∷ []) ++ drop 4 ws)
-      (f : Frame) (e : f ≡ wholeFrame b (st .place)) (begun : State) (j : begun ≡ freshState st) (none : Slots) (n : none ≡ noSlots) where
+      (f : Frame) (e : f ≡ wholeFrame b (st .place)) (begun : Progress) (j : begun ≡ freshState st) (none : Slots) (n : none ≡ noSlots) where
     packet-part : (l : Slots)
         → Part (readPacket (askedAt t) b k i (full st l (length ws)))
         (readRoot (envOf b u f) (classOf t h) ⨾ behindHeader (askedAt t) b (st .place) i) ws ws₁ 4 begun none

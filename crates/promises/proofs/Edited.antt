@@ -15,7 +15,7 @@ use Rattle.rules.specs.Record.{traceClass, clockClass, streamClass, eventClass,
 use Rattle.rules.specs.Table.{Table}
 use Rattle.rules.specs.Parse.{Parsed, bad, good, Parser, then, sound, missing, one, anyRoot, parseRoots, parseFragment}
 use Rattle.rules.specs.Parse.{parseOpened, parseFragments, add, isTimed, hasUuid, rootNumbers, noTable, parse}
-use Rattle.rules.specs.Faults.{pick, Seen, recordFault, fragmentFault, among, pairAmong, many, openFault, seen, firstFault, noneSeen}
+use Rattle.rules.specs.Faults.{pick, Ids, recordFault, fragmentFault, among, pairAmong, many, openFault, seen, firstFault, noIds}
 use Rattle.facts.proofs.Truth.{or-false, and-left}
 use Rattle.facts.proofs.Faults.{pick-zero, pick-false}
 use Rattle.laws.proofs.Sound.{Sound, no-fault}
@@ -47,28 +47,28 @@ through (bad n x) F b y h = absurd (bad-good n x b y h)
 through (good a x) F b y h = record { a = a; x = x; first = refl; second = h }
 
 -- a fragment's first record that has no fault behind what was seen
-abbrev Clean : Seen → Fragment → Type 0
+abbrev Clean : Ids → Fragment → Type 0
 Clean q g = recordFault false q (fragment g) (openFault q (fragment g)) ≡ 0
 
 -- the roots of a fragment, from x to y
 abbrev RootsOf : Fragment → List ℕ → List (Option Class) → List ℕ → Type 0
 RootsOf g x cs y = Rooted (isTimed g) (hasUuid g) (rootNumbers g) x cs y
 
-record Opens (n : ℕ) (q : Seen) (x : List ℕ) (t : Table) (y : List ℕ) : Type 0 where
+record ParsedFragment (n : ℕ) (q : Ids) (x : List ℕ) (t : Table) (y : List ℕ) : Type 0 where
   g : Fragment
   fits : size x ≤ length x
   is : recordOf x ≡ fragment g
   clean : Clean q g
   goes : parseFragment q (parseFragments n) g (behind x) ≡ good t y
 
-opens : (n : ℕ) (q : Seen) (x : List ℕ) (t : Table) (y : List ℕ)
-    → missing x ≡ false → parseFragments (suc n) q x ≡ good t y → Opens n q x t y
+opens : (n : ℕ) (q : Ids) (x : List ℕ) (t : Table) (y : List ℕ)
+    → missing x ≡ false → parseFragments (suc n) q x ≡ good t y → ParsedFragment n q x t y
 unfolding parseFragments one sound parseOpened openFault
 opens n q x t y m h = by _ refl (rw (m, parseFragments) at h)
   where
     nine : (r : Record) → recordOf x ≡ r → Sound (missing x) (ltb (length x) (size x)) (openFault q r)
         → recordFault (ltb (length x) (size x)) q r (openFault q r) ≡ 0
-        → parseOpened q (parseFragments n) r (behind x) ≡ good t y → Opens n q x t y
+        → parseOpened q (parseFragments n) r (behind x) ≡ good t y → ParsedFragment n q x t y
     nine unknown e s c h = absurd (omega (arith, s .later))
     nine (fragment g) e s c h = record { g = g; fits = ltb-false _ _ (s .fits); is = e; clean = rw (s .fits) at c; goes = h }
     nine (root r) e s c h = absurd (omega (arith, s .later))
@@ -77,7 +77,7 @@ opens n q x t y m h = by _ refl (rw (m, parseFragments) at h)
     nine (option k) e s c h = absurd (omega (arith, s .later))
 
     by : (v : ℕ) → pick (missing x) 3 (recordFault (ltb (length x) (size x)) q (recordOf x) (openFault q (recordOf x))) ≡ v
-        → sound v x (λ x′. parseOpened q (parseFragments n) (recordOf x) x′) ≡ good t y → Opens n q x t y
+        → sound v x (λ x′. parseOpened q (parseFragments n) (recordOf x) x′) ≡ good t y → ParsedFragment n q x t y
     by zero e h =
         let s = no-fault (missing x) (ltb (length x) (size x)) q (recordOf x) (openFault q (recordOf x)) e in
         nine (recordOf x) refl s (pick-zero (missing x) 2 _ e) h
@@ -152,7 +152,7 @@ module _ (ks : ℕ → Bool) (ke : ℕ → ℕ → Bool) where
 
   -- what the short table has seen
 
-  record Fewer (q q′ : Seen) : Type 0 where
+  record Fewer (q q′ : Ids) : Type 0 where
     trace : q′ .trace ≡ q .trace
     clocks : q′ .clocks ≡ q .clocks
     streams : (i : ℕ) → ks i ≡ true → among i (q′ .streams) ≡ among i (q .streams)
@@ -161,10 +161,10 @@ module _ (ks : ℕ → Bool) (ke : ℕ → ℕ → Bool) where
     events≤ : length (q′ .events) ≤ length (q .events)
 
   -- how many clock, stream and event classes were seen
-  abbrev classes : Seen → ℕ
+  abbrev classes : Ids → ℕ
   classes q = length (q .clocks) + length (q .streams) + length (q .events)
 
-  many-fewer : (q q′ : Seen) → Fewer q q′ → many q ≡ false → many q′ ≡ false
+  many-fewer : (q q′ : Ids) → Fewer q q′ → many q ≡ false → many q′ ≡ false
   unfolding many
   many-fewer q q′ f h =
       let a : classes q ≤ 511 = ltb-false 511 (classes q) h in
@@ -184,10 +184,10 @@ module _ (ks : ℕ → Bool) (ke : ℕ → ℕ → Bool) where
   pick-clean false n m h k = k
 
   -- no fault for too many, where fewer were seen
-  few-kept : (q q′ : Seen) → Fewer q q′ → pick (many q) 15 0 ≡ 0 → pick (many q′) 15 0 ≡ 0
+  few-kept : (q q′ : Ids) → Fewer q q′ → pick (many q) 15 0 ≡ 0 → pick (many q′) 15 0 ≡ 0
   few-kept q q′ f h = pick-clean (many q′) 15 0 (many-fewer q q′ f (pick-false (many q) 14 0 h)) refl
 
-  clean-kept : (q q′ : Seen) → Fewer q q′ → (now : Bool) (g : Fragment) → stays ks ke now (fragment g) ≡ true → Clean q g → Clean q′ g
+  clean-kept : (q q′ : Ids) → Fewer q q′ → (now : Bool) (g : Fragment) → stays ks ke now (fragment g) ≡ true → Clean q g → Clean q′ g
   unfolding recordFault openFault fragmentFault stays both
   clean-kept q q′ f now (preamble v) s h = h
   clean-kept q q′ f now (traceClass u l) s h =
@@ -234,7 +234,7 @@ module _ (ks : ℕ → Bool) (ke : ℕ → ℕ → Bool) where
       by true e = sym h ∙ ap k (eqb-true i j e) ∙ g
       by false e = refl
 
-  fewer-kept : (q q′ : Seen) → Fewer q q′ → (now : Bool) (g : Fragment) → stays ks ke now (fragment g) ≡ true → Fewer (seen q g) (seen q′ g)
+  fewer-kept : (q q′ : Ids) → Fewer q q′ → (now : Bool) (g : Fragment) → stays ks ke now (fragment g) ≡ true → Fewer (seen q g) (seen q′ g)
   unfolding seen among pairAmong
   fewer-kept q q′ f now (preamble v) s = f
   fewer-kept q q′ f now (traceClass u l) s = record {
@@ -282,7 +282,7 @@ module _ (ks : ℕ → Bool) (ke : ℕ → ℕ → Bool) where
       by false true p q = refl
       by false false p q = refl
 
-  fewer-left : (q q′ : Seen) → Fewer q q′ → (now : Bool) (g : Fragment) → stays ks ke now (fragment g) ≡ false → Fewer (seen q g) q′
+  fewer-left : (q q′ : Ids) → Fewer q q′ → (now : Bool) (g : Fragment) → stays ks ke now (fragment g) ≡ false → Fewer (seen q g) q′
   unfolding seen among pairAmong stays
   fewer-left q q′ f now (preamble v) s = let z : _≡_ {A = ℕ} 0 1 = cc in absurd (omega arith)
   fewer-left q q′ f now (traceClass u l) s = let z : _≡_ {A = ℕ} 0 1 = cc in absurd (omega arith)
@@ -331,11 +331,11 @@ module _ (ks : ℕ → Bool) (ke : ℕ → ℕ → Bool) where
 
   -- the whole walk
 
-  record Same (q′ : Seen) (x′ : List ℕ) (t : Table) : Type 0 where
+  record Same (q′ : Ids) (x′ : List ℕ) (t : Table) : Type 0 where
     parses : (m : ℕ) → length x′ ≤ m → parseFragments m q′ x′ ≡ good (kept t) []
     stops : Stops x′
 
-  same-nil : (q′ : Seen) → Same q′ [] noTable
+  same-nil : (q′ : Ids) → Same q′ [] noTable
   unfolding parseFragments missing keep noTable keepStreams keepEvents
   same-nil q′ = record { parses = λ m h. by m; stops = refl }
     where
@@ -343,7 +343,7 @@ module _ (ks : ℕ → Bool) (ke : ℕ → ℕ → Bool) where
       by zero = refl
       by (suc m) = refl
 
-  frag-step : (m : ℕ) (q : Seen) (x : List ℕ) → missing x ≡ false
+  frag-step : (m : ℕ) (q : Ids) (x : List ℕ) → missing x ≡ false
       → parseFragments (suc m) q x ≡ one q (openFault q) (λ r x. parseOpened q (parseFragments m) r x) x
   unfolding parseFragments
   frag-step m q x h = rw (h, parseFragments) refl
@@ -353,7 +353,7 @@ module _ (ks : ℕ → Bool) (ke : ℕ → ℕ → Bool) where
   whole-Large w h = rw (h .whole) (omega arith)
 
   -- a fragment that stays, in front of what stays behind it
-  module _ (q q′ : Seen) (f : Fewer q q′) (now : Bool) (w : List ℕ) (g : Fragment) (hw : Whole w) (e : recordOf w ≡ fragment g)
+  module _ (q q′ : Ids) (f : Fewer q q′) (now : Bool) (w : List ℕ) (g : Fragment) (hw : Whole w) (e : recordOf w ≡ fragment g)
       (s : stays ks ke now (fragment g) ≡ true) (c : Clean q g) (x₁ x₂ : List ℕ) (cs : List (Option Class)) (r : RootsOf g x₁ cs x₂)
       (z : List ℕ) (t : Table) (h : Same (seen q′ g) z t) where
     kept-parses : (m : ℕ) → length (w ++ (r .u ++ z)) ≤ m → parseFragments m q′ (w ++ (r .u ++ z)) ≡ good (kept (add g cs t)) []
@@ -372,7 +372,7 @@ module _ (ks : ℕ → Bool) (ke : ℕ → ℕ → Bool) where
     unfolding anyRoot
     step-kept = record { parses = kept-parses; stops = rw (whole-missing w (r .u ++ z) hw, whole-record w (r .u ++ z) hw, e) refl }
 
-  main-nil : (q′ : Seen) (now : Bool) (x : List ℕ) (t : Table) → x ≡ [] → t ≡ noTable → Same q′ (left now x) t
+  main-nil : (q′ : Ids) (now : Bool) (x : List ℕ) (t : Table) → x ≡ [] → t ≡ noTable → Same q′ (left now x) t
   unfolding left leaveRecords
   main-nil q′ now x t p k = rw (p, k) (same-nil q′)
 
@@ -381,7 +381,7 @@ module _ (ks : ℕ → Bool) (ke : ℕ → ℕ → Bool) where
   missing-nil [] h = refl
   missing-nil (b ∷ x) h = let z : _≡_ {A = ℕ} 0 1 = cc in absurd (omega arith)
 
-  same-left : (q′ : Seen) (x′ : List ℕ) (now : Bool) (g : Fragment) (cs : List (Option Class)) (t : Table)
+  same-left : (q′ : Ids) (x′ : List ℕ) (now : Bool) (g : Fragment) (cs : List (Option Class)) (t : Table)
       → stays ks ke now (fragment g) ≡ false → Same q′ x′ t → Same q′ x′ (add g cs t)
   same-left q′ x′ now g cs t s h = record {
     parses = λ m l. h .parses m l ∙ ap (λ t. good t []) (sym (add-left now g cs t s));
@@ -390,11 +390,11 @@ module _ (ks : ℕ → Bool) (ke : ℕ → ℕ → Bool) where
 
   abbrev Walk : ℕ → Type 0
   Walk n =
-      (q q′ : Seen) → Fewer q q′ → (x : List ℕ) (t : Table) (y : List ℕ) → length x ≤ n → parseFragments n q x ≡ good t y
+      (q q′ : Ids) → Fewer q q′ → (x : List ℕ) (t : Table) (y : List ℕ) → length x ≤ n → parseFragments n q x ≡ good t y
       → (now : Bool) → Same q′ (left now x) t
 
   -- one fragment, and what is behind it
-  module _ (n : ℕ) (rec : Walk n) (q q′ : Seen) (f : Fewer q q′) (now : Bool) (x w : List ℕ) (g : Fragment) (hw : Whole w)
+  module _ (n : ℕ) (rec : Walk n) (q q′ : Ids) (f : Fewer q q′) (now : Bool) (x w : List ℕ) (g : Fragment) (hw : Whole w)
       (hr : recordOf w ≡ fragment g) (c : Clean q g) (x₀ x₁ : List ℕ) (cs : List (Option Class)) (r : RootsOf g x₀ cs x₁)
       (xe : x ≡ w ++ (r .u ++ x₁)) (len : length x₁ ≤ n) (t₁ : Table) (y₁ : List ℕ) (p : parseFragments n (seen q g) x₁ ≡ good t₁ y₁) where
     left-here : (s : Bool) → stays ks ke now (fragment g) ≡ s → left now x ≡ keepIf s w ++ (keepIf s (r .u) ++ left s x₁)
@@ -411,8 +411,8 @@ module _ (ks : ℕ → Bool) (ke : ℕ → ℕ → Bool) where
         let h = rec (seen q g) q′ (fewer-left q q′ f now g e) x₁ t₁ y₁ len p false in
         rw (left-here false e) (same-left q′ (left false x₁) now g cs t₁ e h)
 
-  walk-one : (n : ℕ) → Walk n → (q q′ : Seen) → Fewer q q′ → (x : List ℕ) (t : Table) (y : List ℕ) → length x ≤ suc n → missing x ≡ false
-      → Opens n q x t y → (now : Bool) → Same q′ (left now x) t
+  walk-one : (n : ℕ) → Walk n → (q q′ : Ids) → Fewer q q′ → (x : List ℕ) (t : Table) (y : List ℕ) → length x ≤ suc n → missing x ≡ false
+      → ParsedFragment n q x t y → (now : Bool) → Same q′ (left now x) t
   unfolding parseFragment
   walk-one n rec q q′ f x t y l m o now =
       let g = o .g in
@@ -485,7 +485,7 @@ module _ (ks : ℕ → Bool) (ke : ℕ → ℕ → Bool) where
   first-fits s (range g l k) h = pick-false s 2 _ h
   first-fits s (option n) h = pick-false s 2 _ h
 
-  none-fewer : Fewer noneSeen noneSeen
+  none-fewer : Fewer noIds noIds
   none-fewer = record {
     trace = refl;
     clocks = refl;
@@ -496,7 +496,7 @@ module _ (ks : ℕ → Bool) (ke : ℕ → ℕ → Bool) where
   }
 
   behind-first : Parser Table
-  behind-first x = then (parseRoots noneSeen false false [] x) (λ cs x. parseFragments (length x) noneSeen x)
+  behind-first x = then (parseRoots noIds false false [] x) (λ cs x. parseFragments (length x) noIds x)
 
   parse-first : (w z : List ℕ) → Whole w → length (w ++ z) ≤ 65536 → firstFault false (recordOf w) ≡ 0 → parse (w ++ z) ≡ behind-first z
   unfolding parse sound behind-first
@@ -517,9 +517,9 @@ module _ (ks : ℕ → Bool) (ke : ℕ → ℕ → Bool) where
       let hw = first-whole x m fits in
       let hr = first-record x m fits in
       let c′ : firstFault false (recordOf x) ≡ 0 = rw fs at c in
-      let p₁ = through (parseRoots noneSeen false false [] (behind x)) (λ cs x. parseFragments (length x) noneSeen x) t y h in
-      let r = roots-local false false [] noneSeen (behind x) (p₁ .a) (p₁ .x) (p₁ .first) in
-      let s = walk (length (p₁ .x)) noneSeen noneSeen none-fewer (p₁ .x) t y (omega arith) (p₁ .second) true in
+      let p₁ = through (parseRoots noIds false false [] (behind x)) (λ cs x. parseFragments (length x) noIds x) t y h in
+      let r = roots-local false false [] noIds (behind x) (p₁ .a) (p₁ .x) (p₁ .first) in
+      let s = walk (length (p₁ .x)) noIds noIds none-fewer (p₁ .x) t y (omega arith) (p₁ .second) true in
       let xe : x ≡ w ++ (r .u ++ p₁ .x) = sym (first-split x) ∙ ap (λ l. w ++ l) (r .split) in
       let le : left true x ≡ w ++ (r .u ++ left true (p₁ .x)) =
       ap (left true) xe ∙ left-whole true w (r .u ++ p₁ .x) hw
@@ -528,7 +528,7 @@ module _ (ks : ℕ → Bool) (ke : ℕ → ℕ → Bool) where
       omega (arith, l, subst (λ z. length z ≤ length x) le (left-short (length x) true x)) in
       rw le
       (parse-first w (r .u ++ left true (p₁ .x)) hw ll (rw hr c′)
-      ∙ ap (λ o. then o (λ cs x. parseFragments (length x) noneSeen x)) (r .again noneSeen (left true (p₁ .x)) (s .stops))
+      ∙ ap (λ o. then o (λ cs x. parseFragments (length x) noIds x)) (r .again noIds (left true (p₁ .x)) (s .stops))
       ∙ s .parses (length (left true (p₁ .x))) (omega arith))
 
   edited : (x : List ℕ) (t : Table) (y : List ℕ) → parse x ≡ good t y → parse (leave ks ke x) ≡ good (kept t) []

@@ -40,7 +40,7 @@ first-index gs ge i (e ∷ es) l h = by (lost gs ge i e) (firstLost gs ge (under
         omega arith
 
 -- what the search finds: the entry at the index, of which the refusal is, and no such entry before it
-pub record Found (gs : ℕ → Bool) (ge : ℕ → ℕ → Bool) (i : ℕ) (es : List Entry) (l : Lost) : Type 0 where
+pub record FoundFirst (gs : ℕ → Bool) (ge : ℕ → ℕ → Bool) (i : ℕ) (es : List Entry) (l : Lost) : Type 0 where
   pub before : List Entry
   pub found : Entry
   pub others : List Entry
@@ -50,14 +50,14 @@ pub record Found (gs : ℕ → Bool) (ge : ℕ → ℕ → Bool) (i : ℕ) (es :
   pub is : lost gs ge (latest gs ge i before) found ≡ some (l .refusal)
 
 pub first-found : (gs : ℕ → Bool) (ge : ℕ → ℕ → Bool) (i : ℕ) (es : List Entry) (l : Lost) → firstLost gs ge i es ≡ some l
-    → Found gs ge i es l
+    → FoundFirst gs ge i es l
 unfolding firstLost
 first-found gs ge i [] l h = let z : _≡_ {A = ℕ} 0 1 = cc in absurd (omega arith)
 first-found gs ge i (e ∷ es) l h =
     by (lost gs ge i e) refl (firstLost gs ge (under gs ge i e) es) h (first-found gs ge (under gs ge i e) es)
   where
     by : (x : Option Stop) → lost gs ge i e ≡ x → (y : Option Lost) → front gs ge x y ≡ some l
-        → ((m : Lost) → y ≡ some m → Found gs ge (under gs ge i e) es m) → Found gs ge i (e ∷ es) l
+        → ((m : Lost) → y ≡ some m → FoundFirst gs ge (under gs ge i e) es m) → FoundFirst gs ge i (e ∷ es) l
     by none q none h r = unfold front later in let z : _≡_ {A = ℕ} 0 1 = cc in absurd (omega arith)
     by none q (some m) h r =
         unfold front later latest in

@@ -17,7 +17,7 @@ use Rattle.rules.specs.Record.{recordOf, size, behind, layoutOf, u8}
 use Rattle.rules.specs.Parse.{Parsed, bad, good, Parser, then, sound, missing, one, Ranges, rangeOf, countOf, theSign}
 use Rattle.rules.specs.Parse.{selected, parseRanges, parseMembers, parseOptions, parseShape, parseBody, parseClass}
 use Rattle.facts.proofs.Faults.{pick-zero}
-use Rattle.rules.specs.Faults.{pick, Seen, recordFault, Spot, inside, Under, memberSpot, classFault, rangeFault, optionFault}
+use Rattle.rules.specs.Faults.{pick, Ids, recordFault, Spot, inside, Under, memberSpot, classFault, rangeFault, optionFault}
 use Rattle.laws.proofs.Sound.{no-fault}
 
 -- a whole record that is no fragment's first
@@ -80,14 +80,14 @@ plain-append nothing q = q
 plain-append {v = v} (after {u} w h k p) q = subst Plain (sym (append-assoc w u v)) (after w h k (plain-append p q))
 
 -- what a parser took
-pub record Taken {A : Type 0} (P : Seen → Parser A) (x : List ℕ) (a : A) (y : List ℕ) : Type 0 where
+pub record Taken {A : Type 0} (P : Ids → Parser A) (x : List ℕ) (a : A) (y : List ℕ) : Type 0 where
   pub u : List ℕ
   pub split : x ≡ u ++ y
   pub plain : Plain u
-  pub again : (q : Seen) (z : List ℕ) → P q (u ++ z) ≡ good a z
+  pub again : (q : Ids) (z : List ℕ) → P q (u ++ z) ≡ good a z
 
-pub record Local {A : Type 0} (P : Seen → Parser A) : Type 0 where
-  pub at : (q : Seen) (x : List ℕ) (a : A) (y : List ℕ) → P q x ≡ good a y → Taken P x a y
+pub record Local {A : Type 0} (P : Ids → Parser A) : Type 0 where
+  pub at : (q : Ids) (x : List ℕ) (a : A) (y : List ℕ) → P q x ≡ good a y → Taken P x a y
 
 local-good : {A : Type 0} (a : A) → Local (λ q x. good a x)
 local-good {A} a = record { at = λ q x b y h. by x b y h }
@@ -103,12 +103,12 @@ bad-good n x b y h = let z : _≡_ {A = ℕ} 0 1 = cc in omega arith
 local-bad : {A : Type 0} (n : ℕ) → Local {A = A} (λ q x. bad n x)
 local-bad {A} n = record { at = λ q x b y h. absurd (bad-good n x b y h) }
 
-local-then : {A B : Type 0} (P : Seen → Parser A) (F : A → Seen → Parser B) → Local P → ((a : A) → Local (F a))
+local-then : {A B : Type 0} (P : Ids → Parser A) (F : A → Ids → Parser B) → Local P → ((a : A) → Local (F a))
     → Local (λ q x. then (P q x) (λ a x. F a q x))
 unfolding then
 local-then {A} {B} P F l k = record { at = λ q x b y h. by q x b y (P q x) refl h }
   where
-    by : (q : Seen) (x : List ℕ) (b : B) (y : List ℕ) (o : Parsed A) → P q x ≡ o → then o (λ a x. F a q x) ≡ good b y
+    by : (q : Ids) (x : List ℕ) (b : B) (y : List ℕ) (o : Parsed A) → P q x ≡ o → then o (λ a x. F a q x) ≡ good b y
         → Taken (λ q x. then (P q x) (λ a x. F a q x)) x b y
     by q x b y (bad n x′) e h = absurd (bad-good n x′ b y h)
     by q x b y (good a x′) e h =
@@ -122,7 +122,7 @@ local-then {A} {B} P F l k = record { at = λ q x b y h. by q x b y (P q x) refl
         }
 
 -- one record
-fault-free : (short : Bool) (q : Seen) (r : Record) (m : ℕ) → isFragment r ≡ false → recordFault short q r m ≡ 0 → (q : Seen)
+fault-free : (short : Bool) (q : Ids) (r : Record) (m : ℕ) → isFragment r ≡ false → recordFault short q r m ≡ 0 → (q : Ids)
     → recordFault short q r m ≡ 0
 unfolding recordFault isFragment
 fault-free short q unknown m f h q′ = h
@@ -147,17 +147,17 @@ whole-short w z h =
     let k : size (w ++ z) ≤ length (w ++ z) = rw (whole-size w z h, length-append w z) (omega (arith, h .whole)) in
     le-ltb _ _ k
 
-pub one-whole : {A : Type 0} (q : Seen) (more : Record → ℕ) (f : Record → Parser A) (w z : List ℕ) → Whole w
+pub one-whole : {A : Type 0} (q : Ids) (more : Record → ℕ) (f : Record → Parser A) (w z : List ℕ) → Whole w
     → recordFault false q (recordOf w) (more (recordOf w)) ≡ 0 → one q more f (w ++ z) ≡ f (recordOf w) z
 unfolding one sound pick
 one-whole q more f w z h k = rw (whole-missing w z h, whole-short w z h, whole-record w z h, k) (ap (f (recordOf w)) (whole-behind w z h))
 
-local-one : {A : Type 0} (more : Record → ℕ) → ((g : Fragment) → more (fragment g) ≡ 9) → (f : Record → Seen → Parser A)
+local-one : {A : Type 0} (more : Record → ℕ) → ((g : Fragment) → more (fragment g) ≡ 9) → (f : Record → Ids → Parser A)
     → ((r : Record) → Local (f r)) → Local (λ q x. one q more (λ r x. f r q x) x)
 unfolding one sound
 local-one {A} more kf f l = record { at = λ q x a y h. by q x a y _ refl h }
   where
-    by : (q : Seen) (x : List ℕ) (a : A) (y : List ℕ) (n : ℕ)
+    by : (q : Ids) (x : List ℕ) (a : A) (y : List ℕ) (n : ℕ)
         → pick (missing x) 3 (recordFault (ltb (length x) (size x)) q (recordOf x) (more (recordOf x))) ≡ n
         → sound n x (λ x′. f (recordOf x) q x′) ≡ good a y → Taken (λ q x. one q more (λ r x. f r q x) x) x a y
     by q x a y (suc n) e h = absurd (bad-good (suc n) x a y h)
@@ -190,7 +190,7 @@ local-ranges earlier (suc n) o =
     (λ r. local-then (λ q x. parseRanges q earlier n ((rangeOf r) .0) x) (λ p q x. good (p .0, (rangeOf r) .1 ++ p .1) x)
     (local-ranges earlier n ((rangeOf r) .0)) (λ p. local-good (p .0, (rangeOf r) .1 ++ p .1)))
 
-module _ (f : Seen → Spot → Parser Class) (lf : (z : Spot) → Local (λ q x. f q z x)) where
+module _ (f : Ids → Spot → Parser Class) (lf : (z : Spot) → Local (λ q x. f q z x)) where
   local-members : (z : Spot) (n : ℕ) → Local (λ q x. parseMembers (f q) z n x)
   unfolding parseMembers
   local-members z zero = local-good noMember

@@ -12,7 +12,7 @@ use Rattle.facts.proofs.Truth.{and-left, and-right, and-none}
 use Rattle.rules.specs.Class.{Class}
 use Rattle.rules.specs.Record.{Record, unknown, fragment, root, class, range, option, recordOf, size, behind, layoutOf, layouts, no, u8}
 use Rattle.rules.specs.Parse.{Parsed, bad, good, Parser, then, sound, missing, one, isRoot, anyRoot, parseClass, parseRoots}
-use Rattle.rules.specs.Faults.{pick, Seen, recordFault, top, Under, rootFault}
+use Rattle.rules.specs.Faults.{pick, Ids, recordFault, top, Under, rootFault}
 use Rattle.promises.proofs.Local.{Whole, Plain, nothing, after, isFragment, local-class, whole-size, whole-record}
 use Rattle.promises.proofs.Local.{whole-behind, first-whole, first-split, first-record, plain-append, bad-good}
 
@@ -58,7 +58,7 @@ plain-here n u y z nothing h s = stops-here n z s
 plain-here n u y z (after {u = v} w hw k p) h s =
     rw (append-assoc w v z) (whole-here n w (v ++ z) hw ∙ sym (whole-here n w (v ++ y) hw) ∙ rw (append-assoc w v y) at h)
 
-one-bad : {A : Type 0} (q : Seen) (more : Record → ℕ) (n : ℕ) (x : List ℕ) (a : A) (y : List ℕ)
+one-bad : {A : Type 0} (q : Ids) (more : Record → ℕ) (n : ℕ) (x : List ℕ) (a : A) (y : List ℕ)
     → one q more (λ r x. bad n x) x ≡ good a y → ⊥
 unfolding one sound
 one-bad q more n x a y h = by (pick (missing x) 3 (recordFault (ltb (length x) (size x)) q (recordOf x) (more (recordOf x)))) h
@@ -72,31 +72,31 @@ pub record Rooted (timed u? : Bool) (ns : List ℕ) (x : List ℕ) (cs : List (O
   pub split : x ≡ u ++ y
   pub plain : Plain u
   pub stops : Stops y
-  pub again : (q : Seen) (z : List ℕ) → Stops z → parseRoots q timed u? ns (u ++ z) ≡ good cs z
+  pub again : (q : Ids) (z : List ℕ) → Stops z → parseRoots q timed u? ns (u ++ z) ≡ good cs z
 
 root-there : (n : ℕ) (x : List ℕ) → isRoot n (recordOf x) ≡ true → missing x ≡ false
 unfolding missing recordOf layoutOf layouts no u8 isRoot
 root-there n [] h = let z : _≡_ {A = ℕ} 0 1 = cc in absurd (omega arith)
 root-there n (b ∷ x) h = refl
 
-step-true : (timed u? : Bool) (n : ℕ) (ns : List ℕ) (q : Seen) (x : List ℕ) → here n x ≡ true
+step-true : (timed u? : Bool) (n : ℕ) (ns : List ℕ) (q : Ids) (x : List ℕ) → here n x ≡ true
     → parseRoots q timed u? (n ∷ ns) x
     ≡ then (parseClass q (record { root = n; timed = timed; uuid = u? }) 8 top (behind x))
     (λ c x. then (parseRoots q timed u? ns x) (λ cs x. good (some c ∷ cs) x))
 unfolding parseRoots
 step-true timed u? n ns q x e = rw (e, parseRoots) refl
 
-step-false : (timed u? : Bool) (n : ℕ) (ns : List ℕ) (q : Seen) (x : List ℕ) → here n x ≡ false
+step-false : (timed u? : Bool) (n : ℕ) (ns : List ℕ) (q : Ids) (x : List ℕ) → here n x ≡ false
     → parseRoots q timed u? (n ∷ ns) x ≡ then (parseRoots q timed u? ns x) (λ cs x. good (none ∷ cs) x)
 unfolding parseRoots
 step-false timed u? n ns q x e = rw (e, parseRoots) refl
 
 module _ (timed u? : Bool) where
   -- what is shown of the other roots
-  abbrev Others : List ℕ → Seen → Type 0
+  abbrev Others : List ℕ → Ids → Type 0
   Others ns q = (x : List ℕ) (cs : List (Option Class)) (y : List ℕ) → parseRoots q timed u? ns x ≡ good cs y → Rooted timed u? ns x cs y
 
-  pub roots-local : (ns : List ℕ) (q : Seen) (x : List ℕ) (cs : List (Option Class)) (y : List ℕ)
+  pub roots-local : (ns : List ℕ) (q : Ids) (x : List ℕ) (cs : List (Option Class)) (y : List ℕ)
       → parseRoots q timed u? ns x ≡ good cs y → Rooted timed u? ns x cs y
   unfolding parseRoots then
   roots-local [] q x cs y h = by (not (missing x) && anyRoot (recordOf x)) refl h
@@ -114,7 +114,7 @@ module _ (timed u? : Bool) where
       U : Under
       U = record { root = n; timed = timed; uuid = u? }
 
-      rest : Seen → Class → Parser (List (Option Class))
+      rest : Ids → Class → Parser (List (Option Class))
       rest q c x = then (parseRoots q timed u? ns x) (λ cs x. good (some c ∷ cs) x)
 
       -- there is the root, its class, and the other roots

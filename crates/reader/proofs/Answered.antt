@@ -22,17 +22,17 @@ use Rattle.rules.specs.Place.{byteLength, bitPlace}
 use Rattle.rules.specs.Verdict.{stopAt, numberOf, placeOf, firstOf, secondOf}
 use Rattle.rules.specs.Entry.{words}
 use Rattle.rules.specs.Record.{u8}
-use Rattle.rules.specs.Step.{State as Whole, stop, go}
+use Rattle.rules.specs.Step.{State, stop, go}
 use Rattle.rules.specs.Table.{Table, Asked}
 use Rattle.rules.specs.Parse.{Parsed, bad, good, parse, byteOf, checkedOf, checked}
 use Rattle.rules.specs.Packet.{readPackets}
 use Rattle.rules.specs.Read.{resultOf, listAfter, ended, begin, readStream, readParsed, readAll}
-use Rattle.listing.specs.declared.State.{State}
+use Rattle.listing.specs.declared.Progress.{Progress}
 use Rattle.listing.specs.declared.Went.{Went}
 use Rattle.listing.specs.declared.Went.the-variants.{On, Stopped}
 use Rattle.listing.specs.Did.{full, outOf}
-use Rattle.class_layout.specs.declared.Found.{Found}
-use Rattle.class_layout.specs.declared.Found.the-variants.{At, Nothing}
+use Rattle.class_layout.specs.declared.TablePlace.{TablePlace}
+use Rattle.class_layout.specs.declared.TablePlace.the-variants.{At, Nothing}
 use Rattle.class_layout.specs.Fragments.{askedAt, findTraceAt, fragmentsOf, headerAt, uuidAt, rootPlace, openingSize, isTrace}
 use Rattle.class_layout.specs.Sizes.{foundOf, SizedFragment, uuidPlace}
 use Rattle.class_layout.specs.Notes.{Notes}
@@ -53,7 +53,7 @@ use Rattle.event_turns.proofs.Looked.{root-class, root-stands}
 
 -- What the trace class lends
 
-module _ (t : List ℕ) (x : Notes) (b : List ℕ) (g : Ready t x) (n : length b ≤ streamLimit) (y : Found)
+module _ (t : List ℕ) (x : Notes) (b : List ℕ) (g : Ready t x) (n : length b ≤ streamLimit) (y : TablePlace)
     (e : y ≡ foundOf (findTraceAt t (fragmentsOf t))) where
   pub lent-none : y ≡ Nothing → Lent t x [] Nothing b
   unfolding askedAt classOf RootStands headerAt uuidAt
@@ -75,7 +75,7 @@ module _ (t : List ℕ) (x : Notes) (b : List ℕ) (g : Ready t x) (n : length b
         let k : u8 t o ≡ 2 = eqb-true _ _ is in
         rw (k, openingSize) at (trace-sized .stands .there)
 
-    module _ (r : Found) (j : r ≡ foundOf (rootPlace t o 0)) (u : Found) (v : u ≡ foundOf (uuidPlace t o)) where
+    module _ (r : TablePlace) (j : r ≡ foundOf (rootPlace t o 0)) (u : TablePlace) (v : u ≡ foundOf (uuidPlace t o)) where
       header-is : classOf t r ≡ (askedAt t) .header
       unfolding askedAt headerAt
       header-is = root-class t o 0 r j ∙ sym (ap (headerAt t) trace-at)
@@ -118,11 +118,11 @@ module _ (t : List ℕ) (x : Notes) (b : List ℕ) (g : Ready t x) (n : length b
 -- The result
 
 module _ (es : List Entry) (used : ℕ) (n : used ≡ 4 * length es) (ws ws′ : List ℕ) (k : ws′ ≡ words es ++ drop used ws) (y : Result)
-    (st : State) where
+    (st : Progress) where
   entries : used / 4 ≡ length es
   entries = omega arith
 
-  on-answers : (s : Whole) → s .place ≡ st .place → y ≡ answerOf On used st → Answers (ended (go es s)) y ws ws′
+  on-answers : (s : State) → s .place ≡ st .place → y ≡ answerOf On used st → Answers (ended (go es s)) y ws ws′
   unfolding answerOf resultOf ended numberOf placeOf firstOf secondOf listAfter
   on-answers s p e = record { result = e ∙ rw (entries, p) refl; list = k ∙ ap (λ m. words es ++ drop m ws) n }
 
@@ -131,7 +131,7 @@ module _ (es : List Entry) (used : ℕ) (n : used ≡ 4 * length es) (ws ws′ :
   stopped-answers v e = record { result = e ∙ rw (entries) refl; list = k ∙ ap (λ m. words es ++ drop m ws) n }
 
 out-answers : (es : List Entry) (went : Went) (used : ℕ) → used ≡ 4 * length es → (ws ws′ : List ℕ) → ws′ ≡ words es ++ drop used ws
-    → (y : Result) (st : State) (l : Slots) (room : ℕ)
+    → (y : Result) (st : Progress) (l : Slots) (room : ℕ)
     → y ≡ answerOf went used st → Answers (ended (outOf es went st l room)) y ws ws′
 unfolding outOf
 out-answers es On used n ws ws′ k y st l room e = on-answers es used n ws ws′ k y st (full st l room) refl e

@@ -15,7 +15,7 @@ use Rattle.table_offsets.specs.Check.{seenWith, traced, counted, thenChe
 use Rattle.table_offsets.specs.declared.Walk.{Walk}
 use Rattle.table_offsets.specs.declared.Walk.the-variants.{Fine, Bad}
 use Rattle.table_offsets.proofs.Descent.{less}
-use Rattle.table_offsets.proofs.Opens.{Opens, opens, fragment-end, seen-more, seen-length}
+use Rattle.table_offsets.proofs.FragmentOpens.{FragmentOpens, opens, fragment-end, seen-more, seen-length}
 use Rattle.table_offsets.proofs.Places.{latest-length}
 
 module _ (t : List ℕ) (trace : Bool) (seen : List ℕ) (at : ℕ) (more : at < length t) where
@@ -71,7 +71,7 @@ round m k t ih trace seen at s h l true e =
     fragments-on t trace seen at more (suc m) (omega arith)
     ∙ agree _ at _ _ _ _
     (λ z x w.
-    let o : Opens t (length seen) at = opens t trace seen (length seen) at s _ refl z in
+    let o : FragmentOpens t (length seen) at = opens t trace seen (length seen) at s _ refl z in
     let p = fragment-end t (length seen) at x o w in
     rw (less m, less k)
     (ih (traced trace (getD t at 0)) (seenWith at (getD t at 0) seen) x (omega (arith, o .few, seen-length at (getD t at 0) seen))

@@ -16,7 +16,7 @@ use Rattle.rules.specs.Place.{byteLength}
 use Rattle.rules.specs.Table.{Table}
 use Rattle.rules.specs.Record.{preamble, traceClass, clockClass, streamClass, eventClass, Record, unknown, fragment, root, class, range}
 use Rattle.rules.specs.Record.{option, recordOf, behind, size}
-use Rattle.rules.specs.Faults.{pick, noneSeen, firstFault as rulesFault}
+use Rattle.rules.specs.Faults.{pick, noIds, firstFault as rulesFault}
 use Rattle.rules.specs.Parse.{Parser, bad, then, sound, missing, parseRoots, parseFragments, parse, byteOf, checkedOf, checked}
 use Rattle.table_offsets.specs.declared.Walk.the-variants.{Fine}
 use Rattle.table_offsets.specs.Bodies.{known, noKind}
@@ -123,15 +123,15 @@ stray-refused t trace os at C = by (stray t at) (stray-root t at)
 
 -- what is behind the preamble: no root, and fragments to the end
 rest : Parser Table
-rest x = then (parseRoots noneSeen false false [] x) λ cs x. parseFragments (length x) noneSeen x
+rest x = then (parseRoots noIds false false [] x) λ cs x. parseFragments (length x) noIds x
 
 rest-checked : (t : List ℕ) → Bytes t → (x : List ℕ) → Rest t 2 x
     → orRefused (stray t 2) 2 (fragmentsAt (length t - 2) t false [] 2) ≡ checkedOf t (rest x)
 unfolding rest
 rest-checked t b x r =
     stray-refused t false [] 2 (λ e. fragmentsAt (length t - e) t false [] e)
-    ∙ then-checked t false [] (stray-tie t b noneSeen false [] (sees-none t) false false 2 x r) _ _ (λ cs e y g.
-    rw (rest-length t e y g) (fragments-tie t b (length t - e) noneSeen false [] (sees-none t) e y g))
+    ∙ then-checked t false [] (stray-tie t b noIds false [] (sees-none t) false false 2 x r) _ _ (λ cs e y g.
+    rw (rest-length t e y g) (fragments-tie t b (length t - e) noIds false [] (sees-none t) e y g))
 
 missing-all : (t : List ℕ) → missing t ≡ eqb (length t) 0
 unfolding missing

@@ -11,7 +11,7 @@ use borrow.Author.Tests.{eq-eqb, ne-eqb}
 use Rattle.facts.specs.Bytes.{Bytes}
 use Rattle.rules.specs.Class.{Class, structure, staticArray, dynamicArray, variant as aVariant}
 use Rattle.rules.specs.Record.{Shape, Says as Said, Record, behind}
-use Rattle.rules.specs.Faults.{Seen, Spot, top, leading, inside as within, memberSpot, meets, classFault as rulesFault}
+use Rattle.rules.specs.Faults.{Ids, Spot, top, leading, inside as within, memberSpot, meets, classFault as rulesFault}
 use Rattle.rules.specs.Parse.{Parser, selected, theSign, parseShape, parseBody, parseClass}
 use Rattle.table_offsets.specs.declared.Walk.{Walk}
 use Rattle.table_offsets.specs.declared.Walk.the-variants.{Fine}
@@ -77,7 +77,7 @@ single-at F t at k n l e =
       f,
     )
 
-module _ (t : List ℕ) (b : Bytes t) (q : Seen) (trace : Bool) (seen : List ℕ) (known : Sees t q trace seen) (u : Under) where
+module _ (t : List ℕ) (b : Bytes t) (q : Ids) (trace : Bool) (seen : List ℕ) (known : Sees t q trace seen) (u : Under) where
   module _ (f : Spot → Parser Class) (F : ℕ → Walk) (h : Walks t q trace seen known (u .start) f F) (z : Spot) (at : ℕ)
       (s : Spotted z (u .start) at) where
     longer : (n : ℕ) → at < at + (1 + n)

@@ -15,7 +15,7 @@ use Rattle.rules.specs.Place.{byteLength}
 use Rattle.rules.specs.Class.{Class}
 use Rattle.rules.specs.Table.{Table}
 use Rattle.rules.specs.Record.{traceClass, clockClass, streamClass, eventClass, Record, recordOf, behind, size}
-use Rattle.rules.specs.Faults.{pick, Seen, seen, many, recordFault, openFault as rulesFault}
+use Rattle.rules.specs.Faults.{pick, Ids, seen, many, recordFault, openFault as rulesFault}
 use Rattle.rules.specs.Parse.{Parsed, Parser, bad, good, then, sound, missing, one, isTimed, hasUuid, rootNumbers, add, noTable, parseRoots}
 use Rattle.rules.specs.Parse.{parseFragment, parseOpened, parseFragments, byteOf, checkedOf}
 use Rattle.table_offsets.specs.declared.Walk.{Walk}
@@ -43,7 +43,7 @@ clock-open false true c = refl
 clock-open false false true = refl
 clock-open false false false = refl
 
-module _ (t : List ℕ) (q : Seen) (trace : Bool) (os : List ℕ) (s : Sees t q trace os) where
+module _ (t : List ℕ) (q : Ids) (trace : Bool) (os : List ℕ) (s : Sees t q trace os) where
   many-seen : many q ≡ ltb 511 (length os)
   unfolding many
   many-seen = rw (s .count)
@@ -111,10 +111,10 @@ made-checked t (good a x) f = refl
 -- The walk
 
 module _ (t : List ℕ) (b : Bytes t) (left : ℕ)
-    (rec : (q : Seen) (trace : Bool) (os : List ℕ) → Sees t q trace os → (at : ℕ) (x : List ℕ) → Rest t at x
+    (rec : (q : Ids) (trace : Bool) (os : List ℕ) → Sees t q trace os → (at : ℕ) (x : List ℕ) → Rest t at x
     → fragmentsAt left t trace os at ≡ checkedOf t (parseFragments left q x)) where
   -- a fragment's roots, and then the fragments behind them
-  roots-checked : (q : Seen) (trace : Bool) (os : List ℕ) → Sees t q trace os → (timed uuid : Bool) (n m at : ℕ) (x : List ℕ) → Rest t at x
+  roots-checked : (q : Ids) (trace : Bool) (os : List ℕ) → Sees t q trace os → (timed uuid : Bool) (n m at : ℕ) (x : List ℕ) → Rest t at x
       → (f : List (Option Class) → Table → Table)
       → thenChecked (rootsAt t timed uuid m at n) (λ m p. Refused (lowest t trace os m p) (byteLength p))
       (λ e. fragmentsAt left t trace os e)
@@ -123,7 +123,7 @@ module _ (t : List ℕ) (b : Bytes t) (left : ℕ)
       then-checked t trace os (roots-tie t b q trace os s timed uuid n m at x r) _ _ (λ cs e y g.
       rec q trace os s e y g ∙ made-checked t (parseFragments left q y) (f cs))
 
-  opened-checked : (q : Seen) (trace : Bool) (os : List ℕ) → Sees t q trace os → (at k n : ℕ) (r : Record) → Stands t at k n r
+  opened-checked : (q : Ids) (trace : Bool) (os : List ℕ) → Sees t q trace os → (at k n : ℕ) (r : Record) → Stands t at k n r
       → (n ≡ noKind → ⊥) → byteAt t at ≡ k
       → openFault t (length os) at k ≡ 0 → (x : List ℕ) → Rest t (at + (1 + n)) x
       → thenChecked (rootsOf t at k) (λ m p. Refused (lowest t (traced trace k) (seenWith at k os) m p) (byteLength p))
@@ -158,7 +158,7 @@ module _ (t : List ℕ) (b : Bytes t) (left : ℕ)
   opened-checked q trace os s at k n r aRange h e o x g = absurd (omega arith)
   opened-checked q trace os s at k n r anOption h e o x g = absurd (omega arith)
 
-  module _ (q : Seen) (trace : Bool) (os : List ℕ) (s : Sees t q trace os) (at : ℕ) (x : List ℕ) (r : Rest t at x) where
+  module _ (q : Ids) (trace : Bool) (os : List ℕ) (s : Sees t q trace os) (at : ℕ) (x : List ℕ) (r : Rest t at x) where
     -- the answer where there are bytes left
     abbrev here : Checked
     here = orRefused (fragmentFault t trace os (length os) at) at
@@ -188,7 +188,7 @@ module _ (t : List ℕ) (b : Bytes t) (left : ℕ)
         by true = fragment-checked
         by false = unfold checkedOf in refl
 
-pub fragments-tie : (t : List ℕ) → Bytes t → (left : ℕ) (q : Seen) (trace : Bool) (os : List ℕ) → Sees t q trace os → (at : ℕ) (x : List ℕ)
+pub fragments-tie : (t : List ℕ) → Bytes t → (left : ℕ) (q : Ids) (trace : Bool) (os : List ℕ) → Sees t q trace os → (at : ℕ) (x : List ℕ)
     → Rest t at x
     → fragmentsAt left t trace os at ≡ checkedOf t (parseFragments left q x)
 unfolding fragmentsAt parseFragments checkedOf

@@ -11,7 +11,7 @@ use borrow.Author.Tests.{leb-false, le-leb, lt-leb, eq-eqb, ne-eqb, eqb-true, eq
 use Rattle.facts.proofs.Numbers.{lt-or-ge}
 use Rattle.facts.proofs.Truth.{clash}
 use Rattle.rules.specs.Record.{Record, unknown, fragment, root, class, range, option, recordOf, size, behind}
-use Rattle.rules.specs.Faults.{pick, Seen, recordFault}
+use Rattle.rules.specs.Faults.{pick, Ids, recordFault}
 use Rattle.rules.specs.Parse.{missing}
 use Rattle.table_offsets.specs.Bodies.{known, noKind, bodyMark}
 use Rattle.table_offsets.specs.Check.{pickN, first, byteAt, headFault}
@@ -40,7 +40,7 @@ pub record Tested (test : Bool → Record → ℕ) : Type 0 where
   pub unknowns : (short : Bool) → test short unknown ≡ 2
   pub others : (short : Bool) (r : Record) → known r ≡ true → test short r ≡ pick short 3 (test false r)
 
-pub record-tested : (q : Seen) (m : ℕ) → Tested (λ short r. recordFault short q r m)
+pub record-tested : (q : Ids) (m : ℕ) → Tested (λ short r. recordFault short q r m)
 unfolding recordFault pick known
 record-tested q m = record { unknowns = λ s. refl; others = others }
   where

@@ -11,7 +11,7 @@ use lib.Dec.{leb, eqb}
 use borrow.Author.Tests.{leb-true, eqb-true, ne-eqb}
 use Rattle.rules.specs.Class.{Class, member, option as anOption′}
 use Rattle.rules.specs.Record.{Record, unknown, fragment, root, class, range, option, behind}
-use Rattle.rules.specs.Faults.{pick, out, Seen, Spot, inside as within, optionFault as rulesFault}
+use Rattle.rules.specs.Faults.{pick, out, Ids, Spot, inside as within, optionFault as rulesFault}
 use Rattle.rules.specs.Parse.{Parser, Ranges, countOf, parseMembers, parseOptions}
 use Rattle.table_offsets.specs.declared.Walk.{Walk}
 use Rattle.table_offsets.specs.Bodies.{noKind}
@@ -84,7 +84,7 @@ an-option t at n r anOption h = (refl, refl)
 
 -- The walks, under a root structure at `start`
 
-module _ (t : List ℕ) (q : Seen) (trace : Bool) (seen : List ℕ) (known : Sees t q trace seen) (start : ℕ) where
+module _ (t : List ℕ) (q : Ids) (trace : Bool) (seen : List ℕ) (known : Sees t q trace seen) (start : ℕ) where
   -- f reads the classes that F walks; each takes a byte or more
   abbrev pub Walks : (Spot → Parser Class) → (ℕ → Walk) → Type 0
   Walks f F = (z : Spot) (at : ℕ) (x : List ℕ) → Rest t at x → Spotted z start at → Tied t trace seen (λ c e. at < e) (f z x) (F at)

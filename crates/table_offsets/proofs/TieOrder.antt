@@ -11,7 +11,7 @@ use lib.Dec.{ltb, eqb}
 use borrow.Author.Tests.{ne-eqb, lt-ltb, le-ltb}
 use Rattle.facts.proofs.Numbers.{lt-or-ge}
 use Rattle.rules.specs.Record.{Fragment, preamble, traceClass, clockClass, streamClass, eventClass, Record, fragment, recordOf, size}
-use Rattle.rules.specs.Faults.{pick, Seen, fragmentFault, recordFault}
+use Rattle.rules.specs.Faults.{pick, Ids, fragmentFault, recordFault}
 use Rattle.rules.specs.Parse.{missing}
 use Rattle.table_offsets.specs.Bodies.{noKind, bodyMark}
 use Rattle.table_offsets.specs.Check.{pickN, first, byteAt, u64, headFault, named, orderFault, lowest}
@@ -56,7 +56,7 @@ class-order t trace os at k h =
       ne-eqb k 5 (λ e. omega arith),
     )
 
-module _ (t : List ℕ) (q : Seen) (trace : Bool) (os : List ℕ) (s : Sees t q trace os) where
+module _ (t : List ℕ) (q : Ids) (trace : Bool) (os : List ℕ) (s : Sees t q trace os) where
   pub order-tie : (at k n : ℕ) (r : Record) → Stands t at k n r → (n ≡ noKind → ⊥) → (m : ℕ)
       → recordFault false q r m ≡ first (orderFault t trace os at k) m
   unfolding recordFault fragmentFault orderFault pick pickN first
@@ -105,7 +105,7 @@ unfolding lowest pickN
 lowest-late t trace os m at h = rw (le-ltb m 4 h)
 
 -- the rules' number of a record
-pub number-tie : (t : List ℕ) (q : Seen) (trace : Bool) (os : List ℕ) → Sees t q trace os → (at : ℕ) (x : List ℕ) → Rest t at x
+pub number-tie : (t : List ℕ) (q : Ids) (trace : Bool) (os : List ℕ) → Sees t q trace os → (at : ℕ) (x : List ℕ) → Rest t at x
     → (more : Record → ℕ) → Late more
     → pick (missing x) 3 (recordFault (ltb (length x) (size x)) q (recordOf x) (more (recordOf x)))
     ≡ lowest t trace os (first (headFault t at) (more (recordOf x))) at

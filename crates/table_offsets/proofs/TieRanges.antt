@@ -11,7 +11,7 @@ use lib.Dec.{ltb, leb, eqb}
 use borrow.Author.Tests.{ltb-false, eqb-true, eq-eqb, ne-eqb}
 use Rattle.rules.specs.Class.{Sign, Range, key as rulesKey}
 use Rattle.rules.specs.Record.{Record, unknown, fragment, root, class, range, option, recordOf, behind}
-use Rattle.rules.specs.Faults.{pick, Seen, signOf, otherSign, meets, rangeFault as rulesFault}
+use Rattle.rules.specs.Faults.{pick, Ids, signOf, otherSign, meets, rangeFault as rulesFault}
 use Rattle.rules.specs.Parse.{good, then, Ranges, rangeOf, parseRanges}
 use Rattle.table_offsets.specs.Bodies.{noKind, known}
 use Rattle.table_offsets.specs.Check.{pickN, byteAt, u64, key, lowAt, highAt, meetsHere, meetsOne, meetsOption, meetsAny, boundsFault}
@@ -194,7 +194,7 @@ read-more t head at n e o p s k = record {
   sign = λ l. k .sign (inr (λ a. (ap signOf (sym (s .same)), rw (s .same) (s .sign))));
 }
 
-module _ (t : List ℕ) (q : Seen) (trace : Bool) (seen : List ℕ) (known : Sees t q trace seen) (head : ℕ) (os : List ℕ) (rs : List Range)
+module _ (t : List ℕ) (q : Ids) (trace : Bool) (seen : List ℕ) (known : Sees t q trace seen) (head : ℕ) (os : List ℕ) (rs : List Range)
     (d : Told t os rs) where
   behind-range : (n at : ℕ) (x : List ℕ) (o : Option Sign) → Rest t at x → Whole t at → Sound t head at
       → ((y : List ℕ) → Rest t (at + 18) y → Tied t trace seen (Read t head (at + 18) n (some (signOf (byteAt t (at + 1)))))

@@ -13,7 +13,7 @@ use Rattle.facts.specs.Bytes.{Bytes}
 use Rattle.facts.proofs.Truth.{and-left, and-right, and-none}
 use Rattle.rules.specs.Class.{Class}
 use Rattle.rules.specs.Record.{Record, unknown, fragment, root, class, range, option, recordOf, behind, size, layouts}
-use Rattle.rules.specs.Faults.{Seen, top, rootFault}
+use Rattle.rules.specs.Faults.{Ids, top, rootFault}
 use Rattle.rules.specs.Parse.{bad, good, then as rulesThen, one, isRoot, anyRoot, parseClass, parseRoots}
 use Rattle.table_offsets.specs.declared.Walk.the-variants.{Fine}
 use Rattle.table_offsets.specs.Bodies.{known, mark, noKind, bodyMark}
@@ -104,7 +104,7 @@ numbers m (suc n) = m ∷ numbers (m + 1) n
 abbrev pub Any : {A : Type 0} → A → ℕ → Type 0
 Any a e = Unit {0}
 
-module _ (t : List ℕ) (b : Bytes t) (q : Seen) (trace : Bool) (seen : List ℕ) (known : Sees t q trace seen) (timed uuid : Bool) where
+module _ (t : List ℕ) (b : Bytes t) (q : Ids) (trace : Bool) (seen : List ℕ) (known : Sees t q trace seen) (timed uuid : Bool) where
   pub stray-tie : (at : ℕ) (x : List ℕ) → Rest t at x
       → Tied t trace seen Any (parseRoots q timed uuid [] x) (orElse (stray t at) at (Fine at))
   unfolding parseRoots stray

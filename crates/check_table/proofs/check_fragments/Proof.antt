@@ -9,7 +9,7 @@ use native.Mathlib.Omega.{arith}
 use borrow.Author.Needs.{needs}
 use lib.ListN.{length, length-set}
 use Rattle.table_offsets.specs.Check.{fragmentsAt, latest}
-use Rattle.table_offsets.proofs.Opens.{Opens, opens, fragment-end}
+use Rattle.table_offsets.proofs.FragmentOpens.{FragmentOpens, opens, fragment-end}
 use Rattle.table_offsets.proofs.Rounds.{turn-none, turn-stop, turn-bad, turn-fine}
 
 abbrev Inv-loop : tie.InvT-loop
@@ -71,7 +71,7 @@ given c = start (loop (turn c))
 
 opened : (c : AtFragment) →
     let l = loop (turn c) .loop in
-    Opens (given c .args .table .now) (l .n) (l .next)
+    FragmentOpens (given c .args .table .now) (l .n) (l .next)
 opened c = opens _ _ _ _ _ (loop (turn c) .loop .inv .0) _ (c .before .fragment-fault .ensures) (c .if1 .left)
 
 loop-holds : tie.Need-loop-holds Inv-loop μ-loop

@@ -8,7 +8,7 @@ use Rattle.places.proofs.align.Reads as align-reads
 use Rattle.places.proofs.bits_in.Reads as bits-in-reads
 use native.Mathlib.Omega.{arith}
 use Rattle.leaf_find_bytes.proofs.Found.{blob-past, blob-short, blob-at}
-use Rattle.leaf_find_number.specs.Found.{alignedAt}
+use Rattle.frame.specs.Framed.{alignedAt}
 
 -- Places of the code, in its order: the place is aligned; it is inside the bound; the bits of so many bytes are known
 

@@ -12,7 +12,7 @@ use native.Mathlib.Omega.{arith}
 use Prim.Native.Nat.{_<_}
 use lib.ListN.{length}
 use Rattle.leaf_find_bytes.proofs.Found.{string-past, short-zero, string-ends, string-endless}
-use Rattle.leaf_find_number.specs.Found.{alignedAt}
+use Rattle.frame.specs.Framed.{alignedAt}
 
 -- Places of the code, in its order: all is given; the place is aligned; it is inside the bound; the bytes from it to the bound are known; a
 -- zero byte was searched; the string ends

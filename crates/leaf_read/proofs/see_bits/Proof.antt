@@ -6,7 +6,7 @@ use Rattle.leaf_read.proofs.see_bits.Reads as reads
 use Rattle.leaf_read.proofs.see_bits.Lts as lts
 use Rattle.leaf_read.proofs.order_of.Reads as order-of-reads
 use Rattle.table_bytes.proofs.wide64.Reads as wide64-reads
-use Rattle.leaf_find_number.proofs.find.find_bits.Reads as find-bits-reads
+use Rattle.leaf_find_number.proofs.find_bits.Reads as find-bits-reads
 use Rattle.leaf_see_number.proofs.fixed.bit_array.Reads as bit-array-reads
 use Rattle.leaf_see_number.proofs.fixed.boolean.Reads as boolean-reads
 use Rattle.leaf_see_number.proofs.fixed.float.Reads as float-reads

@@ -45,7 +45,7 @@ to-bytes-from-blob c = c .before .before
 
 -- What is known at them: no slot gives more than 65,535 bytes
 
-few : (c : AtBytes) → c .bytes .given .0 .0 .0 ≤ 65535
+few : (c : AtBytes) → c .bytes .given .0 .0 ≤ 65535
 few c = length-small _ (to-slot c .length-of .ensures) (c .bytes .given .1)
 
 -- The needs: the slot

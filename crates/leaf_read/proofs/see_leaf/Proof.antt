@@ -7,8 +7,8 @@ use Rattle.leaf_read.proofs.see_leaf.Lts as lts
 use Rattle.leaf_read.proofs.see_bits.Reads as see-bits-reads
 use Rattle.leaf_read.proofs.see_dynamic.Reads as see-dynamic-reads
 use Rattle.table_bytes.proofs.u16_at.Reads as u16-at-reads
-use Rattle.leaf_find_number.proofs.find.find_signed.Reads as find-signed-reads
-use Rattle.leaf_find_number.proofs.find.find_unsigned.Reads as find-unsigned-reads
+use Rattle.leaf_find_number.proofs.find_signed.Reads as find-signed-reads
+use Rattle.leaf_find_number.proofs.find_unsigned.Reads as find-unsigned-reads
 use Rattle.leaf_see_number.proofs.leb.signed_leb.Reads as signed-leb-reads
 use Rattle.leaf_see_number.proofs.leb.unsigned_leb.Reads as unsigned-leb-reads
 use Rattle.leaf_find_bytes.proofs.find_blob.Reads as find-blob-reads

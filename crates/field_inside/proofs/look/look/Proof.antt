@@ -8,7 +8,7 @@ use native.Mathlib.Omega.{arith}
 use lib.ListN.{length, getD}
 use Rattle.rules.specs.Record.{u8}
 use Rattle.class_layout.specs.Notes.{Notes, notes}
-use Rattle.field_inside.specs.Inside.{Opens}
+use Rattle.field_inside.specs.Inside.{HolderStands}
 use Rattle.field_inside.proofs.Holders.{inside-structure, inside-array, inside-no-length, inside-dynamic, inside-optional}
 use Rattle.field_inside.proofs.Holders.{inside-variant, record-there, optional-there, variant-there}
 
@@ -70,7 +70,7 @@ variant-kind c = c .before
 abbrev noted : AtKind → Notes
 noted c = notes (to-start c .args .sizes .now) (to-start c .args .aligns .now)
 
-stands : (c : AtKind) → Opens (to-start c .args .table .now) (noted c) (to-start c .args .at)
+stands : (c : AtKind) → HolderStands (to-start c .args .table .now) (noted c) (to-start c .args .at)
 stands c = to-start c .pre .0
 
 -- the record is in the table, which is not too long

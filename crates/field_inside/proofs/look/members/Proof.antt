@@ -3,7 +3,7 @@ use borrow.Author.Needs.{needs}
 use Rattle.field_inside.proofs.look.members.Statement.{statement}
 use Rattle.field_inside.proofs.look.members.Tie as tie
 use mathlib.Core.Path.{_∙_}
-use Rattle.leaf_find_number.specs.Found.{alignedAt}
+use Rattle.frame.specs.Framed.{alignedAt}
 use Rattle.field_inside.specs.Inside.{membersFrom}
 use Rattle.field_inside.proofs.Standing.{standing-at}
 

@@ -5,7 +5,7 @@ use native.Mathlib.Omega.{arith}
 use lib.ListN.{getD}
 use Prim.Native.Nat.{ℕ, _^_}
 use Rattle.rules.specs.Record.{u8}
-use Rattle.leaf_find_number.specs.Found.{alignedAt}
+use Rattle.frame.specs.Framed.{alignedAt}
 use Rattle.field_inside.proofs.Entering.{entered-past, entered-fits}
 use Rattle.field_inside.proofs.opening.enter_structure.Statement.{statement}
 use Rattle.field_inside.proofs.opening.enter_structure.Tie as tie

@@ -68,7 +68,7 @@ use Rattle.class_layout.specs.Notes.{notes}
 use Rattle.class_layout.proofs.InPlace.{members-few}
 use Rattle.class_layout.proofs.Standing.{depth-some, kind-high, leaf-whole}
 use Rattle.class_layout.proofs.Turns.{whole-inside}
-use Rattle.leaf_find_number.specs.Framed.{envOf}
+use Rattle.frame.specs.Framed.{envOf}
 use Rattle.leaf_read.specs.Reads.{leafSlot}
 use Rattle.leaf_read.specs.Leaves.{contentOf}
 use Rattle.listing.proofs.Parts.{part-length, lent-room, merged}

@@ -1,16 +1,16 @@
 -- The bytes from the aligned place to the bound are those that the rules read.
 use borrow.Author.Needs.{needs}
-use Rattle.leaf_find_number.proofs.find.find_signed.Statement.{statement}
-use Rattle.leaf_find_number.proofs.find.find_signed.Tie as tie
-use Rattle.leaf_find_number.proofs.find.find_signed.Reads as reads
-use Rattle.leaf_find_number.proofs.find.find_signed.Lts as lts
-use Rattle.leaf_find_number.proofs.find.leb_at.Reads as leb-at-reads
+use Rattle.leaf_find_number.proofs.find_signed.Statement.{statement}
+use Rattle.leaf_find_number.proofs.find_signed.Tie as tie
+use Rattle.leaf_find_number.proofs.find_signed.Reads as reads
+use Rattle.leaf_find_number.proofs.find_signed.Lts as lts
+use Rattle.leaf_find_number.proofs.leb_at.Reads as leb-at-reads
 use Rattle.leb128.proofs.signed.Reads as signed-reads
 use Rattle.places.proofs.align.Reads as align-reads
 use Rattle.places.proofs.bytes_before.Reads as bytes-before-reads
 use native.Mathlib.Omega.{arith}
-use Rattle.leaf_find_number.proofs.Found.{signed-past, signed-at, short-signed}
-use Rattle.leaf_find_number.specs.Found.{alignedAt}
+use Rattle.leaf_find_number.proofs.Finds.{signed-past, signed-at, short-signed}
+use Rattle.frame.specs.Framed.{alignedAt}
 
 -- Places of the code, in its order: all is given; the place is aligned; it is inside the bound; the bytes from it to the bound are known
 

@@ -16,7 +16,7 @@ use Rattle.table_offsets.proofs.Places.{latest-other, latest-set}
 use Rattle.table_offsets.proofs.Rows.{rows, room}
 use Rattle.table_offsets.proofs.Sound.{head-fine}
 
-pub record Opens (t : List ℕ) (n at : ℕ) : Type 0 where
+pub record FragmentOpens (t : List ℕ) (n at : ℕ) : Type 0 where
   pub within : at < length t
   pub body : bodyMark (getD t at 0) < length t - at
   pub low : 2 ≤ getD t at 0
@@ -42,7 +42,7 @@ open-few n k x false false false true p q r s h u v false e f =
 open-few n k x false false false false p q r s h u v w e f = absurd (omega arith)
 
 pub opens : (t : List ℕ) (trace : Bool) (seen : List ℕ) (n at : ℕ) → n ≤ 512 → (f : ℕ) → f ≡ fragmentFault t trace seen n at → f ≡ 0
-    → Opens t n at
+    → FragmentOpens t n at
 unfolding fragmentFault openFault counted
 opens t trace seen n at h f asked fine =
     let a = first-fine _ _ (sym asked ∙ fine) in
@@ -74,7 +74,7 @@ by-roots t at k e false false false p q r l m h w =
     let x = roots-end t _ _ 4 (at + 17) 2 e (omega (arith, room k 5 16 (rows .eventClass) (length t) at h z)) w in
     (omega (arith, x .0), x .1)
 
-pub fragment-end : (t : List ℕ) (n at e : ℕ) → Opens t n at → rootsOf t at (getD t at 0) ≡ Fine e → (at < e) × (e ≤ length t)
+pub fragment-end : (t : List ℕ) (n at e : ℕ) → FragmentOpens t n at → rootsOf t at (getD t at 0) ≡ Fine e → (at < e) × (e ≤ length t)
 unfolding rootsOf
 fragment-end t n at e o w =
     let k = getD t at 0 in

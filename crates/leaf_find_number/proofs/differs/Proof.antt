@@ -1,9 +1,9 @@
 -- By the two orders.
 use borrow.Author.Needs.{needs}
-use Rattle.leaf_find_number.proofs.find.differs.Statement.{statement}
-use Rattle.leaf_find_number.proofs.find.differs.Tie as tie
-use Rattle.leaf_find_number.proofs.find.differs.Reads as reads
-use Rattle.leaf_find_number.proofs.find.differs.Lts as lts
+use Rattle.leaf_find_number.proofs.differs.Statement.{statement}
+use Rattle.leaf_find_number.proofs.differs.Tie as tie
+use Rattle.leaf_find_number.proofs.differs.Reads as reads
+use Rattle.leaf_find_number.proofs.differs.Lts as lts
 
 -- Places of the code: there was an order; it was little; it was big
 

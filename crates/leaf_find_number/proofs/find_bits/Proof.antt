@@ -1,15 +1,15 @@
 -- Each return is the law of the test that leads to it.
 use borrow.Author.Needs.{needs}
-use Rattle.leaf_find_number.proofs.find.find_bits.Statement.{statement}
-use Rattle.leaf_find_number.proofs.find.find_bits.Tie as tie
-use Rattle.leaf_find_number.proofs.find.find_bits.Reads as reads
-use Rattle.leaf_find_number.proofs.find.find_bits.Lts as lts
+use Rattle.leaf_find_number.proofs.find_bits.Statement.{statement}
+use Rattle.leaf_find_number.proofs.find_bits.Tie as tie
+use Rattle.leaf_find_number.proofs.find_bits.Reads as reads
+use Rattle.leaf_find_number.proofs.find_bits.Lts as lts
 use Rattle.bits.proofs.take.Reads as take-reads
-use Rattle.leaf_find_number.proofs.find.turns.Reads as turns-reads
+use Rattle.leaf_find_number.proofs.turns.Reads as turns-reads
 use Rattle.places.proofs.align.Reads as align-reads
 use native.Mathlib.Omega.{arith}
-use Rattle.leaf_find_number.proofs.Found.{bits-past, bits-turned, bits-short, bits-at, aligned-from}
-use Rattle.leaf_find_number.specs.Found.{alignedAt}
+use Rattle.leaf_find_number.proofs.Finds.{bits-past, bits-turned, bits-short, bits-at, aligned-from}
+use Rattle.frame.specs.Framed.{alignedAt}
 
 -- Places of the code, in its order: the place is aligned; it is inside the bound; whether the order turns there was asked; it does not; the
 -- bits fit
