@@ -1,19 +1,21 @@
 // What a class may say where it stands ("The class table"; numbers 9 to 12 and 14 of "Refusing a table"): each record is tested by itself,
 // the lowest number first. In roles: which role may stand where.
-use roles::LAST_ROLE;
+use numbers::faults;
+use numbers::kinds;
+use numbers::limits;
+use numbers::roots;
 use roles::role_ok;
 use table_bytes::within;
 use table_offsets::Says;
 use table_offsets::Under;
-use table_records::faults;
 use table_records::head_fault;
-use table_records::kinds;
-use table_records::limits;
 use table_records::record_says;
 ghost use mathlib.Core.Path.{_≡_};
 ghost use Rattle.table_offsets.specs.Check.{lengthOk, countOk, numberFault, slotFault, kindFault, classFault};
 
 mod roles;
+
+const RANGES: usize = limits::RANGE_LIMIT as usize;
 
 // "Length is 1 to 64 bits", of a float "32 or 64".
 fn length_ok(kind: u8, length: u8) -> bool
@@ -35,8 +37,8 @@ fn count_ok(kind: u8, count: usize) -> bool
     ensures { λ r. ⌜ r ≡ countOk kind count ⌝ }
 {
     match kind {
-        kinds::STRUCTURE => count <= 64,
-        kinds::OPTIONAL => count <= 16,
+        kinds::STRUCTURE => count <= limits::MEMBER_LIMIT,
+        kinds::OPTIONAL => count <= RANGES,
         kinds::VARIANT => {
             if count < 1 {
                 return false;
@@ -66,7 +68,7 @@ fn number_fault(says: Says) -> u8
     if within(says.reads, limits::FIRST_SLOT_OUT, limits::LAST_SLOT_OUT) {
         return faults::NUMBER_OUT_OF_RANGE;
     }
-    if LAST_ROLE < says.role {
+    if numbers::roles::LAST_ROLE < says.role {
         return faults::NUMBER_OUT_OF_RANGE;
     }
     if count_ok(says.kind, says.count) {} else {
@@ -79,7 +81,7 @@ fn number_fault(says: Says) -> u8
 fn slot_fault(root: u8, sets: u8, reads: u8) -> u8
     ensures { λ r. ⌜ r ≡ slotFault root sets reads ⌝ }
 {
-    if root < kinds::EVENT_HEADER {
+    if root < roots::EVENT_HEADER {
         if limits::LAST_PACKET_SLOT < reads {
             return faults::SLOT_NOT_ALLOWED;
         }

@@ -2,12 +2,12 @@
 // table"). The order of fragments and their ids have a crate of their own, `check_order`.
 use check_order::PLACES;
 use check_order::order_fault;
+use numbers::faults;
+use numbers::kinds;
+use numbers::limits;
 use table_bytes::byte;
 use table_bytes::number;
-use table_records::faults;
 use table_records::head_fault;
-use table_records::kinds;
-use table_records::limits;
 ghost use mathlib.Core.Path.{_≡_};
 ghost use Prim.Native.Nat.{_≤_, _<_, _+_, _^_};
 ghost use lib.Dec.{ltb};

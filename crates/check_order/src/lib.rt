@@ -1,10 +1,10 @@
 // The order of fragments and their ids: numbers 4 to 8 ("Refusing a table"). The fragments before one are kept by their places alone; an id used
 // before is found by comparing its bytes with theirs.
+use numbers::faults;
+use numbers::kinds;
+use numbers::limits;
 use table_bytes::byte;
 use table_bytes::wide32;
-use table_records::faults;
-use table_records::kinds;
-use table_records::limits;
 ghost use mathlib.Core.Path.{_≡_};
 ghost use Prim.Native.Nat.{_≤_, _<_, _+_, _^_};
 ghost use lib.ListN.{getD};

@@ -1,24 +1,22 @@
 // Ranges and options. A range may meet those of its own option, and none of an earlier one ("Refusing a table"); the earlier options are
 // kept by their places alone, and their ranges are read again.
+use numbers::faults;
+use numbers::kinds;
+use numbers::limits;
 use table_bytes::byte;
 use table_bytes::number;
 use table_bytes::wide;
 use table_bytes::wide32;
 use table_bytes::within;
 use table_offsets::Walk;
-use table_records::faults;
+use table_records::bodies;
 use table_records::head_fault;
-use table_records::kinds;
-use table_records::limits;
 ghost use mathlib.Core.Path.{_≡_};
 ghost use Prim.Native.Nat.{_≤_, _<_, _+_, _*_, _^_};
 ghost use Rattle.table_offsets.specs.Check.{key as keyOf, meetsHere, meetsOne, meetsOption, meetsAny, boundsFault, rangeFault, optionFault, rangesAt, latest};
 
 // Half of the 64-bit words.
 const HALF: u64 = 1 << 63;
-
-// "ranges 1 to 16"
-const RANGES_LIMIT: u8 = 16;
 
 // A word, so that words stand in the order of the numbers that they stand for: a signed one is moved by half of all.
 fn key(sign: u8, x: u64) -> u64
@@ -53,7 +51,7 @@ fn meets_one(table: &[u8], sign: u8, low: u64, high: u64, at: usize, n: usize) -
         if meets_here(table, sign, low, high, next) {
             return true;
         }
-        next = next + kinds::RANGE_SIZE;
+        next = next + bodies::RANGE_SIZE;
         todo = todo - 1;
     }
     false
@@ -69,7 +67,7 @@ fn meets_option(table: &[u8], sign: u8, low: u64, high: u64, o: usize) -> bool
         sign,
         low,
         high,
-        o + kinds::OPTION_SIZE,
+        o + bodies::OPTION_SIZE,
         wide(byte(table, o + 1)),
     )
 }
@@ -167,7 +165,7 @@ pub fn check_ranges(
         if f != faults::NO_FAULT {
             return Walk::Bad(f, next);
         }
-        next = next + kinds::RANGE_SIZE;
+        next = next + bodies::RANGE_SIZE;
         todo = todo - 1;
     }
     Walk::Fine(next)
@@ -184,7 +182,7 @@ pub fn option_fault(table: &[u8], at: usize) -> u8
     if table[at] != kinds::OPTION {
         return faults::KIND_NOT_ALLOWED;
     }
-    if within(byte(table, at + 1), 1, RANGES_LIMIT) {
+    if within(byte(table, at + 1), 1, limits::RANGE_LIMIT) {
         return faults::NO_FAULT;
     }
     faults::NUMBER_OUT_OF_RANGE

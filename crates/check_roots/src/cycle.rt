@@ -2,14 +2,15 @@
 use check_class::class_fault;
 use check_ranges::check_ranges;
 use check_ranges::option_fault;
+use numbers::faults;
+use numbers::kinds;
+use numbers::limits;
 use table_bytes::byte;
 use table_bytes::wide;
 use table_offsets::Under;
 use table_offsets::Walk;
+use table_records::bodies;
 use table_records::bodies::mark_of;
-use table_records::faults;
-use table_records::kinds;
-use table_records::limits;
 ghost use mathlib.Core.Path.{_≡_};
 ghost use mathlib.Core.List.{[]};
 ghost use Prim.Native.Nat.{_≤_, _<_, _+_, _^_};
@@ -31,11 +32,11 @@ pub(crate) fn check_class(table: &[u8], under: Under, left: usize, at: usize) ->
     let first = wide(byte(table, at + 1));
     let second = wide(byte(table, at + 2));
     match k {
-        kinds::STRUCTURE => check_members(table, under, deeper, at + kinds::STRUCTURE_SIZE, first),
-        kinds::STATIC_ARRAY => check_class(table, under, deeper, at + kinds::STATIC_ARRAY_SIZE),
-        kinds::DYNAMIC_ARRAY => check_class(table, under, deeper, at + kinds::DYNAMIC_ARRAY_SIZE),
+        kinds::STRUCTURE => check_members(table, under, deeper, at + bodies::STRUCTURE_SIZE, first),
+        kinds::STATIC_ARRAY => check_class(table, under, deeper, at + bodies::STATIC_ARRAY_SIZE),
+        kinds::DYNAMIC_ARRAY => check_class(table, under, deeper, at + bodies::DYNAMIC_ARRAY_SIZE),
         kinds::OPTIONAL => {
-            let ranges = at + kinds::OPTIONAL_SIZE;
+            let ranges = at + bodies::OPTIONAL_SIZE;
             let none = [0u32; limits::OPTION_LIMIT];
             let r = check_ranges(table, ranges, &none, 0, ranges, second);
             match r {
@@ -43,7 +44,7 @@ pub(crate) fn check_class(table: &[u8], under: Under, left: usize, at: usize) ->
                 Walk::Fine(p) => check_class(table, under, deeper, p),
             }
         }
-        kinds::VARIANT => check_options(table, under, deeper, at + kinds::VARIANT_SIZE, second),
+        kinds::VARIANT => check_options(table, under, deeper, at + bodies::VARIANT_SIZE, second),
         _ => Walk::Fine(at + 1 + wide(mark_of(k))),
     }
 }
@@ -84,10 +85,10 @@ fn check_options(table: &[u8], under: Under, left: usize, at: usize, count: usiz
         }
         let r = check_ranges(
             table,
-            at + kinds::OPTION_SIZE,
+            at + bodies::OPTION_SIZE,
             &done,
             n,
-            next + kinds::OPTION_SIZE,
+            next + bodies::OPTION_SIZE,
             wide(byte(table, next + 1)),
         );
         match r {

@@ -2,13 +2,15 @@
 //
 // In cycle: the classes under a root.
 use cycle::check_class;
+use numbers::faults;
+use numbers::kinds;
+use numbers::limits;
+use numbers::roots;
 use table_bytes::byte;
 use table_offsets::Under;
 use table_offsets::Walk;
-use table_records::faults;
+use table_records::bodies;
 use table_records::head_fault;
-use table_records::kinds;
-use table_records::limits;
 ghost use mathlib.Core.Path.{_≡_};
 ghost use Prim.Native.Nat.{_≤_, _<_, _+_, _^_};
 ghost use lib.ListN.{length, getD};
@@ -44,7 +46,7 @@ pub fn stray(table: &[u8], at: usize) -> u8
     if h != faults::NO_FAULT {
         return h;
     }
-    if byte(table, at + 1) < kinds::ROOTS {
+    if byte(table, at + 1) < roots::ROOTS {
         return faults::KIND_NOT_ALLOWED;
     }
     faults::NUMBER_OUT_OF_RANGE
@@ -60,9 +62,9 @@ fn check_root(table: &[u8], timed: bool, uuid: bool, n: u8, at: usize) -> Walk
             root: n,
             timed: timed,
             uuid: uuid,
-            start: at + kinds::ROOT_SIZE,
+            start: at + bodies::ROOT_SIZE,
         };
-        return check_class(table, u, limits::DEPTH_LIMIT, at + kinds::ROOT_SIZE);
+        return check_class(table, u, limits::DEPTH_LIMIT, at + bodies::ROOT_SIZE);
     }
     Walk::Fine(at)
 }
@@ -106,33 +108,33 @@ pub fn roots_of(table: &[u8], at: usize) -> Walk
             table,
             false,
             byte(table, at + 1) == 1,
-            kinds::PACKET_HEADER,
+            roots::PACKET_HEADER,
             1,
-            at + kinds::TRACE_CLASS_SIZE,
+            at + bodies::TRACE_CLASS_SIZE,
         ),
         kinds::CLOCK_CLASS => check_roots(
             table,
             false,
             false,
-            kinds::PACKET_HEADER,
+            roots::PACKET_HEADER,
             0,
-            at + kinds::CLOCK_CLASS_SIZE,
+            at + bodies::CLOCK_CLASS_SIZE,
         ),
         kinds::STREAM_CLASS => check_roots(
             table,
             byte(table, at + 9) != limits::NO_CLOCK,
             false,
-            kinds::PACKET_CONTEXT,
+            roots::PACKET_CONTEXT,
             3,
-            at + kinds::STREAM_CLASS_SIZE,
+            at + bodies::STREAM_CLASS_SIZE,
         ),
         _ => check_roots(
             table,
             false,
             false,
-            kinds::SPECIFIC_CONTEXT,
+            roots::SPECIFIC_CONTEXT,
             2,
-            at + kinds::EVENT_CLASS_SIZE,
+            at + bodies::EVENT_CLASS_SIZE,
         ),
     }
 }

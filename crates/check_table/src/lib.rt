@@ -8,12 +8,13 @@ use check_fragment::lowest;
 use check_order::PLACES;
 use check_roots::roots_of;
 use check_roots::stray;
+use numbers::faults;
+use numbers::kinds;
+use numbers::limits;
 use rules::ByteLength;
 use rules::Checked;
 use table_offsets::Walk;
-use table_records::faults;
-use table_records::kinds;
-use table_records::limits;
+use table_records::bodies;
 ghost use mathlib.Core.Path.{_≡_};
 ghost use mathlib.Core.Bool.{false};
 ghost use mathlib.Core.List.{[]};
@@ -45,11 +46,11 @@ fn answer(table: &[u8]) -> Checked
     if f != faults::NO_FAULT {
         return Checked::Refused(f, ByteLength(0));
     }
-    let s = stray(table, kinds::PREAMBLE_SIZE);
+    let s = stray(table, bodies::PREAMBLE_SIZE);
     if s != faults::NO_FAULT {
-        return Checked::Refused(s, ByteLength(kinds::PREAMBLE_SIZE));
+        return Checked::Refused(s, ByteLength(bodies::PREAMBLE_SIZE));
     }
-    check_fragments(table, kinds::PREAMBLE_SIZE)
+    check_fragments(table, bodies::PREAMBLE_SIZE)
 }
 
 // The fragments behind the preamble, which ends at `at`.

@@ -9,7 +9,7 @@ use mathlib.Core.Option.{some}
 use lib.ListN.{length, getD}
 use borrow.Author.Tests.{lt-ltb, le-ltb}
 use Rattle.rules.specs.Record.{u8}
-use Rattle.class_layout.specs.declared.Found.the-variants.{At, Nothing}
+use Rattle.class_layout.specs.declared.TablePlace.the-variants.{At, Nothing}
 use Rattle.class_layout.specs.Fragments.{openingSize, behindFragment, fragmentsFrom, fragmentsOf, firstOf, Fragment, All}
 use Rattle.class_layout.specs.Sizes.{foundOf, SizedFragment, Sized}
 
@@ -39,11 +39,14 @@ module _ {f : ℕ → Bool} {t s : List ℕ} where
   unfolding fragmentsFrom firstOf
   step {at} l h = by (h .left) (h .enough) (h .same) (h .each)
     where
-      by : (left : ℕ) → length t ≤ at + left → firstOf f (fragmentsOf t) ≡ firstOf f (fragmentsFrom left t at) → All (SizedFragment t s) (fragmentsFrom left t at) → Step f t s at
+      by : (left : ℕ) → length t ≤ at + left → firstOf f (fragmentsOf t) ≡ firstOf f (fragmentsFrom left t at)
+          → All (SizedFragment t s) (fragmentsFrom left t at) → Step f t s at
       by zero m e w = absurd (omega arith)
       by (suc left) m e w =
-          let e₁ : firstOf f (fragmentsOf t) ≡ firstOf f (at ∷ fragmentsFrom left t (behindFragment t at)) = rw (lt-ltb at (length t) l, fragmentsFrom) at e in
-          let w₁ : All (SizedFragment t s) (at ∷ fragmentsFrom left t (behindFragment t at)) = rw (lt-ltb at (length t) l, fragmentsFrom) at w in
+          let e₁ : firstOf f (fragmentsOf t) ≡ firstOf f (at ∷ fragmentsFrom left t (behindFragment t at)) =
+          rw (lt-ltb at (length t) l, fragmentsFrom) at e in
+          let w₁ : All (SizedFragment t s) (at ∷ fragmentsFrom left t (behindFragment t at)) =
+          rw (lt-ltb at (length t) l, fragmentsFrom) at w in
           record {
             here = w₁ .0;
             hit = λ b. e₁ ∙ rw (b, firstOf);

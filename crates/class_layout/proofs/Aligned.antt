@@ -7,8 +7,10 @@ use lib.Pow.{pow-mono}
 use mathlib.Core.List.{List, [], _∷_}
 use Rattle.rules.specs.Class.{Range, alignOf, alignsOf}
 use Rattle.rules.specs.Class.{bitArray, boolean, unsignedInt, signedInt, float}
-use Rattle.rules.specs.Record.{Shape, bitField, lebField, signedLebField, zeroString, text, blob, textOf, blobOf, members, elements, elementsOf, option?, options, u8}
-use Rattle.class_layout.specs.Trees.{shapeOf, rangesAt, signAt, optionalOf, Stood, membersAt, classIn, stoodAt, classAt, alignMembers, alignIn, alignAt, wholeMembers, wholeIn, whole}
+use Rattle.rules.specs.Record.{Shape, bitField, lebField, signedLebField, zeroString, text, blob, textOf, blobOf, members, elements}
+use Rattle.rules.specs.Record.{elementsOf, option?, options, u8}
+use Rattle.class_layout.specs.Trees.{shapeOf, rangesAt, signAt, optionalOf, Stood, membersAt, classIn, stoodAt, classAt, alignMembers}
+use Rattle.class_layout.specs.Trees.{alignIn, alignAt, wholeMembers, wholeIn, whole}
 
 pow-max : (a b : ℕ) → 2 ^ max a b ≡ max (2 ^ a) (2 ^ b)
 pow-max a b = max-cases a b _
@@ -47,7 +49,8 @@ module _ (t : List ℕ) (g : ℕ → Type 0) (f : ℕ → Stood) (h : ℕ → �
   shape-aligned at elementsOf w = larger _ _ _ _ (refl, w .0) (deeper (at + 3) (w .1))
   shape-aligned at option? w = (optional-aligned (rangesAt t (at + 3) (u8 t (at + 2))), omega arith)
     where
-      optional-aligned : (rs : List Range) → alignOf (optionalOf (u8 t (at + 1)) (signAt t (at + 3)) rs ((f (at + 3 + 18 * u8 t (at + 2))) .class)) ≡ 1
+      optional-aligned : (rs : List Range)
+          → alignOf (optionalOf (u8 t (at + 1)) (signAt t (at + 3)) rs ((f (at + 3 + 18 * u8 t (at + 2))) .class)) ≡ 1
       optional-aligned [] = unfold optionalOf in refl
       optional-aligned (r ∷ rs) = unfold optionalOf in refl
   shape-aligned at options w = (refl, omega arith)

@@ -13,12 +13,17 @@ use borrow.Author.Tests.{ltb-true, ltb-false}
 use Rattle.rules.specs.declared.ByteLength.{ByteLength}
 use Rattle.rules.specs.declared.Checked.the-variants.{Accepted}
 use Rattle.rules.specs.Class.{Class}
-use Rattle.rules.specs.Record.{Fragment as Opening, preamble, traceClass, clockClass, streamClass, eventClass, Record, unknown, fragment, root, class, range, option, u8, u64, size, recordOf, behind}
+use Rattle.rules.specs.Record.{Fragment as Opening, preamble, traceClass, clockClass, streamClass, eventClass, Record, unknown, fragment}
+use Rattle.rules.specs.Record.{root, class, range, option, u8, u64, size, recordOf, behind}
 use Rattle.rules.specs.Table.{Table, findStream, findEvent, asked}
-use Rattle.rules.specs.Parse.{Parsed, bad, good, Parser, then, one, sound, missing, parseRoots, rootNumbers, isTimed, hasUuid, noTable, rootOf, add, parseFragment, parseOpened, parseFragments, parse, checkedOf, checked}
-use Rattle.rules.specs.Faults.{Seen, noneSeen, seen, recordFault, openFault, firstFault}
+use Rattle.rules.specs.Parse.{Parsed, bad, good, Parser, then, one, sound, missing, parseRoots, rootNumbers, isTimed, hasUuid, noTable}
+use Rattle.rules.specs.Parse.{rootOf, add, parseFragment, parseOpened, parseFragments, parse, checkedOf, checked}
+use Rattle.rules.specs.Faults.{Ids, noIds, seen, recordFault, openFault, firstFault}
 use Rattle.facts.proofs.Truth.{or-false}
-use Rattle.class_layout.specs.Fragments.{isTrace, isStream, isEvent, firstOf, openingSize, rootsOf, rootPlaces, behindRoots, rootPlace, behindFragment, fragmentsFrom, fragmentsOf, findTraceAt, findStreamAt, findEventAt, mapOption, rootClass, streamClassAt, eventClassAt, uuidAt, headerAt, askedAt, Fragment, AllFragments}
+use Rattle.class_layout.specs.Fragments.{isTrace, isStream, isEvent, firstOf, openingSize, rootsOf, rootPlaces, behindRoots}
+use Rattle.class_layout.specs.Fragments.{rootPlace, behindFragment, fragmentsFrom, fragmentsOf, findTraceAt, findStreamAt}
+use Rattle.class_layout.specs.Fragments.{findEventAt, mapOption, rootClass, streamClassAt, eventClassAt, uuidAt, headerAt, askedAt}
+use Rattle.class_layout.specs.Fragments.{Fragment, AllFragments}
 use Rattle.class_layout.proofs.Records.{preamble-at, trace-at, clock-at, stream-at, event-at}
 use Rattle.facts.proofs.Faults.{pick-false, pick-zero}
 use Rattle.class_layout.proofs.Sound.{bad-good, good-value, then-good, one-good}
@@ -35,13 +40,41 @@ module _ (t : List ℕ) where
     bytes : size (drop at t) ≡ openingSize (u8 t at)
     roots : rootNumbers g ≡ rootsOf (u8 t at)
 
-  opened : (q : Seen) (at : ℕ) (g : Opening) → recordOf (drop at t) ≡ fragment g → openFault q (fragment g) ≡ 0 → Opened at g
+  opened : (q : Ids) (at : ℕ) (g : Opening) → recordOf (drop at t) ≡ fragment g → openFault q (fragment g) ≡ 0 → Opened at g
   unfolding openFault openingSize rootsOf rootNumbers
   opened q at (preamble v) e z = absurd (omega arith)
-  opened q at (traceClass u l) e z = let h = trace-at t at u l e in record { low = omega (arith, h .kind); high = omega (arith, h .kind); bytes = rw (h .kind) (h .bytes); roots = rw (h .kind) }
-  opened q at (clockClass i f) e z = let h = clock-at t at i f e in record { low = omega (arith, h .0); high = omega (arith, h .0); bytes = rw (h .0) (h .1); roots = rw (h .0) }
-  opened q at (streamClass i c) e z = let h = stream-at t at i c e in record { low = omega (arith, h .kind); high = omega (arith, h .kind); bytes = rw (h .kind) (h .bytes); roots = rw (h .kind) }
-  opened q at (eventClass i j) e z = let h = event-at t at i j e in record { low = omega (arith, h .kind); high = omega (arith, h .kind); bytes = rw (h .kind) (h .bytes); roots = rw (h .kind) }
+  opened q at (traceClass u l) e z =
+      let h = trace-at t at u l e in
+      record {
+        low = omega (arith, h .kind);
+        high = omega (arith, h .kind);
+        bytes = rw (h .kind) (h .bytes);
+        roots = rw (h .kind);
+      }
+  opened q at (clockClass i f) e z =
+      let h = clock-at t at i f e in
+      record {
+        low = omega (arith, h .0);
+        high = omega (arith, h .0);
+        bytes = rw (h .0) (h .1);
+        roots = rw (h .0);
+      }
+  opened q at (streamClass i c) e z =
+      let h = stream-at t at i c e in
+      record {
+        low = omega (arith, h .kind);
+        high = omega (arith, h .kind);
+        bytes = rw (h .kind) (h .bytes);
+        roots = rw (h .kind);
+      }
+  opened q at (eventClass i j) e z =
+      let h = event-at t at i j e in
+      record {
+        low = omega (arith, h .kind);
+        high = omega (arith, h .kind);
+        bytes = rw (h .kind) (h .bytes);
+        roots = rw (h .kind);
+      }
 
   -- what a table of the fragments at these places says
   record Tabled (os : List ℕ) (T : Table) : Type 0 where
@@ -67,17 +100,22 @@ module _ (t : List ℕ) where
     unfolding firstOf isTrace
     trace-here = ap {B = Option ℕ} (λ k. elim (eqb k 2) [ true ↦ some at | false ↦ findTraceAt t os ]) e
 
-    stream-here : (i : ℕ) → findStreamAt t (at ∷ os) i ≡ elim (eqb k 4 && eqb (u64 t (at + 1)) i) [ true ↦ some at | false ↦ findStreamAt t os i ]
+    stream-here : (i : ℕ)
+        → findStreamAt t (at ∷ os) i ≡ elim (eqb k 4 && eqb (u64 t (at + 1)) i) [ true ↦ some at | false ↦ findStreamAt t os i ]
     unfolding firstOf isStream
     stream-here i = ap {B = Option ℕ} (λ k. elim (eqb k 4 && eqb (u64 t (at + 1)) i) [ true ↦ some at | false ↦ findStreamAt t os i ]) e
 
     event-here : (i j : ℕ)
-        → findEventAt t (at ∷ os) i j ≡ elim (eqb k 5 && (eqb (u64 t (at + 1)) i && eqb (u64 t (at + 9)) j)) [ true ↦ some at | false ↦ findEventAt t os i j ]
+        → findEventAt t (at ∷ os) i j
+        ≡ elim (eqb k 5 && (eqb (u64 t (at + 1)) i && eqb (u64 t (at + 9)) j)) [ true ↦ some at | false ↦ findEventAt t os i j ]
     unfolding firstOf isEvent
     event-here i j =
-        ap {B = Option ℕ} (λ k. elim (eqb k 5 && (eqb (u64 t (at + 1)) i && eqb (u64 t (at + 9)) j)) [ true ↦ some at | false ↦ findEventAt t os i j ]) e
+        ap {B = Option ℕ}
+        (λ k. elim (eqb k 5 && (eqb (u64 t (at + 1)) i && eqb (u64 t (at + 9)) j)) [ true ↦ some at | false ↦ findEventAt t os i j ])
+        e
 
-  added : (q : Seen) (g : Opening) (at : ℕ) (cs : List (Option Class)) (os : List ℕ) (T : Table) → recordOf (drop at t) ≡ fragment g → openFault q (fragment g) ≡ 0
+  added : (q : Ids) (g : Opening) (at : ℕ) (cs : List (Option Class)) (os : List ℕ) (T : Table) → recordOf (drop at t) ≡ fragment g
+      → openFault q (fragment g) ≡ 0
       → Fragment t at → ((i : ℕ) → rootOf cs i ≡ rootClass t at i) → Tabled os T → Tabled (at ∷ os) (add g cs T)
   unfolding openFault add uuidAt headerAt findStream findEvent streamClassAt eventClassAt
   added q (preamble v) at cs os T e z f r b = absurd (omega arith)
@@ -109,7 +147,8 @@ module _ (t : List ℕ) where
         each = (f, b .each);
         uuid = rw (trace-here at 4 os (h .kind)) (b .uuid);
         header = rw (trace-here at 4 os (h .kind)) (b .header);
-        stream = λ j. rw (stream-here at 4 os (h .kind) j, i₁, c₁) (found (streamClassAt t) (eqb (u64 t (at + 1)) j) at _ _ _ (rw (r 0, r 1, r 2)) (b .stream j));
+        stream = λ j. rw (stream-here at 4 os (h .kind) j, i₁, c₁)
+            (found (streamClassAt t) (eqb (u64 t (at + 1)) j) at _ _ _ (rw (r 0, r 1, r 2)) (b .stream j));
         event = λ i j. rw (event-here at 4 os (h .kind) i j) (b .event i j);
       }
   added q (eventClass i j) at cs os T e z f r b =
@@ -139,17 +178,25 @@ module _ (t : List ℕ) where
   rootsAt at = at + openingSize (u8 t at)
 
   fragment-stands : (at : ℕ) (g : Opening) (cs : List (Option Class)) (x : List ℕ) → Opened at g → at + size (drop at t) ≤ length t
-      → RootsStand t (rootPlaces t (rootsAt at) (rootsOf (u8 t at))) (rootsAt at) (behindRoots t (rootsAt at) (rootsOf (u8 t at))) cs x → Fragment t at
+      → RootsStand t (rootPlaces t (rootsAt at) (rootsOf (u8 t at))) (rootsAt at) (behindRoots t (rootsAt at) (rootsOf (u8 t at))) cs x
+      → Fragment t at
   unfolding rootPlace behindFragment
   fragment-stands at g cs x o l r =
       let s : 1 ≤ size (drop at t) = unfold size in omega arith in
-      record { low = o .low; high = o .high; there = omega (arith, o .bytes); roots = r .wholes; onward = omega (arith, o .bytes, r .onward); within = r .within }
+      record {
+        low = o .low;
+        high = o .high;
+        there = omega (arith, o .bytes);
+        roots = r .wholes;
+        onward = omega (arith, o .bytes, r .onward);
+        within = r .within;
+      }
 
   -- what the table says is had from these fragments, and no two event classes have the same ids
-  abbrev Asks : Seen → Table → List ℕ → Type 0
+  abbrev Asks : Ids → Table → List ℕ → Type 0
   Asks q T os = Tabled os T × Once t q os
 
-  fragments-stand : (left : ℕ) (q : Seen) (at : ℕ) (T : Table) (y : List ℕ) → at ≤ length t → parseFragments left q (drop at t) ≡ good T y
+  fragments-stand : (left : ℕ) (q : Ids) (at : ℕ) (T : Table) (y : List ℕ) → at ≤ length t → parseFragments left q (drop at t) ≡ good T y
       → Asks q T (fragmentsFrom left t at)
   unfolding parseFragments fragmentsFrom parseOpened parseFragment openFault behindFragment rootClass rootPlace
   fragments-stand zero q at T y l e = (rw (← good-value e) none-tabled, none-once t q)
@@ -157,7 +204,7 @@ module _ (t : List ℕ) where
       by (ltb at (length t)) (λ q at T y l e. fragments-stand left q at T y l e) (rw (missing-at at, parseFragments) at e)
     where
       Rest : Type 0
-      Rest = (q : Seen) (at : ℕ) (T : Table) (y : List ℕ) → at ≤ length t → parseFragments left q (drop at t) ≡ good T y
+      Rest = (q : Ids) (at : ℕ) (T : Table) (y : List ℕ) → at ≤ length t → parseFragments left q (drop at t) ≡ good T y
           → Asks q T (fragmentsFrom left t at)
 
       opening : Rest → (r : Record) → recordOf (drop at t) ≡ r → (b : Bool) → recordFault b q r (openFault q r) ≡ 0
@@ -171,8 +218,10 @@ module _ (t : List ℕ) where
       opening rec (option n) r s c z l k = absurd (omega arith)
       opening rec (fragment g) r u v z l k =
           let o = opened q at g r z in
-          let a = then-good (parseRoots (seen q g) (isTimed g) (hasUuid g) (rootsOf (u8 t at)) (drop (rootsAt at) t)) _ T y (rw (o .bytes, o .roots) at k) in
-          let b = roots-stand t (seen q g) (isTimed g) (hasUuid g) (rootsOf (u8 t at)) (rootsAt at) (a .value) (a .rest) (omega (arith, o .bytes)) (a .first) in
+          let a = then-good (parseRoots (seen q g) (isTimed g) (hasUuid g) (rootsOf (u8 t at)) (drop (rootsAt at) t)) _ T y
+          (rw (o .bytes, o .roots) at k) in
+          let b = roots-stand t (seen q g) (isTimed g) (hasUuid g) (rootsOf (u8 t at)) (rootsAt at) (a .value) (a .rest)
+          (omega (arith, o .bytes)) (a .first) in
           let f = fragment-stands at g (a .value) (a .rest) o l b in
           let c = then-good (parseFragments left (seen q g) (drop (behindFragment t at) t)) _ T y (rw (b .rest) at (a .second)) in
           let w = rec (seen q g) (behindFragment t at) (c .value) (c .rest) (f .within) (c .first) in (
@@ -182,7 +231,10 @@ module _ (t : List ℕ) where
           )
 
       by : (b : Bool) → Rest
-          → elim (not b) [ true ↦ good noTable (drop at t) | false ↦ one q (openFault q) (λ r x. parseOpened q (parseFragments left) r x) (drop at t) ] ≡ good T y
+          → elim (not b) [
+            | true ↦ good noTable (drop at t)
+            | false ↦ one q (openFault q) (λ r x. parseOpened q (parseFragments left) r x) (drop at t)
+          ] ≡ good T y
           → Asks q T (elim b [ true ↦ at ∷ fragmentsFrom left t (behindFragment t at) | false ↦ [] ])
       by true rec e =
           let k = one-good q _ _ t at T y e in
@@ -202,7 +254,11 @@ unfolding firstFault behind
 first-fine t s unknown b e z = absurd (omega arith)
 first-fine t s (fragment (preamble v)) b e z =
     let n = preamble-at t 0 v e in
-    record { kind = n .0; there = omega (arith, n .1, ltb-false (length t) (size t) (b ∙ pick-false s 2 _ z)); onward = ap (λ n. drop n t) (n .1) }
+    record {
+      kind = n .0;
+      there = omega (arith, n .1, ltb-false (length t) (size t) (b ∙ pick-false s 2 _ z));
+      onward = ap (λ n. drop n t) (n .1);
+    }
 first-fine t s (fragment (traceClass u l)) b e z = absurd (omega (arith, pick-zero s 2 4 z))
 first-fine t s (fragment (clockClass i f)) b e z = absurd (omega (arith, pick-zero s 2 4 z))
 first-fine t s (fragment (streamClass i c)) b e z = absurd (omega (arith, pick-zero s 2 4 z))
@@ -217,22 +273,22 @@ module _ (t : List ℕ) (T : Table) (y : List ℕ) (e : parse t ≡ good T y) wh
     limit : length t ≤ 65536
     first : u8 t 0 ≡ 1
     says : Tabled t (fragmentsOf t) T
-    once : Once t noneSeen (fragmentsOf t)
+    once : Once t noIds (fragmentsOf t)
 
   accepted : Accepted-table
   unfolding parse sound fragmentsOf behindRoots
   accepted = by (missing t || ltb 65536 (length t)) refl e
     where
       rest : Parser Table
-      rest x = then (parseRoots noneSeen false false [] x) λ cs x. parseFragments (length x) noneSeen x
+      rest x = then (parseRoots noIds false false [] x) λ cs x. parseFragments (length x) noIds x
 
       behind-first : (n : ℕ) → firstFault (ltb (length t) (size t)) (recordOf t) ≡ n → sound n t rest ≡ good T y
-          → (u8 t 0 ≡ 1) × Asks t noneSeen T (fragmentsFrom (length t - 2) t 2)
+          → (u8 t 0 ≡ 1) × Asks t noIds T (fragmentsFrom (length t - 2) t 2)
       behind-first zero z e =
           let f = first-fine t _ (recordOf t) refl refl z in
-          let a = then-good (parseRoots noneSeen false false [] (drop 2 t)) _ T y (rw (f .onward) at e) in
-          let r = roots-stand t noneSeen false false [] 2 (a .value) (a .rest) (f .there) (a .first) in
-          (f .kind, fragments-stand t (length t - 2) noneSeen 2 T y (f .there) (rw (r .rest, length-drop 2 t) at (a .second)))
+          let a = then-good (parseRoots noIds false false [] (drop 2 t)) _ T y (rw (f .onward) at e) in
+          let r = roots-stand t noIds false false [] 2 (a .value) (a .rest) (f .there) (a .first) in
+          (f .kind, fragments-stand t (length t - 2) noIds 2 T y (f .there) (rw (r .rest, length-drop 2 t) at (a .second)))
       behind-first (suc n) z e = absurd (bad-good e)
 
       by : (b : Bool) → (missing t || ltb 65536 (length t)) ≡ b

@@ -8,7 +8,8 @@ use lib.ListN.{length, getD, take, drop}
 use lib.Seq.{getD-take, getD-drop, take-nil}
 use Rattle.rules.specs.Limits.{noSlot}
 use Rattle.rules.specs.Class.{Sort, bitArray, boolean, unsignedInt, signedInt, float}
-use Rattle.rules.specs.Record.{Shape, bitField, lebField, signedLebField, zeroString, text, blob, textOf, blobOf, members, elements, elementsOf, option?, options, Says, says}
+use Rattle.rules.specs.Record.{Shape, bitField, lebField, signedLebField, zeroString, text, blob, textOf, blobOf, members, elements}
+use Rattle.rules.specs.Record.{elementsOf, option?, options, Says, says}
 use Rattle.rules.specs.Record.{class}
 use Rattle.rules.specs.Record.{u8, u16, Layout, no, bitsLayout, layouts, size, recordOf}
 use Rattle.table_offsets.specs.Bodies.{known, bodyIn, bodyOf}
@@ -49,7 +50,8 @@ ClassRows ls [] = Unit {0}
 ClassRows [] (s ∷ ss) = ⊥
 ClassRows (l ∷ ls) (s ∷ ss) = ClassRow l s × ClassRows ls ss
 
-class-row : (ls : List Layout) (ss : List Shape) → ClassRows ls ss → (j : ℕ) → j < length ss → ClassRow (getD ls j no) (getD ss j zeroString)
+class-row : (ls : List Layout) (ss : List Shape) → ClassRows ls ss → (j : ℕ) → j < length ss
+    → ClassRow (getD ls j no) (getD ss j zeroString)
 class-row ls [] r j h = absurd (omega arith)
 class-row [] (s ∷ ss) r j h = absurd r
 class-row (l ∷ ls) (s ∷ ss) r zero h = r .0

@@ -4,8 +4,10 @@ use native.Mathlib.Omega.{arith}
 use mathlib.Core.List.{List}
 use lib.ListN.{length}
 use Rattle.rules.specs.Class.{bitArray, boolean, unsignedInt, signedInt, float}
-use Rattle.rules.specs.Record.{Shape, bitField, lebField, signedLebField, zeroString, text, blob, textOf, blobOf, members, elements, elementsOf, option?, options, u8}
-use Rattle.class_layout.specs.Trees.{shapeOf, recordSize, optionClass, Stood, behindMembers, behindOptions, nextIn, stoodAt, nextAt, wholeMembers, wholeOptions, wholeIn, whole}
+use Rattle.rules.specs.Record.{Shape, bitField, lebField, signedLebField, zeroString, text, blob, textOf, blobOf, members, elements}
+use Rattle.rules.specs.Record.{elementsOf, option?, options, u8}
+use Rattle.class_layout.specs.Trees.{shapeOf, recordSize, optionClass, Stood, behindMembers, behindOptions, nextIn, stoodAt, nextAt}
+use Rattle.class_layout.specs.Trees.{wholeMembers, wholeOptions, wholeIn, whole}
 
 -- from a place on, up to the table's end
 pub record Ends (t : List ℕ) (from next : ℕ) : Type 0 where

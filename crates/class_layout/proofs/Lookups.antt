@@ -10,7 +10,7 @@ use lib.Dec.{eqb}
 use borrow.Author.Tests.{ne-eqb}
 use Rattle.rules.specs.Record.{u8}
 use Rattle.rules.specs.Parse.{uuidOf}
-use Rattle.class_layout.specs.declared.Found.the-variants.{At, Nothing}
+use Rattle.class_layout.specs.declared.TablePlace.the-variants.{At, Nothing}
 use Rattle.class_layout.specs.Fragments.{firstOf, uuidAt, All}
 use Rattle.class_layout.specs.Sizes.{foundOf, uuidPlace}
 
@@ -30,7 +30,8 @@ unfolding firstOf
 first-holds P f [] o e h = let z : _≡_ {A = ℕ} 0 1 = cc in absurd (omega arith)
 first-holds P f (q ∷ os) o e h = by (f q) refl e (λ e. first-holds P f os o e (h .1))
   where
-    by : (b : Bool) → f q ≡ b → elim b [ true ↦ some q | false ↦ firstOf f os ] ≡ some o → (firstOf f os ≡ some o → (f o ≡ true) × P o) → (f o ≡ true) × P o
+    by : (b : Bool) → f q ≡ b → elim b [ true ↦ some q | false ↦ firstOf f os ] ≡ some o → (firstOf f os ≡ some o → (f o ≡ true) × P o)
+        → (f o ≡ true) × P o
     by true k e r = let j : q ≡ o = cc in subst (λ o. (f o ≡ true) × P o) j (k, h .0)
     by false k e r = r e
 

@@ -11,12 +11,15 @@ use lib.Seq.{getD-set-same, getD-set-other, set-getD}
 use lib.Dec.{leb, eqb}
 use borrow.Author.Tests.{le-leb, eqb-true, eqb-false}
 use Rattle.rules.specs.Limits.{depthLimit}
-use Rattle.rules.specs.Record.{Shape, bitField, lebField, signedLebField, zeroString, text, blob, textOf, blobOf, members, elements, elementsOf, option?, options, u8}
+use Rattle.rules.specs.Record.{Shape, bitField, lebField, signedLebField, zeroString, text, blob, textOf, blobOf, members, elements}
+use Rattle.rules.specs.Record.{elementsOf, option?, options, u8}
 use Rattle.facts.proofs.Numbers.{lt-or-ge}
 use Rattle.facts.proofs.Truth.{clash}
-use Rattle.class_layout.specs.Trees.{shapeOf, optionClass, Stood, behindMembers, behindOptions, nextIn, stoodAt, nextAt, alignMembers, alignIn, alignAt, wholeMembers, wholeOptions, wholeIn, whole}
+use Rattle.class_layout.specs.Trees.{shapeOf, optionClass, Stood, behindMembers, behindOptions, nextIn, stoodAt, nextAt, alignMembers}
+use Rattle.class_layout.specs.Trees.{alignIn, alignAt, wholeMembers, wholeOptions, wholeIn, whole}
 use Rattle.class_layout.specs.Fragments.{behindFragment, fragmentsOf, All, AllFragments}
-use Rattle.class_layout.specs.Notes.{Notes, notes, endNoted, alignNoted, endBy, alignBy, sizeTo, isClass, noteAt, noteBelow, noteFragments, notesOf, NotedClass, Prepared}
+use Rattle.class_layout.specs.Notes.{Notes, notes, endNoted, alignNoted, endBy, alignBy, sizeTo, isClass, noteAt, noteBelow}
+use Rattle.class_layout.specs.Notes.{noteFragments, notesOf, NotedClass, Prepared}
 use Rattle.class_layout.proofs.Ends.{Ends, whole-ends}
 use Rattle.class_layout.proofs.Turns.{whole-inside}
 
@@ -24,7 +27,8 @@ use Rattle.class_layout.proofs.Turns.{whole-inside}
 
 module _ (t : List ℕ) (at : ℕ) (g : ℕ → Type 0) (f f′ : ℕ → Stood) (h h′ : ℕ → ℕ) (ends : (q : ℕ) → g q → Ends t (q + 1) ((f q) .next))
     (same : (q : ℕ) → at < q → g q → ((f q) .next ≡ (f′ q) .next) × (h q ≡ h′ q)) where
-  members-noted : (p n : ℕ) → at < p → wholeMembers g f p n → (behindMembers f p n ≡ behindMembers f′ p n) × (alignMembers h f p n ≡ alignMembers h′ f′ p n)
+  members-noted : (p n : ℕ) → at < p → wholeMembers g f p n
+      → (behindMembers f p n ≡ behindMembers f′ p n) × (alignMembers h f p n ≡ alignMembers h′ f′ p n)
   unfolding wholeMembers behindMembers alignMembers
   members-noted p zero l w = (refl, refl)
   members-noted p (suc n) l w =
@@ -77,7 +81,8 @@ module _ (t : List ℕ) where
   unfolding whole stoodAt alignAt endNoted alignNoted
   by-notes x zero p b w = absurd w
   by-notes x (suc d) p b w =
-      let r = shape-noted t p (whole d t) (stoodAt d t) (endNoted (x .sizes)) (alignAt d t) (alignNoted (x .aligns)) (λ q v. whole-ends d t q v)
+      let r = shape-noted t p (whole d t) (stoodAt d t) (endNoted (x .sizes)) (alignAt d t) (alignNoted (x .aligns))
+      (λ q v. whole-ends d t q v)
       (λ q l v. let n = b .classes d q l v in (sym (n .size), sym (n .align))) (shapeOf (u8 t p)) (w .parts) in
       record { end = r .0; align = r .1 }
 
@@ -96,7 +101,8 @@ module _ (t : List ℕ) where
         align = rw (getD-set-same (x .aligns) p (alignBy t x p) 0 a) (sym (n .align));
       }
 
-  noted-other : (x : Notes) (d p q v a : ℕ) → p < q → NotedClass t x d q → NotedClass t (notes (set (x .sizes) p v) (set (x .aligns) p a)) d q
+  noted-other : (x : Notes) (d p q v a : ℕ) → p < q → NotedClass t x d q
+      → NotedClass t (notes (set (x .sizes) p v) (set (x .aligns) p a)) d q
   noted-other x d p q v a l n =
       let k : q ≡ p → ⊥ = λ e. omega arith in
       record { size = rw (getD-set-other (x .sizes) p q v 0 k) (n .size); align = rw (getD-set-other (x .aligns) p q a 0 k) (n .align) }
@@ -157,7 +163,8 @@ module _ (t : List ℕ) where
       by true k = let j : p ≡ o = eqb-true p o k in rw (← j, ← e, set-getD s p 0)
       by false k = getD-set-other s o p _ 0 (eqb-false p o k) ∙ e
 
-  fragment-sizes : (os s : List ℕ) → AllFragments t os → length t ≤ length s → All (λ o. getD (noteFragments t os s) o 0 ≡ behindFragment t o - o) os
+  fragment-sizes : (os s : List ℕ) → AllFragments t os → length t ≤ length s
+      → All (λ o. getD (noteFragments t os s) o 0 ≡ behindFragment t o - o) os
   unfolding noteFragments
   fragment-sizes [] s h l = tt
   fragment-sizes (o ∷ os) s h l =
@@ -175,7 +182,8 @@ module _ (t : List ℕ) where
   low-kind zero p w = absurd w
   low-kind (suc d) p w = omega (arith, w .low)
 
-  pub prepared : (x : Notes) → AllFragments t (fragmentsOf t) → length t ≤ 65536 → length t ≤ length (x .sizes) → length t ≤ length (x .aligns)
+  pub prepared : (x : Notes) → AllFragments t (fragmentsOf t) → length t ≤ 65536 → length t ≤ length (x .sizes)
+      → length t ≤ length (x .aligns)
       → Prepared t (notesOf t x)
   unfolding notesOf
   prepared x h k s a =
@@ -191,7 +199,11 @@ module _ (t : List ℕ) where
           limit = k;
           room = rw (length-fragments (fragmentsOf t) (y .sizes)) (b .room .0);
           each = both (fragmentsOf t)
-              (λ o u v. record { stands = u; size = rw v (omega (arith, u .onward)); roots = λ i p e. c depthLimit p (u .roots i p e) .size })
+              (λ o u v. record {
+                stands = u;
+                size = rw v (omega (arith, u .onward));
+                roots = λ i p e. c depthLimit p (u .roots i p e) .size;
+              })
               h (fragment-sizes (fragmentsOf t) (y .sizes) h (b .room .0));
         };
         room = b .room .1;

@@ -10,7 +10,7 @@ use lib.ListN.{drop}
 use lib.Dec.{eqb}
 use borrow.Author.Tests.{eqb-true, eq-eqb}
 use Rattle.rules.specs.Record.{Fragment as Opening, preamble, traceClass, clockClass, streamClass, eventClass, fragment, u8, u64, recordOf}
-use Rattle.rules.specs.Faults.{Seen, seen, pairAmong, fragmentFault, recordFault}
+use Rattle.rules.specs.Faults.{Ids, seen, pairAmong, fragmentFault, recordFault}
 use Rattle.facts.proofs.Truth.{clash, and-left, and-right}
 use Rattle.facts.proofs.Faults.{pick-false, pick-zero}
 use Rattle.class_layout.specs.Fragments.{isEvent, firstOf, findEventAt, All}
@@ -25,18 +25,18 @@ abbrev pub First : List ℕ → List ℕ → Type 0
 First t os = (i j : ℕ) → All (λ o. isEvent t i j o ≡ true → findEventAt t os i j ≡ some o) os
 
 module _ (t : List ℕ) where
-  pub record Once (q : Seen) (os : List ℕ) : Type 0 where
+  pub record Once (q : Ids) (os : List ℕ) : Type 0 where
     pub new : (i j : ℕ) → pairAmong i j (q .events) ≡ true → findEventAt t os i j ≡ none
     pub first : First t os
 
-  pub none-once : (q : Seen) → Once q []
+  pub none-once : (q : Ids) → Once q []
   unfolding firstOf
   none-once q = record { new = λ i j h. refl; first = λ i j. tt }
 
   -- One fragment
 
   -- pairs stay seen; that of an event class was not, and then is
-  record Fresh (q : Seen) (g : Opening) (at : ℕ) : Type 0 where
+  record Fresh (q : Ids) (g : Opening) (at : ℕ) : Type 0 where
     kept : (i j : ℕ) → pairAmong i j (q .events) ≡ true → pairAmong i j ((seen q g) .events) ≡ true
     own : (i j : ℕ) → isEvent t i j at ≡ true → (pairAmong i j (q .events) ≡ false) × (pairAmong i j ((seen q g) .events) ≡ true)
 
@@ -48,7 +48,7 @@ module _ (t : List ℕ) where
   or-some true b h = refl
   or-some false b h = h
 
-  event-own : (q : Seen) (c x m at : ℕ) → recordOf (drop at t) ≡ fragment (eventClass c x) → fragmentFault q (eventClass c x) m ≡ 0
+  event-own : (q : Ids) (c x m at : ℕ) → recordOf (drop at t) ≡ fragment (eventClass c x) → fragmentFault q (eventClass c x) m ≡ 0
       → (i j : ℕ) → isEvent t i j at ≡ true → (pairAmong i j (q .events) ≡ false) × (pairAmong i j ((c, x) ∷ q .events) ≡ true)
   unfolding fragmentFault isEvent pairAmong
   event-own q c x m at e z i j b =
@@ -60,7 +60,7 @@ module _ (t : List ℕ) where
       let j₁ : j ≡ x = sym (x₁ ∙ eqb-true _ j (and-right (eqb (u64 t (at + 1)) i) _ ids)) in
       (rw (i₁, j₁) (pick-false _ 6 _ z), rw (eq-eqb i c i₁, eq-eqb j x j₁) refl)
 
-  fresh : (q : Seen) (g : Opening) (m at : ℕ) → recordOf (drop at t) ≡ fragment g → fragmentFault q g m ≡ 0 → Fresh q g at
+  fresh : (q : Ids) (g : Opening) (m at : ℕ) → recordOf (drop at t) ≡ fragment g → fragmentFault q g m ≡ 0 → Fresh q g at
   unfolding fragmentFault seen pairAmong
   fresh q (preamble v) m at e z = absurd (omega arith)
   fresh q (traceClass u x) m at e z =
@@ -75,7 +75,7 @@ module _ (t : List ℕ) where
   }
 
   -- in front of the fragments behind it
-  added-once : (q : Seen) (g : Opening) (at : ℕ) (os : List ℕ) → Fresh q g at → Once (seen q g) os → Once q (at ∷ os)
+  added-once : (q : Ids) (g : Opening) (at : ℕ) (os : List ℕ) → Fresh q g at → Once (seen q g) os → Once q (at ∷ os)
   unfolding firstOf
   added-once q g at os f w = record {
     new = λ i j h. new i j h (isEvent t i j at) refl;
@@ -90,7 +90,7 @@ module _ (t : List ℕ) where
       further i j o h true b = let n = w .new i j (f .own i j b .1) in let z : _≡_ {A = ℕ} 0 1 = cc in absurd (omega arith)
       further i j o h false b = rw (b, firstOf) h
 
-  pub fragment-once : (s : Bool) (q : Seen) (g : Opening) (m at : ℕ) (os : List ℕ) → recordOf (drop at t) ≡ fragment g
+  pub fragment-once : (s : Bool) (q : Ids) (g : Opening) (m at : ℕ) (os : List ℕ) → recordOf (drop at t) ≡ fragment g
       → recordFault s q (fragment g) m ≡ 0 → Once (seen q g) os → Once q (at ∷ os)
   unfolding recordFault
   fragment-once s q g m at os e z w = added-once q g at os (fresh q g m at e (pick-zero s 2 _ z)) w

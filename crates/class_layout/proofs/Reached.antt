@@ -9,7 +9,8 @@ use borrow.Author.Tests.{le-leb, lt-leb}
 use Rattle.rules.specs.Record.{u8}
 use Rattle.facts.proofs.Numbers.{lt-or-ge}
 use Rattle.class_layout.specs.Trees.{shapes, shapeOf, recordSize, behindMembers, alignMembers, behindOptions, nextIn, alignIn}
-use Rattle.class_layout.specs.Notes.{Notes, notes, endNoted, alignNoted, endBy, alignBy, sizeTo, isClass, noteAt, noteBelow, ReachesMembers}
+use Rattle.class_layout.specs.Notes.{Notes, notes, endNoted, alignNoted, endBy, alignBy, sizeTo, isClass, noteAt, noteBelow}
+use Rattle.class_layout.specs.Notes.{ReachesMembers}
 
 -- Members: of n from p on, `left` from `next` on are left, and `most` is the largest exponent so far
 
@@ -36,7 +37,8 @@ module _ {s a : List ℕ} {p n : ℕ} where
         near = omega (arith, h .near);
       }
 
-  pub members-done : {next most : ℕ} (left : ℕ) → left ≤ 0 → MembersLeft s a p n next most left → ReachesMembers s a p n (record { next = next; align = most })
+  pub members-done : {next most : ℕ} (left : ℕ) → left ≤ 0 → MembersLeft s a p n next most left
+      → ReachesMembers s a p n (record { next = next; align = most })
   unfolding behindMembers alignMembers
   members-done zero l h = record { end = sym (h .end); align = omega (arith, h .align); onward = h .onward }
   members-done (suc left) l h = absurd (omega arith)
@@ -52,7 +54,8 @@ module _ {t s : List ℕ} {p n : ℕ} where
   pub options-start : OptionsLeft t s p n p n
   options-start = record { end = refl; onward = omega arith; near = omega arith }
 
-  pub options-next : {next k e : ℕ} (left : ℕ) → 0 < left → k ≡ getD t (next + 1) 0 → k < 256 → e ≡ next + 2 + 18 * k + getD s (next + 2 + 18 * k) 0 → e ≤ next + 2 + 18 * k + 65535
+  pub options-next : {next k e : ℕ} (left : ℕ) → 0 < left → k ≡ getD t (next + 1) 0 → k < 256
+      → e ≡ next + 2 + 18 * k + getD s (next + 2 + 18 * k) 0 → e ≤ next + 2 + 18 * k + 65535
       → OptionsLeft t s p n next left → OptionsLeft t s p n e (left - 1)
   unfolding behindOptions endNoted u8
   options-next zero l f c g b h = absurd (omega arith)
@@ -60,7 +63,8 @@ module _ {t s : List ℕ} {p n : ℕ} where
       let z : suc left - 1 ≡ left = omega arith in
       record { end = rw (z, g, f) (h .end); onward = omega (arith, h .onward); near = omega (arith, h .near) }
 
-  pub options-done : {next : ℕ} (left : ℕ) → left ≤ 0 → OptionsLeft t s p n next left → (next ≡ behindOptions (endNoted s) t p n) × (p ≤ next)
+  pub options-done : {next : ℕ} (left : ℕ) → left ≤ 0 → OptionsLeft t s p n next left
+      → (next ≡ behindOptions (endNoted s) t p n) × (p ≤ next)
   unfolding behindOptions
   options-done zero l h = (sym (h .end), h .onward)
   options-done (suc left) l h = absurd (omega arith)
@@ -81,22 +85,26 @@ among P i (suc n) h k a b = ⊎-elim
 
 module _ (t : List ℕ) (x : Notes) (p : ℕ) where
   abbrev Leaf : ℕ → ℕ → Type 0
-  Leaf a k = (nextIn (endNoted (x .sizes)) t p (shapeOf k) ≡ p + recordSize (shapeOf k)) × (alignIn (alignNoted (x .aligns)) (endNoted (x .sizes)) t p (shapeOf k) ≡ a)
+  Leaf a k = (nextIn (endNoted (x .sizes)) t p (shapeOf k) ≡ p + recordSize (shapeOf k))
+      × (alignIn (alignNoted (x .aligns)) (endNoted (x .sizes)) t p (shapeOf k) ≡ a)
 
   pub bits-reach : (k : ℕ) → u8 t p ≡ k → 16 ≤ k → k < 21 → Leaf (u8 t (p + 3)) (u8 t p)
   unfolding shapeOf shapes nextIn alignIn recordSize
-  bits-reach k e a b = rw e (among (Leaf (u8 t (p + 3))) 16 5 ((refl, refl), ((refl, refl), ((refl, refl), ((refl, refl), ((refl, refl), tt))))) k a b)
+  bits-reach k e a b =
+      rw e (among (Leaf (u8 t (p + 3))) 16 5 ((refl, refl), ((refl, refl), ((refl, refl), ((refl, refl), ((refl, refl), tt))))) k a b)
 
   pub bytes-reach : (k : ℕ) → u8 t p ≡ k → 21 ≤ k → k < 28 → Leaf 3 (u8 t p)
   unfolding shapeOf shapes nextIn alignIn recordSize
   bytes-reach k e a b =
-      rw e (among (Leaf 3) 21 7 ((refl, refl), ((refl, refl), ((refl, refl), ((refl, refl), ((refl, refl), ((refl, refl), ((refl, refl), tt))))))) k a b)
+      rw e (among (Leaf 3) 21 7
+      ((refl, refl), ((refl, refl), ((refl, refl), ((refl, refl), ((refl, refl), ((refl, refl), ((refl, refl), tt))))))) k a b)
 
   abbrev Held : ℕ → ℕ → Type 0
   Held n a = (n ≡ endBy t x p) × (a ≡ alignBy t x p)
 
   pub structure-reach : u8 t p ≡ 28
-      → Held (behindMembers (endNoted (x .sizes)) (p + 3) (u8 t (p + 1))) (max (u8 t (p + 2)) (alignMembers (alignNoted (x .aligns)) (endNoted (x .sizes)) (p + 3) (u8 t (p + 1))))
+      → Held (behindMembers (endNoted (x .sizes)) (p + 3) (u8 t (p + 1)))
+      (max (u8 t (p + 2)) (alignMembers (alignNoted (x .aligns)) (endNoted (x .sizes)) (p + 3) (u8 t (p + 1))))
   unfolding shapeOf shapes nextIn alignIn
   structure-reach e = (rw e, rw e)
 
@@ -127,7 +135,8 @@ module _ (t : List ℕ) (p : ℕ) (x : Notes) where
   unfolding noteAt isClass
   note-high l = rw (le-leb 16 (u8 t p) (omega arith), lt-leb (u8 t p) 32 l, isClass, noteAt)
 
-  pub note-class : {n a : ℕ} → 16 ≤ u8 t p → u8 t p ≤ 32 → n ≡ sizeTo t p (endBy t x p) → a ≡ alignBy t x p → notes (set (x .sizes) p n) (set (x .aligns) p a) ≡ noteAt t p x
+  pub note-class : {n a : ℕ} → 16 ≤ u8 t p → u8 t p ≤ 32 → n ≡ sizeTo t p (endBy t x p) → a ≡ alignBy t x p
+      → notes (set (x .sizes) p n) (set (x .aligns) p a) ≡ noteAt t p x
   unfolding noteAt isClass
   note-class l h e f = rw (e, f, le-leb 16 (u8 t p) l, le-leb (u8 t p) 32 h, isClass, noteAt)
 

@@ -12,7 +12,8 @@ use lib.Dec.{T, leb, eqb, eqb→eq}
 use lib.ListN.{length, getD, take, drop, List·getD-eq-default}
 use lib.Seq.{getD-take, getD-drop, drop-drop, take-take}
 use Rattle.rules.specs.Record.{says}
-use Rattle.rules.specs.Record.{Fragment, preamble, traceClass, clockClass, streamClass, eventClass, Record, unknown, fragment, root, class, range, option}
+use Rattle.rules.specs.Record.{Fragment, preamble, traceClass, clockClass, streamClass, eventClass, Record, unknown, fragment, root, class}
+use Rattle.rules.specs.Record.{range, option}
 use Rattle.rules.specs.Record.{number, u8, u64, Layout, no, bitsLayout, layouts, layoutOf, size, recordOf, behind}
 use Rattle.facts.proofs.Numbers.{lt-or-ge}
 use Rattle.facts.proofs.Every.{both, both-left, both-right}
@@ -134,7 +135,8 @@ range-at t at g l h e =
     record {
       kind = k;
       bytes = size-at t at 33 k;
-      says = sym e ∙ record-at t at 33 k ∙ rw (u8-body t at 17 0 (omega arith), number-body t at 17 1 8 (omega arith), number-body t at 17 9 8 (omega arith));
+      says = sym e ∙ record-at t at 33 k
+          ∙ rw (u8-body t at 17 0 (omega arith), number-body t at 17 1 8 (omega arith), number-body t at 17 9 8 (omega arith));
     }
 
 pub option-at : (t : List ℕ) (at n : ℕ) → recordOf (drop at t) ≡ option n → Here t at 34 2 (option n) (option (u8 t (at + 1)))

@@ -13,7 +13,7 @@ use Rattle.rules.specs.Limits.{depthLimit}
 use Rattle.rules.specs.Class.{Class}
 use Rattle.rules.specs.Record.{Record, unknown, fragment, root, class, range, option, u8, size, recordOf, behind}
 use Rattle.rules.specs.Parse.{bad, good, then, one, missing, isRoot, anyRoot, parseClass, parseRoots, rootOf}
-use Rattle.rules.specs.Faults.{Seen, top, Under, rootFault}
+use Rattle.rules.specs.Faults.{Ids, top, Under, rootFault}
 use Rattle.facts.proofs.Numbers.{lt-or-ge}
 use Rattle.facts.proofs.Truth.{and-left, and-right, and-none}
 use Rattle.class_layout.specs.Trees.{classAt, nextAt, whole}
@@ -44,11 +44,15 @@ module _ (t : List ℕ) where
   unfolding rootHere
   root-here at n = by (eqb (u8 t at) 6) refl
     where
-      by : (b : Bool) → eqb (u8 t at) 6 ≡ b → (leb (size (drop at t)) (length (drop at t)) && isRoot n (recordOf (drop at t))) ≡ (ltb (at + 1) (length t) && (eqb (u8 t at) 6 && eqb n (u8 t (at + 1))))
+      by : (b : Bool) → eqb (u8 t at) 6 ≡ b
+          → (leb (size (drop at t)) (length (drop at t)) && isRoot n (recordOf (drop at t)))
+          ≡ (ltb (at + 1) (length t) && (eqb (u8 t at) 6 && eqb n (u8 t (at + 1))))
       by true e =
           let k = eqb-true (u8 t at) 6 e in
           rw (e, root-size t at k, root-record t at k) (unfold isRoot in ap (λ b. b && eqb n (u8 t (at + 1))) (two-left at))
-      by false e = rw (e, no-root n at (recordOf (drop at t)) refl (eqb-false (u8 t at) 6 e)) (and-none (leb (size (drop at t)) (length (drop at t))) ∙ sym (and-none (ltb (at + 1) (length t))))
+      by false e =
+          rw (e, no-root n at (recordOf (drop at t)) refl (eqb-false (u8 t at) 6 e))
+          (and-none (leb (size (drop at t)) (length (drop at t))) ∙ sym (and-none (ltb (at + 1) (length t))))
 
   root-byte : (at n : ℕ) → rootHere t at n ≡ true → u8 t at ≡ 6
   unfolding rootHere
@@ -82,37 +86,56 @@ module _ (t : List ℕ) where
       wholes zero p e = subst (whole depthLimit t) (cc) (a .stands)
       wholes (suc i) p e = b .wholes i p e
 
-  root-absent : (at next : ℕ) (ps : List (Option ℕ)) (cs bs : List (Option Class)) (x z : List ℕ) → RootsStand ps at next cs x → good (none ∷ cs) x ≡ good bs z
+  root-absent : (at next : ℕ) (ps : List (Option ℕ)) (cs bs : List (Option Class)) (x z : List ℕ) → RootsStand ps at next cs x
+      → good (none ∷ cs) x ≡ good bs z
       → RootsStand (none ∷ ps) at next bs z
   unfolding mapOption
   root-absent at next ps cs bs x z b e =
-      record { classes = sym (good-value e) ∙ rw (b .classes); wholes = wholes; rest = sym (good-rest e) ∙ b .rest; within = b .within; onward = b .onward }
+      record {
+        classes = sym (good-value e) ∙ rw (b .classes);
+        wholes = wholes;
+        rest = sym (good-rest e) ∙ b .rest;
+        within = b .within;
+        onward = b .onward;
+      }
     where
       wholes : (i p : ℕ) → getD (none ∷ ps) i none ≡ some p → whole depthLimit t p
       wholes zero p e = absurd (none-some e)
       wholes (suc i) p e = b .wholes i p e
 
-  pub roots-stand : (q : Seen) (timed u : Bool) (ns : List ℕ) (at : ℕ) (cs : List (Option Class)) (x : List ℕ) → at ≤ length t
+  pub roots-stand : (q : Ids) (timed u : Bool) (ns : List ℕ) (at : ℕ) (cs : List (Option Class)) (x : List ℕ) → at ≤ length t
       → parseRoots q timed u ns (drop at t) ≡ good cs x → RootsStand (rootPlaces t at ns) at (behindRoots t at ns) cs x
   unfolding parseRoots rootPlaces behindRoots
   roots-stand q timed u [] at cs x l e = by (not (missing (drop at t)) && anyRoot (recordOf (drop at t))) e
     where
-      by : (b : Bool) → elim b [ true ↦ one q rootFault (λ r x. bad 9 x) (drop at t) | false ↦ good [] (drop at t) ] ≡ good cs x → RootsStand [] at at cs x
+      by : (b : Bool) → elim b [ true ↦ one q rootFault (λ r x. bad 9 x) (drop at t) | false ↦ good [] (drop at t) ] ≡ good cs x
+          → RootsStand [] at at cs x
       by true e = absurd (bad-good (one-good q _ _ t at cs x e .rest))
-      by false e = record { classes = sym (good-value e); wholes = λ i p k. absurd (none-some k); rest = sym (good-rest e); within = l; onward = omega arith }
+      by false e = record {
+        classes = sym (good-value e);
+        wholes = λ i p k. absurd (none-some k);
+        rest = sym (good-rest e);
+        within = l;
+        onward = omega arith;
+      }
   roots-stand q timed u (n ∷ ns) at cs x l e =
       by (rootHere t at n) refl (λ at cs x l e. roots-stand q timed u ns at cs x l e) (rw (root-here at n, parseRoots) at e)
     where
       under : Under
       under = record { root = n; timed = timed; uuid = u }
 
-      by : (b : Bool) → rootHere t at n ≡ b
-          → ((at : ℕ) (cs : List (Option Class)) (x : List ℕ) → at ≤ length t → parseRoots q timed u ns (drop at t) ≡ good cs x → RootsStand (rootPlaces t at ns) at (behindRoots t at ns) cs x)
+      Rest : Type 0
+      Rest = (at : ℕ) (cs : List (Option Class)) (x : List ℕ) → at ≤ length t → parseRoots q timed u ns (drop at t) ≡ good cs x
+          → RootsStand (rootPlaces t at ns) at (behindRoots t at ns) cs x
+
+      by : (b : Bool) → rootHere t at n ≡ b → Rest
           → elim b [
-            | true ↦ then (parseClass q under depthLimit top (behind (drop at t))) λ c x. then (parseRoots q timed u ns x) λ cs x. good (some c ∷ cs) x
+            | true ↦ then (parseClass q under depthLimit top (behind (drop at t))) λ c x.
+                then (parseRoots q timed u ns x) λ cs x. good (some c ∷ cs) x
             | false ↦ then (parseRoots q timed u ns (drop at t)) λ cs x. good (none ∷ cs) x
           ] ≡ good cs x
-          → RootsStand (elim b [ true ↦ some (at + 2) ∷ rootPlaces t (nextAt depthLimit t (at + 2)) ns | false ↦ none ∷ rootPlaces t at ns ]) at
+          → RootsStand
+          (elim b [ true ↦ some (at + 2) ∷ rootPlaces t (nextAt depthLimit t (at + 2)) ns | false ↦ none ∷ rootPlaces t at ns ]) at
           (elim b [ true ↦ behindRoots t (nextAt depthLimit t (at + 2)) ns | false ↦ behindRoots t at ns ]) cs x
       by true h rec e =
           let r : behind (drop at t) ≡ drop (at + 2) t = behind-at t at ∙ ap (λ k. drop (at + k) t) (root-size t at (root-byte at n h)) in

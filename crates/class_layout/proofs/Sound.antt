@@ -9,7 +9,7 @@ use lib.Dec.{ltb, eqb}
 use borrow.Author.Tests.{ltb-false, eq-eqb}
 use Rattle.rules.specs.Record.{Record, unknown, fragment, root, class, range, option, Says, recordOf, size}
 use Rattle.rules.specs.Parse.{Parsed, bad, good, Parser, then, sound, missing, one}
-use Rattle.rules.specs.Faults.{pick, Seen, recordFault, Spot, isTop, Under, badNumber, classFault, out}
+use Rattle.rules.specs.Faults.{pick, Ids, recordFault, Spot, isTop, Under, badNumber, classFault, out}
 use Rattle.facts.proofs.Faults.{pick-false, pick-zero, fragment-zero}
 use Rattle.facts.proofs.Truth.{or-false, clash}
 use Rattle.class_layout.proofs.Records.{behind-at}
@@ -36,7 +36,7 @@ then-good (bad n x) f b y h = absurd (bad-good h)
 then-good (good a x) f b y h = record { value = a; rest = x; first = refl; second = h }
 
 -- tests that find nothing
-fault-zero : (s : Bool) (q : Seen) (r : Record) (m : ℕ) → recordFault s q r m ≡ 0 → (s ≡ false) × (m ≡ 0)
+fault-zero : (s : Bool) (q : Ids) (r : Record) (m : ℕ) → recordFault s q r m ≡ 0 → (s ≡ false) × (m ≡ 0)
 unfolding recordFault
 fault-zero s q unknown m h = absurd (omega arith)
 fault-zero s q (fragment g) m h = (pick-false s 2 _ h, fragment-zero q g m (pick-zero s 2 _ h))
@@ -46,15 +46,15 @@ fault-zero s q (range g l i) m h = (pick-false s 2 m h, pick-zero s 2 m h)
 fault-zero s q (option n) m h = (pick-false s 2 m h, pick-zero s 2 m h)
 
 -- one record at a byte of a table: it has no fault, its bytes are there, and the rest begins behind it
-pub record Found {A : Type 0} (q : Seen) (more : Record → ℕ) (f : Record → Parser A) (t : List ℕ) (at : ℕ) (a : A) (y : List ℕ)
+pub record OneRecord {A : Type 0} (q : Ids) (more : Record → ℕ) (f : Record → Parser A) (t : List ℕ) (at : ℕ) (a : A) (y : List ℕ)
     : Type 0 where
   pub sound : recordFault (ltb (length (drop at t)) (size (drop at t))) q (recordOf (drop at t)) (more (recordOf (drop at t))) ≡ 0
   pub fine : more (recordOf (drop at t)) ≡ 0
   pub there : at + size (drop at t) ≤ length t
   pub rest : f (recordOf (drop at t)) (drop (at + size (drop at t)) t) ≡ good a y
 
-pub one-good : {A : Type 0} (q : Seen) (more : Record → ℕ) (f : Record → Parser A) (t : List ℕ) (at : ℕ) (a : A) (y : List ℕ)
-    → one q more f (drop at t) ≡ good a y → Found q more f t at a y
+pub one-good : {A : Type 0} (q : Ids) (more : Record → ℕ) (f : Record → Parser A) (t : List ℕ) (at : ℕ) (a : A) (y : List ℕ)
+    → one q more f (drop at t) ≡ good a y → OneRecord q more f t at a y
 unfolding one sound
 one-good {A} q more f t at a y h = by _ refl h
   where
@@ -62,7 +62,7 @@ one-good {A} q more f t at a y h = by _ refl h
     x = drop at t
 
     by : (n : ℕ) → pick (missing x) 3 (recordFault (ltb (length x) (size x)) q (recordOf x) (more (recordOf x))) ≡ n
-        → sound n x (f (recordOf x)) ≡ good a y → Found q more f t at a y
+        → sound n x (f (recordOf x)) ≡ good a y → OneRecord q more f t at a y
     by (suc n) e h = absurd (bad-good h)
     by zero e h =
         let z = pick-zero (missing x) 2 _ e in

@@ -9,12 +9,18 @@ use mathlib.Core.Option.{Option, none, some}
 use lib.ListN.{length, drop}
 use lib.Dec.{ltb}
 use borrow.Author.Tests.{ltb-false}
-use Rattle.rules.specs.Class.{bitArray, boolean, unsignedInt, signedInt, float, Sign, plain, signed, Range, Class, Classes, Options, option as anOption, staticArray, dynamicArray, structure, variant, key}
-use Rattle.rules.specs.Record.{Shape, bitField, lebField, signedLebField, zeroString, text, blob, textOf, blobOf, members, elements, elementsOf, option?, options, Record, unknown, fragment, root, class, range, option, u8, u16, u64, size, recordOf}
-use Rattle.rules.specs.Parse.{good, Parser, then, Ranges, rangeOf, countOf, theSign, selected, parseRanges, parseMembers, parseOptions, parseShape, parseBody, parseClass}
-use Rattle.rules.specs.Faults.{Seen, Spot, inside, memberSpot, Under, signOf, otherSign, meets, rangeFault, optionFault, out, classFault}
+use Rattle.rules.specs.Class.{bitArray, boolean, unsignedInt, signedInt, float, Sign, plain, signed, Range, Class, Classes, Options}
+use Rattle.rules.specs.Class.{option as anOption, staticArray, dynamicArray, structure, variant, key}
+use Rattle.rules.specs.Record.{Shape, bitField, lebField, signedLebField, zeroString, text, blob, textOf, blobOf, members, elements}
+use Rattle.rules.specs.Record.{elementsOf, option?, options, Record, unknown, fragment, root, class, range, option, u8, u16, u64, size}
+use Rattle.rules.specs.Record.{recordOf}
+use Rattle.rules.specs.Parse.{good, Parser, then, Ranges, rangeOf, countOf, theSign, selected, parseRanges, parseMembers, parseOptions}
+use Rattle.rules.specs.Parse.{parseShape, parseBody, parseClass}
+use Rattle.rules.specs.Faults.{Ids, Spot, inside, memberSpot, Under, signOf, otherSign, meets, rangeFault, optionFault, out, classFault}
 use Rattle.facts.proofs.Truth.{or-false, clash}
-use Rattle.class_layout.specs.Trees.{shapeOf, recordSize, rangesAt, signAt, optionClass, optionalOf, Stood, membersAt, behindMembers, optionsAt, behindOptions, classIn, nextIn, stoodAt, classAt, nextAt, wholeMembers, wholeOptions, wholeIn, whole}
+use Rattle.class_layout.specs.Trees.{shapeOf, recordSize, rangesAt, signAt, optionClass, optionalOf, Stood, membersAt, behindMembers}
+use Rattle.class_layout.specs.Trees.{optionsAt, behindOptions, classIn, nextIn, stoodAt, classAt, nextAt, wholeMembers, wholeOptions}
+use Rattle.class_layout.specs.Trees.{wholeIn, whole}
 use Rattle.class_layout.proofs.Records.{range-at, option-at}
 use Rattle.class_layout.proofs.ClassRecords.{saidAt, class-at}
 use Rattle.facts.proofs.Faults.{pick-false, pick-zero}
@@ -29,7 +35,8 @@ pub record Took {A : Type 0} (t : List ℕ) (W : Type 0) (a : A) (from next : �
   pub onward : from ≤ next
 
 -- a class that holds what was taken last, m of it
-took-inside : {A : Type 0} (t : List ℕ) {W U : Type 0} (m : A → Class) {a b : A} (at : ℕ) {from next : ℕ} {k c : Class} {x y : List ℕ} → U → Took t W a from next b y
+took-inside : {A : Type 0} (t : List ℕ) {W U : Type 0} (m : A → Class) {a b : A} (at : ℕ) {from next : ℕ} {k c : Class} {x y : List ℕ} → U
+    → Took t W a from next b y
     → at < from → k ≡ m a → good (m b) y ≡ good c x → Took t U k (at + 1) next c x
 took-inside t m at v w l f e = record {
   stands = v;
@@ -77,19 +84,29 @@ module _ (t : List ℕ) where
   abbrev RangesStand : ℕ → ℕ → Option Sign → Ranges → List ℕ → Type 0
   RangesStand at n o p x = Took t Unit (signFrom n (signAt t at) o, rangesAt t at n) at (at + 18 * n) p x
 
-  ranges-stand : (q : Seen) (earlier : List Range) (n : ℕ) (o : Option Sign) (at : ℕ) (p : Ranges) (x : List ℕ) → at ≤ length t
+  ranges-stand : (q : Ids) (earlier : List Range) (n : ℕ) (o : Option Sign) (at : ℕ) (p : Ranges) (x : List ℕ) → at ≤ length t
       → parseRanges q earlier n o (drop at t) ≡ good p x → RangesStand at n o p x
   unfolding parseRanges rangesAt signAt rangeFault rangeOf
   ranges-stand q earlier zero o at p x l h =
       let e : at ≡ at + 18 * 0 = omega arith in
-      record { stands = tt; says = unfold signFrom in good-value h; rest = sym (good-rest h) ∙ ap (λ j. drop j t) e; within = omega arith; onward = omega arith }
+      record {
+        stands = tt;
+        says = unfold signFrom in good-value h;
+        rest = sym (good-rest h) ∙ ap (λ j. drop j t) e;
+        within = omega arith;
+        onward = omega arith;
+      }
   ranges-stand q earlier (suc n) o at p x l h =
       let f = one-good q _ _ t at p x h in
       by (λ o at p x l h. ranges-stand q earlier n o at p x l h) (recordOf (drop at t)) refl (f .fine) (f .there) (f .rest)
     where
-      by : ((o : Option Sign) (at : ℕ) (p : Ranges) (x : List ℕ) → at ≤ length t → parseRanges q earlier n o (drop at t) ≡ good p x → RangesStand at n o p x)
-          → (r : Record) → recordOf (drop at t) ≡ r → rangeFault o earlier r ≡ 0 → at + size (drop at t) ≤ length t
-          → then (parseRanges q earlier n ((rangeOf r) .0) (drop (at + size (drop at t)) t)) (λ p x. good (p .0, (rangeOf r) .1 ++ p .1) x) ≡ good p x
+      Rest : Type 0
+      Rest = (o : Option Sign) (at : ℕ) (p : Ranges) (x : List ℕ) → at ≤ length t → parseRanges q earlier n o (drop at t) ≡ good p x
+          → RangesStand at n o p x
+
+      by : Rest → (r : Record) → recordOf (drop at t) ≡ r → rangeFault o earlier r ≡ 0 → at + size (drop at t) ≤ length t
+          → then (parseRanges q earlier n ((rangeOf r) .0) (drop (at + size (drop at t)) t)) (λ p x. good (p .0, (rangeOf r) .1 ++ p .1) x)
+          ≡ good p x
           → RangesStand at (suc n) o p x
       by rec unknown e z m k = absurd (omega arith)
       by rec (fragment g) e z m k = absurd (omega arith)
@@ -116,12 +133,19 @@ module _ (t : List ℕ) where
           }
 
   -- Members and options: g says of a byte that a class stands whole there, h what stands there, f parses it
-  module _ (q : Seen) (f : Spot → Parser Class) (g : ℕ → Type 0) (h : ℕ → Stood)
-      (deeper : (z : Spot) (p : ℕ) (c : Class) (x : List ℕ) → f z (drop p t) ≡ good c x → Took t (g p) ((h p) .class) (p + 1) ((h p) .next) c x) where
+  module _ (q : Ids) (f : Spot → Parser Class) (g : ℕ → Type 0) (h : ℕ → Stood)
+      (deeper : (z : Spot) (p : ℕ) (c : Class) (x : List ℕ) → f z (drop p t) ≡ good c x
+      → Took t (g p) ((h p) .class) (p + 1) ((h p) .next) c x) where
     members-stand : (z : Spot) (n at : ℕ) (cs : Classes) (x : List ℕ) → at ≤ length t → parseMembers f z n (drop at t) ≡ good cs x
         → Took t (wholeMembers g h at n) (membersAt h at n) at (behindMembers h at n) cs x
     unfolding parseMembers wholeMembers membersAt behindMembers
-    members-stand z zero at cs x l e = record { stands = tt; says = good-value e; rest = sym (good-rest e); within = l; onward = omega arith }
+    members-stand z zero at cs x l e = record {
+      stands = tt;
+      says = good-value e;
+      rest = sym (good-rest e);
+      within = l;
+      onward = omega arith;
+    }
     members-stand z (suc n) at cs x l e =
         let a = then-good (f z (drop at t)) _ cs x e in
         let b = deeper z at (a .value) (a .rest) (a .first) in
@@ -139,7 +163,8 @@ module _ (t : List ℕ) where
     OptionsStand at n o p x =
         Took t (wholeOptions g h t at n) (signFrom n (signAt t (at + 2)) o, optionsAt h t at n) at (behindOptions h t at n) p x
 
-    option-stands : (n : ℕ) (o : Option Sign) (at : ℕ) (rs : Ranges) (c : Class) (ps os : Option Sign × Options) (x₁ x₂ x₃ x : List ℕ) → 1 ≤ u8 t (at + 1)
+    option-stands : (n : ℕ) (o : Option Sign) (at : ℕ) (rs : Ranges) (c : Class) (ps os : Option Sign × Options) (x₁ x₂ x₃ x : List ℕ)
+        → 1 ≤ u8 t (at + 1)
         → RangesStand (at + 2) (u8 t (at + 1)) o rs x₁
         → Took t (g (optionClass t at)) ((h (optionClass t at)) .class) (optionClass t at + 1) ((h (optionClass t at)) .next) c x₂
         → OptionsStand ((h (optionClass t at)) .next) n (rs .0) ps x₃
@@ -168,8 +193,11 @@ module _ (t : List ℕ) where
         let k = one-good q _ _ t at os x e in
         by (λ p at os x l e. options-stand n p at os x l e) (recordOf (drop at t)) refl (k .fine) (k .there) (k .rest)
       where
-        by : ((p : Ranges) (at : ℕ) (os : Option Sign × Options) (x : List ℕ) → at ≤ length t → parseOptions q f n p (drop at t) ≡ good os x → OptionsStand at n (p .0) os x)
-            → (r : Record) → recordOf (drop at t) ≡ r → optionFault r ≡ 0 → at + size (drop at t) ≤ length t
+        Rest : Type 0
+        Rest = (p : Ranges) (at : ℕ) (os : Option Sign × Options) (x : List ℕ) → at ≤ length t
+            → parseOptions q f n p (drop at t) ≡ good os x → OptionsStand at n (p .0) os x
+
+        by : Rest → (r : Record) → recordOf (drop at t) ≡ r → optionFault r ≡ 0 → at + size (drop at t) ≤ length t
             → then (parseRanges q (p .1) (countOf r) (p .0) (drop (at + size (drop at t)) t)) (λ rs x. then (f inside x) λ c x.
             then (parseOptions q f n (rs .0, p .1 ++ rs .1) x) λ os x. good (os .0, anOption (rs .1) c (os .1)) x) ≡ good os x
             → OptionsStand at (suc n) (p .0) os x
@@ -185,7 +213,8 @@ module _ (t : List ℕ) where
             let b = ranges-stand q (p .1) (u8 t (at + 1)) (p .0) (at + 2) (a .value) (a .rest) (omega (arith, r .bytes)) (a .first) in
             let c = then-good (f inside (drop (optionClass t at) t)) _ os x (rw (b .rest) at (a .second)) in
             let d = deeper inside (optionClass t at) (c .value) (c .rest) (c .first) in
-            let v = then-good (parseOptions q f n (a .value .0, p .1 ++ a .value .1) (drop ((h (optionClass t at)) .next) t)) _ os x (rw (d .rest) at (c .second)) in
+            let v = then-good (parseOptions q f n (a .value .0, p .1 ++ a .value .1) (drop ((h (optionClass t at)) .next) t)) _ os x
+            (rw (d .rest) at (c .second)) in
             let w = rec (a .value .0, p .1 ++ a .value .1) ((h (optionClass t at)) .next) (v .value) (v .rest) (d .within) (v .first) in
             let i : 1 ≤ j = ltb-false j 1 (or-false (ltb j 1) _ (pick-false _ 9 0 z) .0) in
             option-stands n (p .0) at (a .value) (c .value) (v .value) os (a .rest) (c .rest) (v .rest) x (omega arith) b d w (v .second)
@@ -194,12 +223,20 @@ module _ (t : List ℕ) where
     abbrev ShapeStands : ℕ → Shape → Class → List ℕ → Type 0
     ShapeStands at s c x = Took t (wholeIn g h t at s) (classIn h t at s) (at + 1) (nextIn h t at s) c x
 
-    leaf-stands : (s : Shape) (at : ℕ) (c : Class) (x : List ℕ) → wholeIn g h t at s → nextIn h t at s ≡ at + recordSize s → 1 ≤ recordSize s
+    leaf-stands : (s : Shape) (at : ℕ) (c : Class) (x : List ℕ) → wholeIn g h t at s → nextIn h t at s ≡ at + recordSize s
+        → 1 ≤ recordSize s
         → at + recordSize s ≤ length t → good (classIn h t at s) (drop (at + recordSize s) t) ≡ good c x → ShapeStands at s c x
     leaf-stands s at c x w n k l e =
-        record { stands = w; says = good-value e; rest = sym (good-rest e) ∙ ap (λ j. drop j t) (sym n); within = omega arith; onward = omega arith }
+        record {
+          stands = w;
+          says = good-value e;
+          rest = sym (good-rest e) ∙ ap (λ j. drop j t) (sym n);
+          within = omega arith;
+          onward = omega arith;
+        }
 
-    flagged-or-not : (i n at : ℕ) (c : Class) → selected i (signFrom n (signAt t at) none, rangesAt t at n) c ≡ optionalOf i (signAt t at) (rangesAt t at n) c
+    flagged-or-not : (i n at : ℕ) (c : Class)
+        → selected i (signFrom n (signAt t at) none, rangesAt t at n) c ≡ optionalOf i (signAt t at) (rangesAt t at n) c
     unfolding selected signFrom rangesAt optionalOf
     flagged-or-not i zero at c = refl
     flagged-or-not i (suc n) at c = refl
@@ -212,11 +249,16 @@ module _ (t : List ℕ) where
     shape-stands : (z : Spot) (at : ℕ) (s : Shape) (c : Class) (x : List ℕ) → Sane (saidAt t at s) → at + recordSize s ≤ length t
         → parseShape q f z (saidAt t at s) ((saidAt t at s) .shape) (drop (at + recordSize s) t) ≡ good c x → ShapeStands at s c x
     unfolding parseShape saidAt wholeIn classIn nextIn recordSize
-    shape-stands z at (bitField bitArray) c x k l e = leaf-stands (bitField bitArray) at c x (k .low, k .high, k .align) refl (omega arith) l e
-    shape-stands z at (bitField boolean) c x k l e = leaf-stands (bitField boolean) at c x (k .low, k .high, k .align) refl (omega arith) l e
-    shape-stands z at (bitField unsignedInt) c x k l e = leaf-stands (bitField unsignedInt) at c x (k .low, k .high, k .align) refl (omega arith) l e
-    shape-stands z at (bitField signedInt) c x k l e = leaf-stands (bitField signedInt) at c x (k .low, k .high, k .align) refl (omega arith) l e
-    shape-stands z at (bitField float) c x k l e = leaf-stands (bitField float) at c x (k .low, k .high, k .align) refl (omega arith) l e
+    shape-stands z at (bitField bitArray) c x k l e =
+        leaf-stands (bitField bitArray) at c x (k .low, k .high, k .align) refl (omega arith) l e
+    shape-stands z at (bitField boolean) c x k l e =
+        leaf-stands (bitField boolean) at c x (k .low, k .high, k .align) refl (omega arith) l e
+    shape-stands z at (bitField unsignedInt) c x k l e =
+        leaf-stands (bitField unsignedInt) at c x (k .low, k .high, k .align) refl (omega arith) l e
+    shape-stands z at (bitField signedInt) c x k l e =
+        leaf-stands (bitField signedInt) at c x (k .low, k .high, k .align) refl (omega arith) l e
+    shape-stands z at (bitField float) c x k l e =
+        leaf-stands (bitField float) at c x (k .low, k .high, k .align) refl (omega arith) l e
     shape-stands z at lebField c x k l e = leaf-stands lebField at c x tt refl (omega arith) l e
     shape-stands z at signedLebField c x k l e = leaf-stands signedLebField at c x tt refl (omega arith) l e
     shape-stands z at zeroString c x k l e = leaf-stands zeroString at c x tt refl (omega arith) l e
@@ -243,21 +285,25 @@ module _ (t : List ℕ) where
         let d = then-good (f inside (drop o t)) _ c x (rw (b .rest) at (a .second)) in
         let w = deeper inside o (d .value) (d .rest) (d .first) in
         took-inside t (selected (u8 t (at + 1)) (a .value)) at (b .within, w .stands) w (omega arith)
-        (sym (flagged-or-not (u8 t (at + 1)) (u8 t (at + 2)) (at + 3) _) ∙ ap (λ p. selected (u8 t (at + 1)) p ((h o) .class)) (b .says)) (d .second)
+        (sym (flagged-or-not (u8 t (at + 1)) (u8 t (at + 2)) (at + 3) _) ∙ ap (λ p. selected (u8 t (at + 1)) p ((h o) .class)) (b .says))
+        (d .second)
     shape-stands z at options c x k l e =
         let a = then-good (parseOptions q f (u8 t (at + 2)) (none, []) (drop (at + 3) t)) _ c x e in
         let b = options-stand (u8 t (at + 2)) (none, []) (at + 3) (a .value) (a .rest) l (a .first) in
         let i : 1 ≤ u8 t (at + 2) = k .options refl in
         let j : at + 5 ≡ at + 3 + 2 = omega arith in
         took-inside t (λ p. variant (u8 t (at + 1)) (theSign (p .0)) (p .1)) at (i, b .stands) b (omega arith)
-        (ap (λ s. variant (u8 t (at + 1)) s (optionsAt h t (at + 3) (u8 t (at + 2)))) (ap (signAt t) j ∙ sym (first-sign (u8 t (at + 2)) _ i))) (a .second)
+        (ap (λ s. variant (u8 t (at + 1)) s (optionsAt h t (at + 3) (u8 t (at + 2))))
+        (ap (signAt t) j ∙ sym (first-sign (u8 t (at + 2)) _ i)))
+        (a .second)
 
 -- A class
 
 abbrev pub Stands : ℕ → List ℕ → ℕ → Class → List ℕ → Type 0
 Stands d t at c x = Took t (whole d t at) (classAt d t at) (at + 1) (nextAt d t at) c x
 
-pub stands : (q : Seen) (u : Under) (d : ℕ) (z : Spot) (t : List ℕ) (at : ℕ) (c : Class) (x : List ℕ) → parseClass q u d z (drop at t) ≡ good c x → Stands d t at c x
+pub stands : (q : Ids) (u : Under) (d : ℕ) (z : Spot) (t : List ℕ) (at : ℕ) (c : Class) (x : List ℕ)
+    → parseClass q u d z (drop at t) ≡ good c x → Stands d t at c x
 unfolding parseClass classFault parseBody whole stoodAt
 stands q u zero z t at c x e = absurd (bad-good (one-good q _ _ t at c x e .rest))
 stands q u (suc d) z t at c x e =
@@ -276,4 +322,15 @@ stands q u (suc d) z t at c x e =
         let a = class-at t at y e in
         let s = shape-stands t q (parseClass q u d) (whole d t) (stoodAt d t) rec z at (shapeOf (u8 t at)) c x
         (rw (a .says) at (class-sane u z false y n)) (omega (arith, a .bytes)) (rw (a .bytes, a .says) at k) in
-        record { stands = record { low = a .low; high = a .high; there = omega (arith, a .bytes); parts = s .stands }; says = s .says; rest = s .rest; within = s .within; onward = s .onward }
+        record {
+          stands = record {
+            low = a .low;
+            high = a .high;
+            there = omega (arith, a .bytes);
+            parts = s .stands;
+          };
+          says = s .says;
+          rest = s .rest;
+          within = s .within;
+          onward = s .onward;
+        }

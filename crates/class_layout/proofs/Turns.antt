@@ -10,11 +10,11 @@ use lib.ListN.{length, getD, List·getD-eq-default}
 use Rattle.rules.specs.Limits.{depthLimit}
 use Rattle.rules.specs.Record.{u8}
 use Rattle.facts.proofs.Numbers.{lt-or-ge}
-use Rattle.class_layout.specs.declared.Found.the-variants.{At, Nothing}
+use Rattle.class_layout.specs.declared.TablePlace.the-variants.{At, Nothing}
 use Rattle.class_layout.specs.declared.openings.Opening.{Opening}
 use Rattle.class_layout.specs.Trees.{nextAt, whole}
 use Rattle.class_layout.specs.Fragments.{rootHere, rootPlaces, behindRoots, rootPlace, behindFragment, Fragment}
-use Rattle.class_layout.specs.Sizes.{foundOf, SizedRoots, SizedFragment, numbered, Opens, behindRoot, SizedRoot}
+use Rattle.class_layout.specs.Sizes.{foundOf, SizedRoots, SizedFragment, numbered, OpeningOf, behindRoot, SizedRoot}
 
 -- a class that stands whole begins before the table's end, past which every byte reads as 0
 pub whole-inside : (d : ℕ) (t : List ℕ) (p : ℕ) → whole d t p → p < length t
@@ -34,7 +34,8 @@ unfolding rootPlaces behindRoot
 places-cons t at n ns = by (rootHere t at n)
   where
     by : (b : Bool)
-        → _≡_ {A = List (Option ℕ)} (elim b [ true ↦ some (at + 2) ∷ rootPlaces t (nextAt depthLimit t (at + 2)) ns | false ↦ none ∷ rootPlaces t at ns ])
+        → _≡_ {A = List (Option ℕ)}
+        (elim b [ true ↦ some (at + 2) ∷ rootPlaces t (nextAt depthLimit t (at + 2)) ns | false ↦ none ∷ rootPlaces t at ns ])
         (elim b [ true ↦ some (at + 2) | false ↦ none ] ∷ rootPlaces t (elim b [ true ↦ nextAt depthLimit t (at + 2) | false ↦ at ]) ns)
     by true = refl
     by false = refl
@@ -53,9 +54,10 @@ pub record Turn (t s : List ℕ) (o turn at number left : ℕ) : Type 0 where
   pub more : ℕ
   pub enough : left < more
   pub same : rootPlace t o turn ≡ getD (rootPlaces t at (numbered number more)) left none
-  pub roots : (j p : ℕ) → getD (rootPlaces t at (numbered number more)) j none ≡ some p → whole depthLimit t p × (p + getD s p 0 ≡ nextAt depthLimit t p)
+  pub roots : (j p : ℕ) → getD (rootPlaces t at (numbered number more)) j none ≡ some p
+      → whole depthLimit t p × (p + getD s p 0 ≡ nextAt depthLimit t p)
 
-module _ (t : List ℕ) (o turn : ℕ) {r : Opening} (e : Opens (u8 t o) r) where
+module _ (t : List ℕ) (o turn : ℕ) {r : Opening} (e : OpeningOf (u8 t o) r) where
   places-are : (j : ℕ) → rootPlace t o j ≡ getD (rootPlaces t (o + r .size) (numbered (r .first) (r .count))) j none
   unfolding rootPlace
   places-are j = rw (e .size, ← e .roots)
@@ -64,7 +66,8 @@ module _ (t : List ℕ) (o turn : ℕ) {r : Opening} (e : Opens (u8 t o) r) wher
   unfolding foundOf
   turn-none l =
       let ps = rootPlaces t (o + r .size) (numbered (r .first) (r .count)) in
-      let k : length ps ≤ turn = rw (length-places t (o + r .size) (numbered (r .first) (r .count)), length-numbered (r .first) (r .count)) l in
+      let k : length ps ≤ turn =
+      rw (length-places t (o + r .size) (numbered (r .first) (r .count)), length-numbered (r .first) (r .count)) l in
       rw (places-are turn, List·getD-eq-default ps none {n = turn} k)
 
   pub turn-start : {s : List ℕ} → SizedFragment t s o → turn < r .count → Turn t s o turn (o + r .size) (r .first) turn
@@ -95,7 +98,8 @@ module _ {t s : List ℕ} {o turn at number left : ℕ} (h : Turn t s o turn at 
       sized : (more : ℕ) → Roots (placeHere t at number ∷ behind more) → SizedRoot t s at number
       sized more r b = let w = r 0 (at + 2) (rw (b, placeHere)) in (whole-inside depthLimit t (at + 2) (w .0), w .1)
 
-      by : (more left : ℕ) → left < more → rootPlace t o turn ≡ getD (rootPlaces t at (numbered number more)) left none → Roots (rootPlaces t at (numbered number more))
+      by : (more left : ℕ) → left < more → rootPlace t o turn ≡ getD (rootPlaces t at (numbered number more)) left none
+          → Roots (rootPlaces t at (numbered number more))
           → Next t s o turn at number left
       by zero left l e r = absurd (omega arith)
       by (suc more) zero l e r =
@@ -137,10 +141,11 @@ behind-cons t at n ns = by (rootHere t at n)
 
 pub record RootsLeft (t s : List ℕ) (o at number left : ℕ) : Type 0 where
   pub same : behindFragment t o ≡ behindRoots t at (numbered number left)
-  pub roots : (j p : ℕ) → getD (rootPlaces t at (numbered number left)) j none ≡ some p → whole depthLimit t p × (p + getD s p 0 ≡ nextAt depthLimit t p)
+  pub roots : (j p : ℕ) → getD (rootPlaces t at (numbered number left)) j none ≡ some p
+      → whole depthLimit t p × (p + getD s p 0 ≡ nextAt depthLimit t p)
 
 module _ {t s : List ℕ} {o : ℕ} where
-  pub roots-start : {r : Opening} → Fragment t o → SizedRoots t s o → Opens (u8 t o) r → RootsLeft t s o (o + r .size) (r .first) (r .count)
+  pub roots-start : {r : Opening} → Fragment t o → SizedRoots t s o → OpeningOf (u8 t o) r → RootsLeft t s o (o + r .size) (r .first) (r .count)
   unfolding behindFragment
   roots-start h k e = record {
     same = rw (e .size, ← e .roots);
@@ -154,13 +159,17 @@ module _ {t s : List ℕ} {o : ℕ} where
       let w = h .roots 0 (at + 2) (rw (places-cons t at number (numbered (number + 1) left), b, placeHere)) in
       (whole-inside depthLimit t (at + 2) (w .0), w .1)
 
-  pub roots-next : {at number a : ℕ} (left : ℕ) → 0 < left → a ≡ behindRoot t at number → RootsLeft t s o at number left → RootsLeft t s o a (number + 1) (left - 1)
+  pub roots-next : {at number a : ℕ} (left : ℕ) → 0 < left → a ≡ behindRoot t at number → RootsLeft t s o at number left
+      → RootsLeft t s o a (number + 1) (left - 1)
   unfolding numbered
   roots-next zero l e h = absurd (omega arith)
   roots-next {at} {number} (suc left) l e h =
       let z : suc left - 1 ≡ left = omega arith in
       let c = places-cons t at number (numbered (number + 1) left) in
-      record { same = rw (e, z) (h .same ∙ behind-cons t at number (numbered (number + 1) left)); roots = λ j p f. h .roots (suc j) p (rw c (rw (e, z) at f)) }
+      record {
+        same = rw (e, z) (h .same ∙ behind-cons t at number (numbered (number + 1) left));
+        roots = λ j p f. h .roots (suc j) p (rw c (rw (e, z) at f));
+      }
 
   pub roots-done : {at number : ℕ} (left : ℕ) → left ≤ 0 → RootsLeft t s o at number left → at ≡ behindFragment t o
   unfolding numbered behindRoots

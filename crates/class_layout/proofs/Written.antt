@@ -31,17 +31,27 @@ record Step (t z s : List ℕ) (at : ℕ) : Type 0 where
 
 pub fragments-start : {t z : List ℕ} → AllFragments t (fragmentsOf t) → SizedClasses t z → FragmentsLeft t z z 2
 unfolding fragmentsOf
-fragments-start {t} h k = record { left = length t - 2; enough = omega arith; same = refl; each = h; classes = k; size = refl; begun = omega arith }
+fragments-start {t} h k = record {
+  left = length t - 2;
+  enough = omega arith;
+  same = refl;
+  each = h;
+  classes = k;
+  size = refl;
+  begun = omega arith;
+}
 
 module _ {t z s : List ℕ} where
   step : {at : ℕ} → at < length t → FragmentsLeft t z s at → Step t z s at
   unfolding fragmentsFrom noteFragments
   step {at} l h = by (h .left) (h .enough) (h .same) (h .each)
     where
-      by : (left : ℕ) → length t ≤ at + left → noteFragments t (fragmentsOf t) z ≡ noteFragments t (fragmentsFrom left t at) s → AllFragments t (fragmentsFrom left t at) → Step t z s at
+      by : (left : ℕ) → length t ≤ at + left → noteFragments t (fragmentsOf t) z ≡ noteFragments t (fragmentsFrom left t at) s
+          → AllFragments t (fragmentsFrom left t at) → Step t z s at
       by zero m e w = absurd (omega arith)
       by (suc left) m e w =
-          let e₁ : noteFragments t (fragmentsOf t) z ≡ noteFragments t (at ∷ fragmentsFrom left t (behindFragment t at)) s = rw (lt-ltb at (length t) l, fragmentsFrom) at e in
+          let e₁ : noteFragments t (fragmentsOf t) z ≡ noteFragments t (at ∷ fragmentsFrom left t (behindFragment t at)) s =
+          rw (lt-ltb at (length t) l, fragmentsFrom) at e in
           let w₁ : AllFragments t (at ∷ fragmentsFrom left t (behindFragment t at)) = rw (lt-ltb at (length t) l, fragmentsFrom) at w in
           record {
             here = w₁ .0;
@@ -64,7 +74,8 @@ module _ {t z s : List ℕ} where
   pub fragments-roots : {at : ℕ} → at < length t → FragmentsLeft t z s at → SizedRoots t s at
   fragments-roots l h = λ i p e. h .classes depthLimit p (step l h .here .roots i p e)
 
-  pub fragments-next : {at n v : ℕ} → at < length t → n ≡ behindFragment t at → v ≡ n - at → FragmentsLeft t z s at → FragmentsLeft t z (set s at v) n
+  pub fragments-next : {at n v : ℕ} → at < length t → n ≡ behindFragment t at → v ≡ n - at → FragmentsLeft t z s at
+      → FragmentsLeft t z (set s at v) n
   fragments-next l e f h = rw (f, e) (step l h .next)
 
   pub fragments-done : {at : ℕ} → length t ≤ at → FragmentsLeft t z s at → s ≡ noteFragments t (fragmentsOf t) z
@@ -73,12 +84,14 @@ module _ {t z s : List ℕ} where
 
 -- The two passes, one after the other
 
-module _ (t : List ℕ) (x : Notes) {y : Notes} (s : length t ≤ length (x .sizes)) (a : length t ≤ length (x .aligns)) (e : y ≡ noteBelow t (length t) x) where
+module _ (t : List ℕ) (x : Notes) {y : Notes} (s : length t ≤ length (x .sizes)) (a : length t ≤ length (x .aligns))
+    (e : y ≡ noteBelow t (length t) x) where
   pub first-pass : SizedClasses t (y .sizes) × (length t ≤ length (y .sizes))
   first-pass = let b : From t 0 y = rw e (all-noted t x s a) in (λ d p w. b .classes d p (omega arith) w .size, b .room .0)
 
   pub second-pass : {z : List ℕ} → Accepts t → z ≡ noteFragments t (fragmentsOf t) (y .sizes) → Made t x (notes z (y .aligns))
   unfolding notesOf
   second-pass h f =
-      let k : notes (noteFragments t (fragmentsOf t) (y .sizes)) (y .aligns) ≡ notesOf t x = ap (λ y. notes (noteFragments t (fragmentsOf t) (y .sizes)) (y .aligns)) e in
+      let k : notes (noteFragments t (fragmentsOf t) (y .sizes)) (y .aligns) ≡ notesOf t x =
+      ap (λ y. notes (noteFragments t (fragmentsOf t) (y .sizes)) (y .aligns)) e in
       rw f (record { notes = k; ready = rw k (prepared t x (h .fragments) (h .limit) s a) })

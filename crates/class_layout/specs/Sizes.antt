@@ -8,13 +8,13 @@ use lib.ListN.{length, getD}
 use lib.Dec.{eqb}
 use Rattle.rules.specs.Record.{u8}
 use Rattle.rules.specs.Limits.{tableLimit, depthLimit}
-use Rattle.class_layout.specs.declared.Found.{Found}
-use Rattle.class_layout.specs.declared.Found.the-variants.{At, Nothing}
+use Rattle.class_layout.specs.declared.TablePlace.{TablePlace}
+use Rattle.class_layout.specs.declared.TablePlace.the-variants.{At, Nothing}
 use Rattle.class_layout.specs.declared.openings.Opening.{Opening}
 use Rattle.class_layout.specs.Trees.{nextAt}
 use Rattle.class_layout.specs.Fragments.{openingSize, rootsOf, rootHere, behindFragment, fragmentsOf, rootPlace, Fragment, All}
 
-unfoldable pub foundOf : Option ℕ → Found
+unfoldable pub foundOf : Option ℕ → TablePlace
 foundOf none = Nothing
 foundOf (some p) = At p
 
@@ -40,7 +40,7 @@ numbered n zero = []
 numbered n (suc m) = n ∷ numbered (n + 1) m
 
 -- what opens a fragment of the kind k: its first record's bytes, and its roots' numbers, from 0 where it has none
-pub record Opens (k : ℕ) (r : Opening) : Type 0 where
+pub record OpeningOf (k : ℕ) (r : Opening) : Type 0 where
   pub size : r .size ≡ openingSize k
   pub roots : rootsOf k ≡ numbered (r .first) (r .count)
   pub none : r .count ≡ 0 → r .first ≡ 0

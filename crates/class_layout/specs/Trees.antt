@@ -5,8 +5,11 @@ use Prim.Native.Nat.{ℕ, zero, suc, _+_, _-_, _*_, _≤_, max}
 use mathlib.Core.List.{List, [], _∷_}
 use lib.ListN.{length, getD}
 use Rattle.rules.specs.Limits.{noSlot}
-use Rattle.rules.specs.Class.{Sort, bitArray, boolean, unsignedInt, signedInt, float, Sign, Range, Class, fixed, leb128, signedLeb128, string, staticString, staticBlob, dynamicString, dynamicBlob, structure, staticArray, dynamicArray, flagged, optional, variant, Classes, noMember, member, Options, noOption, option}
-use Rattle.rules.specs.Record.{Shape, bitField, lebField, signedLebField, zeroString, text, blob, textOf, blobOf, members, elements, elementsOf, option?, options, u8, u16, u64}
+use Rattle.rules.specs.Class.{Sort, bitArray, boolean, unsignedInt, signedInt, float, Sign, Range, Class, fixed, leb128, signedLeb128}
+use Rattle.rules.specs.Class.{string, staticString, staticBlob, dynamicString, dynamicBlob, structure, staticArray, dynamicArray, flagged}
+use Rattle.rules.specs.Class.{optional, variant, Classes, noMember, member, Options, noOption, option}
+use Rattle.rules.specs.Record.{Shape, bitField, lebField, signedLebField, zeroString, text, blob, textOf, blobOf, members, elements}
+use Rattle.rules.specs.Record.{elementsOf, option?, options, u8, u16, u64}
 use Rattle.rules.specs.Faults.{roleOf, signOf}
 use Rattle.rules.specs.Parse.{orderOf}
 

@@ -10,7 +10,7 @@ ghost use Rattle.class_layout.specs.Trees.{shapeOf, recordSize};
 pub mod openings;
 
 // Where something stands in the table; or there is none.
-pub enum Found {
+pub enum TablePlace {
     At(usize),
     Nothing,
 }

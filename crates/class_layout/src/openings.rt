@@ -1,16 +1,13 @@
 // Where the roots of a fragment stand, and where it ends. Places stay below 300,000: behind a place in the table there are at most three
 // roots, each of a 16-bit size.
+use numbers::kinds;
 use table_bytes::size_at;
+use table_records::bodies;
 ghost use mathlib.Core.Path.{_≡_};
 ghost use Prim.Native.Nat.{_+_, _≤_};
 ghost use lib.ListN.{length};
 ghost use Rattle.class_layout.specs.Fragments.{rootHere, behindFragment, Fragment};
-ghost use Rattle.class_layout.specs.Sizes.{SizedRoots, SizedRoot, behindRoot, Opens};
-
-const ROOT: u8 = 6;
-
-// The preamble's bytes, behind which the fragments begin.
-pub const PREAMBLE: usize = 2;
+ghost use Rattle.class_layout.specs.Sizes.{SizedRoots, SizedRoot, behindRoot, OpeningOf};
 
 // The byte behind a fragment and its roots.
 pub fn behind_fragment(table: &[u8], sizes: &[u16], fragment: usize) -> usize
@@ -38,26 +35,26 @@ pub struct Opening {
 
 pub fn opening_of(kind: u8) -> Opening
     requires { ⌜ (2 ≤ kind) × (kind ≤ 5) ⌝ }
-    ensures { λ r. ⌜ Opens kind r ⌝ }
+    ensures { λ r. ⌜ OpeningOf kind r ⌝ }
 {
     match kind {
-        2 => Opening {
-            size: 18,
+        kinds::TRACE_CLASS => Opening {
+            size: bodies::TRACE_CLASS_SIZE,
             first: 0,
             count: 1,
         },
-        3 => Opening {
-            size: 10,
+        kinds::CLOCK_CLASS => Opening {
+            size: bodies::CLOCK_CLASS_SIZE,
             first: 0,
             count: 0,
         },
-        4 => Opening {
-            size: 10,
+        kinds::STREAM_CLASS => Opening {
+            size: bodies::STREAM_CLASS_SIZE,
             first: 1,
             count: 3,
         },
         _ => Opening {
-            size: 17,
+            size: bodies::EVENT_CLASS_SIZE,
             first: 4,
             count: 2,
         },
@@ -72,7 +69,7 @@ pub fn root_here(table: &[u8], at: usize, number: u8) -> bool
     if table.len() <= at + 1 {
         return false;
     }
-    if table[at] == ROOT {
+    if table[at] == kinds::ROOT {
         return number == table[at + 1];
     }
     false
@@ -84,7 +81,7 @@ pub fn behind_root(table: &[u8], sizes: &[u16], at: usize, number: u8) -> usize
     ensures { λ r. ⌜ (r ≡ behindRoot (now (table .entry)) at number) × (r ≤ at + 65538) ⌝ }
 {
     if root_here(table, at, number) {
-        return at + 2 + size_at(sizes, at + 2);
+        return at + bodies::ROOT_SIZE + size_at(sizes, at + bodies::ROOT_SIZE);
     }
     at
 }

@@ -11,7 +11,7 @@ use lib.Seq.{getD-set-same, getD-set-other}
 use lib.Dec.{eqb}
 use borrow.Author.Tests.{lt-ltb, eq-eqb, ne-eqb, eqb-true, eqb-false}
 use Rattle.rules.specs.Record.{u8, u64}
-use Rattle.class_layout.specs.declared.Found.the-variants.{At}
+use Rattle.class_layout.specs.declared.TablePlace.the-variants.{At}
 use Rattle.class_layout.specs.Fragments.{eventKind, isEvent, findEventAt, behindFragment, fragmentsOf, fragmentsFrom, All, AllFragments}
 use Rattle.class_layout.specs.Sizes.{foundOf, SizedFragment, Sized}
 use Rattle.class_layout.proofs.Ahead.{none-left}

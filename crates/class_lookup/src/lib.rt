@@ -1,10 +1,11 @@
 // The lookups: which fragment is the trace class, a stream class or an event class. The first two go over the fragments from the front, by
 // the sizes that `prepare` noted; an event class is looked up in an index that `make_index` fills once per reading.
-use class_layout::Found;
-use class_layout::openings::PREAMBLE;
+use class_layout::TablePlace;
+use numbers::kinds;
 use table_bytes::size_at;
 use table_bytes::u64_at;
 use table_bytes::wide32;
+use table_records::bodies::PREAMBLE_SIZE;
 ghost use mathlib.Core.Path.{_≡_};
 ghost use Prim.Native.Nat.{_+_, _≤_, _<_, _^_};
 ghost use lib.ListN.{length};
@@ -14,12 +15,6 @@ ghost use Rattle.class_lookup.specs.Index.{mixed, homeOf, putFrom, index
 
 // Places of the index: twice as many as there can be event classes (15), so that some are always empty.
 pub const PLACES: usize = 4096;
-
-const TRACE_CLASS: u8 = 2;
-
-const STREAM_CLASS: u8 = 4;
-
-const EVENT_CLASS: u8 = 5;
 
 // 2 to the 32: half of an id.
 const HALF: u64 = 4294967296;
@@ -37,37 +32,43 @@ const ID_HIGH: u64 = 659168895;
 const MIXED: u64 = 2147483648;
 
 // The trace class.
-pub fn find_trace_class(table: &[u8], sizes: &[u16]) -> Found
+pub fn find_trace_class(table: &[u8], sizes: &[u16]) -> TablePlace
     requires { ⌜ Sized (now table) (now sizes) ⌝ }
     ensures { λ r. ⌜ r ≡ foundOf (findTraceAt (now (table .entry)) (fragmentsOf (now (table .entry)))) ⌝ }
 {
-    let mut at = PREAMBLE;
+    let mut at = PREAMBLE_SIZE;
     while at < table.len() {
         if is_trace_class(table, at) {
-            return Found::At(at);
+            return TablePlace::At(at);
         }
         at = at + size_at(sizes, at);
     }
-    Found::Nothing
+    TablePlace::Nothing
 }
 
 // The stream class that has an id.
-pub fn find_stream_class(table: &[u8], sizes: &[u16], id: u64) -> Found
+pub fn find_stream_class(table: &[u8], sizes: &[u16], id: u64) -> TablePlace
     requires { ⌜ Sized (now table) (now sizes) ⌝ }
     ensures { λ r. ⌜ r ≡ foundOf (findStreamAt (now (table .entry)) (fragmentsOf (now (table .entry))) id) ⌝ }
 {
-    let mut at = PREAMBLE;
+    let mut at = PREAMBLE_SIZE;
     while at < table.len() {
         if is_stream_class(table, at, id) {
-            return Found::At(at);
+            return TablePlace::At(at);
         }
         at = at + size_at(sizes, at);
     }
-    Found::Nothing
+    TablePlace::Nothing
 }
 
 // The event class that has both ids: by the index, and where that does not have it, from the front.
-pub fn find_event_class(table: &[u8], sizes: &[u16], index: &[u32], stream: u64, id: u64) -> Found
+pub fn find_event_class(
+    table: &[u8],
+    sizes: &[u16],
+    index: &[u32],
+    stream: u64,
+    id: u64,
+) -> TablePlace
     requires { ⌜ Sized (now table) (now sizes) ⌝ }
     requires { ⌜ Hints (now table) (now index) ⌝ }
     ensures { λ r. ⌜ r ≡ foundOf (findEventAt (now (table .entry)) (fragmentsOf (now (table .entry))) stream id) ⌝ }
@@ -80,7 +81,7 @@ pub fn find_event_class(table: &[u8], sizes: &[u16], index: &[u32], stream: u64,
             break;
         }
         if is_event_class(table, place, stream, id) {
-            return Found::At(place);
+            return TablePlace::At(place);
         }
         at = (at + 1) % PLACES;
         left = left - 1;
@@ -93,7 +94,7 @@ pub fn make_index(table: &[u8], sizes: &[u16], index: &mut [u32])
     requires { ⌜ (Sized (now table) (now sizes)) × (length (now index) ≡ 4096) ⌝ }
     ensures { λ _. ⌜ now (index .exit) ≡ indexed (now (table .entry)) (fragmentsOf (now (table .entry))) (now (index .entry)) ⌝ }
 {
-    let mut at = PREAMBLE;
+    let mut at = PREAMBLE_SIZE;
     while at < table.len() {
         index_one(table, index, at);
         at = at + size_at(sizes, at);
@@ -105,7 +106,7 @@ fn index_one(table: &[u8], index: &mut [u32], at: usize)
     requires { ⌜ (Fragment (now table) at) × (length (now table) ≤ 65536) × (length (now index) ≡ 4096) ⌝ }
     ensures { λ _. ⌜ now (index .exit) ≡ indexOne (now (table .entry)) at (now (index .entry)) ⌝ }
 {
-    if table[at] == EVENT_CLASS {
+    if table[at] == kinds::EVENT_CLASS {
         put(
             index,
             home(u64_at(table, at + 1), u64_at(table, at + 9)),
@@ -151,32 +152,32 @@ fn mix(stream: u64, id: u64) -> u64
 }
 
 // The event class that has both ids, from the front.
-fn search_event_class(table: &[u8], sizes: &[u16], stream: u64, id: u64) -> Found
+fn search_event_class(table: &[u8], sizes: &[u16], stream: u64, id: u64) -> TablePlace
     requires { ⌜ Sized (now table) (now sizes) ⌝ }
     ensures { λ r. ⌜ r ≡ foundOf (findEventAt (now (table .entry)) (fragmentsOf (now (table .entry))) stream id) ⌝ }
 {
-    let mut at = PREAMBLE;
+    let mut at = PREAMBLE_SIZE;
     while at < table.len() {
         if is_event_class(table, at, stream, id) {
-            return Found::At(at);
+            return TablePlace::At(at);
         }
         at = at + size_at(sizes, at);
     }
-    Found::Nothing
+    TablePlace::Nothing
 }
 
 fn is_trace_class(table: &[u8], at: usize) -> bool
     requires { ⌜ at < length (now table) ⌝ }
     ensures { λ r. ⌜ r ≡ isTrace (now (table .entry)) at ⌝ }
 {
-    table[at] == TRACE_CLASS
+    table[at] == kinds::TRACE_CLASS
 }
 
 fn is_stream_class(table: &[u8], at: usize, id: u64) -> bool
     requires { ⌜ (Fragment (now table) at) × (length (now table) ≤ 65536) ⌝ }
     ensures { λ r. ⌜ r ≡ isStream (now (table .entry)) id at ⌝ }
 {
-    if table[at] == STREAM_CLASS {
+    if table[at] == kinds::STREAM_CLASS {
         return u64_at(table, at + 1) == id;
     }
     false
@@ -186,7 +187,7 @@ fn is_event_class(table: &[u8], at: usize, stream: u64, id: u64) -> bool
     requires { ⌜ (Fragment (now table) at) × (length (now table) ≤ 65536) ⌝ }
     ensures { λ r. ⌜ r ≡ isEvent (now (table .entry)) stream id at ⌝ }
 {
-    if table[at] == EVENT_CLASS {
+    if table[at] == kinds::EVENT_CLASS {
         if u64_at(table, at + 1) == stream {
             return u64_at(table, at + 9) == id;
         }

@@ -1,9 +1,10 @@
 // Once per reading: the sizes and alignments of the classes of an accepted table, noted by place, and the sizes of its fragments.
 // From the back, byte by byte: what a class holds stands behind its record, so that its notes are there when the record is met. No
 // recursion is needed, and every class at any depth is noted; bytes that only look like one are noted too, and nobody asks of them.
-use class_layout::openings::PREAMBLE;
 use class_layout::openings::behind_fragment;
 use class_reach::reach_of;
+use numbers::kinds;
+use table_records::bodies::PREAMBLE_SIZE;
 ghost use mathlib.Core.Path.{_≡_};
 ghost use Prim.Native.Nat.{_≤_, _<_};
 ghost use lib.ListN.{length};
@@ -30,7 +31,7 @@ fn note_fragments(table: &[u8], sizes: &mut [u16])
     requires { ⌜ (AllFragments (now table) (fragmentsOf (now table))) × (SizedClasses (now table) (now sizes)) × (length (now table) ≤ 65536) × (length (now table) ≤ length (now sizes)) ⌝ }
     ensures { λ _. ⌜ now (sizes .exit) ≡ noteFragments (now (table .entry)) (fragmentsOf (now (table .entry))) (now (sizes .entry)) ⌝ }
 {
-    let mut at = PREAMBLE;
+    let mut at = PREAMBLE_SIZE;
     while at < table.len() {
         let next = behind_fragment(table, sizes, at);
         sizes[at] = (next - at) as u16;
@@ -57,10 +58,10 @@ fn note_class(table: &[u8], at: usize, sizes: &mut [u16], aligns: &mut [u8])
     ensures { λ _. ⌜ notes (now (sizes .exit)) (now (aligns .exit)) ≡ noteAt (now (table .entry)) at (notes (now (sizes .entry)) (now (aligns .entry))) ⌝ }
 {
     let kind = table[at];
-    if kind < 16 {
+    if kind < kinds::FIRST_CLASS {
         return;
     }
-    if 32 < kind {
+    if kinds::LAST_CLASS < kind {
         return;
     }
     let reach = reach_of(table, at, sizes, aligns);

@@ -1,9 +1,11 @@
 // How far a class reaches: where it ends, and its alignment, by what is noted of the classes behind its record.
 use class_layout::Reach;
 use class_layout::record_size;
+use numbers::kinds;
 use table_bytes::byte;
 use table_bytes::noted_size;
 use table_bytes::wide_byte;
+use table_records::bodies;
 ghost use mathlib.Core.Path.{_≡_};
 ghost use Prim.Native.Nat.{_+_, _≤_, _<_, max};
 ghost use lib.ListN.{length, getD};
@@ -17,40 +19,59 @@ pub fn reach_of(table: &[u8], at: usize, sizes: &[u16], aligns: &[u8]) -> Reach
     ensures { λ r. ⌜ Reaches (now (table .entry)) (notes (now (sizes .entry)) (now (aligns .entry))) at r ⌝ }
 {
     let kind = table[at];
-    if kind < 21 {
+    if kind < kinds::FIRST_OF_BYTES {
         return Reach {
             next: at + record_size(kind),
             align: byte(table, at + 3),
         };
     }
-    if kind < 28 {
+    if kind < kinds::FIRST_THAT_HOLDS {
         return Reach {
             next: at + record_size(kind),
             align: 3,
         };
     }
     match kind {
-        28 => {
-            let members = reach_members(sizes, aligns, at + 3, wide_byte(table, at + 1));
+        kinds::STRUCTURE => {
+            let members = reach_members(
+                sizes,
+                aligns,
+                at + bodies::STRUCTURE_SIZE,
+                wide_byte(table, at + 1),
+            );
             Reach {
                 next: members.next,
                 align: larger(byte(table, at + 2), members.align),
             }
         }
-        29 => Reach {
-            next: end_noted(sizes, at + 4),
-            align: larger(byte(table, at + 3), byte(aligns, at + 4)),
+        kinds::STATIC_ARRAY => Reach {
+            next: end_noted(sizes, at + bodies::STATIC_ARRAY_SIZE),
+            align: larger(
+                byte(table, at + 3),
+                byte(aligns, at + bodies::STATIC_ARRAY_SIZE),
+            ),
         },
-        30 => Reach {
-            next: end_noted(sizes, at + 3),
-            align: larger(byte(table, at + 2), byte(aligns, at + 3)),
+        kinds::DYNAMIC_ARRAY => Reach {
+            next: end_noted(sizes, at + bodies::DYNAMIC_ARRAY_SIZE),
+            align: larger(
+                byte(table, at + 2),
+                byte(aligns, at + bodies::DYNAMIC_ARRAY_SIZE),
+            ),
         },
-        31 => Reach {
-            next: end_noted(sizes, at + 3 + 18 * wide_byte(table, at + 2)),
+        kinds::OPTIONAL => Reach {
+            next: end_noted(
+                sizes,
+                at + bodies::OPTIONAL_SIZE + bodies::RANGE_SIZE * wide_byte(table, at + 2),
+            ),
             align: 0,
         },
         _ => Reach {
-            next: behind_options(table, sizes, at + 3, wide_byte(table, at + 2)),
+            next: behind_options(
+                table,
+                sizes,
+                at + bodies::VARIANT_SIZE,
+                wide_byte(table, at + 2),
+            ),
             align: 0,
         },
     }
@@ -78,7 +99,10 @@ fn behind_options(table: &[u8], sizes: &[u16], at: usize, count: usize) -> usize
     let mut next = at;
     let mut left = count;
     while 0 < left {
-        next = end_noted(sizes, next + 2 + 18 * wide_byte(table, next + 1));
+        next = end_noted(
+            sizes,
+            next + bodies::OPTION_SIZE + bodies::RANGE_SIZE * wide_byte(table, next + 1),
+        );
         left = left - 1;
     }
     next

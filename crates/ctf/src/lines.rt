@@ -3,18 +3,14 @@ use crate::words::say_fault;
 use crate::words::say_kind;
 use crate::words::say_refusal;
 use libc::STDOUT_FILENO;
+use numbers::entries;
+use numbers::faults;
 use rules::ByteLength;
 use rules::Checked;
 use rules::Result;
 use std::num::wrapping_sub_u64;
 ghost use Prim.Native.Nat.{_≤_};
 ghost use lib.ListN.{length};
-
-const SIGNED: u64 = 19;
-
-const LEB128_SIGNED: u64 = 22;
-
-const TABLE_REFUSED: u8 = 20;
 
 // Where the columns of an entry's line end, behind the kind's word: place, bits, value.
 const PLACE_ENDS: usize = 10;
@@ -70,7 +66,7 @@ fn say_entry(kind: u64, place: u64, bits: u64, value: u64) {
 fn value_column(line: &mut [u8], end: usize, kind: u64, value: u64)
     requires { ⌜ end ≤ length (now line) ⌝ }
 {
-    if kind == SIGNED || kind == LEB128_SIGNED {
+    if kind == entries::SIGNED || kind == entries::LEB128_SIGNED {
         signed_column(line, end, value);
         return;
     }
@@ -122,7 +118,7 @@ pub(crate) fn say_result(r: Result) {
     }
     say(b"refused ");
     say_number(r.number as u64);
-    if r.number == TABLE_REFUSED {
+    if r.number == faults::TABLE_REFUSED {
         say(b" at byte ");
     } else {
         say(b" at bit ");

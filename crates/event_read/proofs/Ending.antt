@@ -3,7 +3,7 @@ use mathlib.Core.Path.{_≡_, refl, ap, sym, _∙_}
 use mathlib.Core.List.{List}
 use mathlib.Core.Bool.{Bool, true, false}
 use mathlib.Core.Option.{Option, none, some}
-use Prim.Native.Nat.{ℕ, _+_, _-_, _≤_}
+use Prim.Native.Nat.{ℕ, _-_, _≤_}
 use native.Mathlib.Omega.{arith}
 use lib.ListN.{length, take, replicate, length-take, length-append, length-replicate}
 use lib.Dec.{eqb}
@@ -15,13 +15,13 @@ use Rattle.rules.specs.Verdict.{stopAt}
 use Rattle.rules.specs.declared.Content.the-variants.{Unset}
 use Rattle.rules.specs.Limits.{slotCount, packetSlotCount}
 use Rattle.rules.specs.Slots.{Slots, slot, packetSlots}
-use Rattle.rules.specs.Step.{State as Full, Out, stop, go, Step, onto, after, _⨾_, pass, refuse, check, due, listed, change, withLast}
+use Rattle.rules.specs.Step.{State, Out, stop, go, Step, onto, after, _⨾_, pass, refuse, check, due, listed, change, withLast}
 use Rattle.rules.specs.Field.{Env}
 use Rattle.rules.specs.Table.{StreamClass, EventClass, Asked}
 use Rattle.rules.specs.Packet.{mark, withEvent, startEvent, readEvent}
 use Rattle.rules.specs.Entry.{eventClassFound}
 use Rattle.facts.proofs.Truth.{clash}
-use Rattle.listing.specs.declared.State.{State}
+use Rattle.listing.specs.declared.Progress.{Progress}
 use Rattle.listing.specs.declared.Went.the-variants.{On}
 use Rattle.listing.specs.Did.{full}
 use Rattle.listing.proofs.Parts.{Part}
@@ -36,9 +36,9 @@ use Rattle.event_read.proofs.Evented.{moved, behindStart, event-starts,
 -- Slots 0 to 15
 
 abbrev Keeps : Step → Type 0
-Keeps m = (s : Full) (es : List Entry) (s′ : Full) → m s ≡ go es s′ → packetSlots (s′ .slots) ≡ packetSlots (s .slots)
+Keeps m = (s : State) (es : List Entry) (s′ : State) → m s ≡ go es s′ → packetSlots (s′ .slots) ≡ packetSlots (s .slots)
 
-onto-goes : (es fs : List Entry) (o : Out) (s′ : Full) {X : Type 0} → onto es o ≡ go fs s′ → ((gs : List Entry) → o ≡ go gs s′ → X) → X
+onto-goes : (es fs : List Entry) (o : Out) (s′ : State) {X : Type 0} → onto es o ≡ go fs s′ → ((gs : List Entry) → o ≡ go gs s′ → X) → X
 unfolding onto
 onto-goes es fs (stop gs v) s′ e k = let z : _≡_ {A = ℕ} 0 1 = cc in absurd (omega arith)
 onto-goes es fs (go gs s) s′ e k = let p : s ≡ s′ = cc in k gs (ap (go gs) p)
@@ -51,11 +51,11 @@ then-keeps m n h k s es s′ e = by (m s) refl e
     by (stop fs v) q e = let z : _≡_ {A = ℕ} 0 1 = cc in absurd (omega arith)
     by (go fs r) q e = onto-goes fs es (n r) s′ e (λ gs g. k r gs s′ g ∙ h s fs r q)
 
-change-keeps : (f : Full → Full) → ((s : Full) → packetSlots (f s .slots) ≡ packetSlots (s .slots)) → Keeps (change f)
+change-keeps : (f : State → State) → ((s : State) → packetSlots (f s .slots) ≡ packetSlots (s .slots)) → Keeps (change f)
 unfolding change
 change-keeps f h s es s′ e = let p : f s ≡ s′ = cc in rw (← p) (h s)
 
-check-keeps : (q : Full → Bool) (r : Refusal) → Keeps (check q r)
+check-keeps : (q : State → Bool) (r : Refusal) → Keeps (check q r)
 unfolding check refuse pass
 check-keeps q r s es s′ e = by (q s) e
   where
@@ -95,11 +95,11 @@ module _ (a : Asked) (c : StreamClass) (i : ℕ) (e : Env) (keeps : KeepsSlots a
   unfolding bodyOf withLast
   body-keeps = then-keeps _ _ (check-keeps _ _) (then-keeps _ _ (change-keeps _ (λ s. refl)) (then-keeps _ _ due-keeps look-keeps))
 
-  behind-keeps : (st : State) → Keeps (behindStart a c e st)
+  behind-keeps : (st : Progress) → Keeps (behindStart a c e st)
   unfolding behindStart moved
   behind-keeps st = then-keeps _ _ (keeps .header i c found e) (then-keeps _ _ body-keeps (check-keeps _ _))
 
-  pub event-keeps : (n : ℕ) (st : State) (l : Slots) (room : ℕ) → 4 ≤ room → length l ≡ slotCount → (es : List Entry) (s′ : Full)
+  pub event-keeps : (n : ℕ) (st : Progress) (l : Slots) (room : ℕ) → 4 ≤ room → length l ≡ slotCount → (es : List Entry) (s′ : State)
       → readEvent a c e n (full st l room) ≡ go es s′ → packetSlots (s′ .slots) ≡ packetSlots l
   unfolding startEvent
   event-keeps n st l room h many es s′ q =
@@ -117,9 +117,8 @@ packet-length l n =
     )
 
 -- the place moved, and slots 0 to 15 are as they were
-event-done : (a : Asked) (c : StreamClass) (i : ℕ) (e : Env) → KeepsSlots a → a .stream i ≡ some c → (n : ℕ) (came : State) (l₀ : Slots)
-    {ws₀ ws : List ℕ}
-    {used : ℕ} {st : State} {l : Slots} → 4 ≤ length ws₀ → length l₀ ≡ slotCount
+event-done : (a : Asked) (c : StreamClass) (i : ℕ) (e : Env) → KeepsSlots a → a .stream i ≡ some c → (n : ℕ) (came : Progress) (l₀ : Slots)
+    {ws₀ ws : List ℕ} {used : ℕ} {st : Progress} {l : Slots} → 4 ≤ length ws₀ → length l₀ ≡ slotCount
     → Part (readEvent a c e n (full came l₀ (length ws₀))) (moved came) ws₀ ws used st l → (st .place .0 ≡ came .place .0 → ⊥)
     → EventDid (readEvent a c e n) came l₀ (record { went = On; used = used; state = st }) ws₀ ws
 unfolding onto
@@ -130,11 +129,10 @@ event-done a c i e keeps found n came l₀ {ws₀} {ws} {used} {st} {l} h many p
     on
 
 -- the event's end, whether the place moved or not
-pub event-ended : (a : Asked) (c : StreamClass) (i : ℕ) (e : Env) → KeepsSlots a → a .stream i ≡ some c → (n : ℕ) (came : State)
-    (l₀ : Slots)
-    {ws₀ ws : List ℕ} {used : ℕ} {st : State} {l : Slots} → 4 ≤ length ws₀ → length l₀ ≡ slotCount
-    → Part (readEvent a c e n (full came l₀ (length ws₀))) (moved came) ws₀ ws used st l → EventDid (readEvent a c e n) came l₀
-    (endedRan used st came) ws₀ ws
+pub event-ended : (a : Asked) (c : StreamClass) (i : ℕ) (e : Env) → KeepsSlots a → a .stream i ≡ some c → (n : ℕ) (came : Progress)
+    (l₀ : Slots) {ws₀ ws : List ℕ} {used : ℕ} {st : Progress} {l : Slots} → 4 ≤ length ws₀ → length l₀ ≡ slotCount
+    → Part (readEvent a c e n (full came l₀ (length ws₀))) (moved came) ws₀ ws used st l
+    → EventDid (readEvent a c e n) came l₀ (endedRan used st came) ws₀ ws
 unfolding endedRan
 event-ended a c i e keeps found n came l₀ {ws₀} {ws} {used} {st} {l} h many p = by (eqb (st .place .0) (came .place .0)) refl
   where

@@ -6,25 +6,24 @@ use mathlib.Core.List.{List, [], _∷_, _++_, append-nil}
 use mathlib.Core.Bool.{_&&_}
 use lib.ListN.{length, drop, take, replicate, length-take}
 use lib.Seq.{take-at}
-use Rattle.rules.specs.declared.Content.the-variants.{Unset}
-use Rattle.rules.specs.Slots.{slot}
-use Rattle.rules.specs.Limits.{slotCount, packetSlotCount}
 use lib.Dec.{ltb, eqb}
 use borrow.Author.Tests.{eq-eqb, ne-eqb}
+use Rattle.rules.specs.declared.Content.the-variants.{Unset}
 use Rattle.rules.specs.declared.Stop.{Stop}
 use Rattle.rules.specs.declared.Refusal.the-variants.{ClockWentBack, EventTookNoBits, ListFull}
 use Rattle.rules.specs.Verdict.{stopAt}
-use Rattle.rules.specs.Slots.{Slots, packetSlots}
+use Rattle.rules.specs.Limits.{slotCount, packetSlotCount}
+use Rattle.rules.specs.Slots.{Slots, slot, packetSlots}
 use Rattle.rules.specs.Entry.{entry, words, eventStarts, eventClassFound}
-use Rattle.rules.specs.Step.{State as Full, Out, stop, go, Step, onto, after, _⨾_, refuse, check, due, listed, change, withLast}
+use Rattle.rules.specs.Step.{stop, go, Step, onto, after, _⨾_, refuse, check, due, listed, change, withLast}
 use Rattle.rules.specs.Field.{Env}
 use Rattle.rules.specs.Table.{StreamClass, Asked}
 use Rattle.rules.specs.Packet.{mark, readRoot, withEvent, startEvent, readEvent}
-use Rattle.facts.proofs.Steps.{after-onto}
-use Rattle.leaf_find_number.specs.declared.Frame.{Frame}
-use Rattle.listing.specs.declared.State.{State}
+use Rattle.facts.proofs.Steps.{seq-assoc}
+use Rattle.frame.specs.declared.Frame.{Frame}
+use Rattle.listing.specs.declared.Progress.{Progress}
 use Rattle.listing.specs.declared.Went.the-variants.{On}
-use Rattle.leaf_find_number.specs.Framed.{Framed, envOf}
+use Rattle.frame.specs.Framed.{Framed, envOf}
 use Rattle.listing.specs.Did.{full, outOf}
 use Rattle.listing.proofs.Checks.{check-stops, check-goes, room-first, no-room-first}
 use Rattle.listing.proofs.Roles.{went-no-further}
@@ -38,48 +37,36 @@ use Rattle.listing.proofs.Marks.{change-on}
 use Rattle.outcome.proofs.Parted.{Parted}
 
 -- a step that stopped with nothing listed
-pub nothing-did : (M : Step) (st : State) (l : Slots) (ws : List ℕ) (v : Stop) → M (full st l (length ws)) ≡ stop [] v
+pub nothing-did : (M : Step) (st : Progress) (l : Slots) (ws : List ℕ) (v : Stop) → M (full st l (length ws)) ≡ stop [] v
     → EventDid M st l (stoppedRan v 0 st) ws ws
 nothing-did M st l ws v e = record { slots = l; kept = refl; did = went-no-further _ st l v ws e }
 
--- steps in a row, however they are bracketed
-seq-same : (m g g′ : Step) (s : Full) → ((s : Full) → g s ≡ g′ s) → (m ⨾ g) s ≡ (m ⨾ g′) s
-unfolding _⨾_ after
-seq-same m g g′ s h = by (m s)
-  where
-    by : (o : Out) → after o g ≡ after o g′
-    by (stop es v) = refl
-    by (go es s) = ap (onto es) (h s)
-
-pub seq-assoc : (a b c : Step) (s : Full) → ((a ⨾ b) ⨾ c) s ≡ (a ⨾ (b ⨾ c)) s
-unfolding _⨾_ after
-seq-assoc a b c s = by (a s)
-  where
-    by : (o : Out) → after (after o b) c ≡ after o (λ s. after (b s) c)
-    by (stop es v) = refl
-    by (go es s) = after-onto es (b s) c
-
 -- "38 if the place did not move"
-unfoldable pub moved : State → Step
+unfoldable pub moved : Progress → Step
 moved st = check (λ s. eqb (s .place .0) (st .place .0)) EventTookNoBits
 
 -- an event behind entry 4: its header, its body, and 38
-unfoldable pub behindStart : Asked → StreamClass → Env → State → Step
+unfoldable pub behindStart : Asked → StreamClass → Env → Progress → Step
 behindStart a c e st = readRoot e (c .header) ⨾ (bodyOf a c e ⨾ moved st)
 
-module _ (a : Asked) (c : StreamClass) (e : Env) (n : ℕ) (st : State) (l : Slots) (room : ℕ) where
+module _ (a : Asked) (c : StreamClass) (e : Env) (n : ℕ) (st : Progress) (l : Slots) (room : ℕ) where
   abbrev Look : Step
   Look s = withEvent (c .id) (s .said .event) (a .event (c .id) (s .said .event))
       (λ d. mark eventClassFound 0 (s .said .event) ⨾ readRoot e (c .common) ⨾ readRoot e (d .specific) ⨾ readRoot e (d .payload)) s
 
-  tail : (s : Full)
-      → (check (λ s. c .timed && ltb (s .clock) (s .last)) ClockWentBack ⨾
-      (change (λ s. withLast (s .clock) s) ⨾ (due ⨾ (Look ⨾ moved st)))) s
-      ≡ (bodyOf a c e ⨾ moved st) s
+  abbrev Back : Step
+  Back = check (λ s. c .timed && ltb (s .clock) (s .last)) ClockWentBack
+
+  abbrev Hold : Step
+  Hold = change (λ s. withLast (s .clock) s)
+
+  -- its body is one step, and 38 comes behind it
+  body-first : (Back ⨾ (Hold ⨾ (due ⨾ (Look ⨾ moved st)))) ≡ (bodyOf a c e ⨾ moved st)
   unfolding bodyOf partsOf
-  tail s =
-      seq-same _ _ _ s (λ s. seq-same _ _ _ s (λ s. sym (seq-assoc due Look (moved st) s)) ∙ sym (seq-assoc _ (due ⨾ Look) (moved st) s))
-      ∙ sym (seq-assoc _ (change (λ s. withLast (s .clock) s) ⨾ (due ⨾ Look)) (moved st) s)
+  body-first =
+      let m = moved st in
+      sym (seq-assoc Back (Hold ⨾ (due ⨾ Look)) m
+      ∙ ap (λ (k : Step). Back ⨾ k) (seq-assoc Hold (due ⨾ Look) m ∙ ap (λ (k : Step). Hold ⨾ k) (seq-assoc due Look m)))
 
   pub event-full : room < 4 → readEvent a c e n (full st l room) ≡ stop [] (stopAt ListFull (st .place))
   unfolding readEvent refuse
@@ -90,8 +77,7 @@ module _ (a : Asked) (c : StreamClass) (e : Env) (n : ℕ) (st : State) (l : Slo
   unfolding readEvent behindStart moved
   event-starts h =
       room-first _ (full st l room) h
-      ∙ seq-same (mark eventStarts 0 n) _ _ (full st l room)
-      (λ s. seq-same (change startEvent) _ _ s (λ s. seq-same (readRoot e (c .header)) _ _ s tail))
+      ∙ ap (λ (m : Step). (mark eventStarts 0 n ⨾ (change startEvent ⨾ (readRoot e (c .header) ⨾ m))) (full st l room)) body-first
 
 -- slots 16 to 63 are unset once
 pub unset-again : (l : Slots) → length l ≡ slotCount → packetSlots (packetSlots l) ≡ packetSlots l
@@ -102,7 +88,7 @@ unset-again l h =
     (omega (arith, length-take packetSlotCount l)))
 
 -- entry 4 stands in front
-module _ (a : Asked) (c : StreamClass) (b u : List ℕ) (f : Frame) (n : ℕ) (st : State) (l : Slots) (ws ws₁ : List ℕ) (h : 4 ≤ length ws)
+module _ (a : Asked) (c : StreamClass) (b u : List ℕ) (f : Frame) (n : ℕ) (st : Progress) (l : Slots) (ws ws₁ : List ℕ) (h : 4 ≤ length ws)
     (many : length l ≡ slotCount) (framed : Framed b f (st .place)) (e : ws₁ ≡ words (entry eventStarts (st .place) 0 n ∷ []) ++ drop 4 ws)
   where
     abbrev Event : Step
@@ -127,7 +113,7 @@ module _ (a : Asked) (c : StreamClass) (b u : List ℕ) (f : Frame) (n : ℕ) (s
     }
 
 -- what is left lists nothing: it stops, or the event is done
-module _ (m M : Step) (came : State) (l₀ : Slots) {ws₀ ws : List ℕ} {used : ℕ} {st : State} {l : Slots}
+module _ (m M : Step) (came : Progress) (l₀ : Slots) {ws₀ ws : List ℕ} {used : ℕ} {st : Progress} {l : Slots}
     (p : Part (M (full came l₀ (length ws₀))) m ws₀ ws used st l) where
   pub left-stops : (v : Stop) → m (full st l (length ws₀ - used)) ≡ stop [] v → EventDid M came l₀ (stoppedRan v used came) ws₀ ws
   unfolding onto outOf
@@ -160,7 +146,7 @@ module _ (m M : Step) (came : State) (l₀ : Slots) {ws₀ ws : List ℕ} {used 
     };
   }
 
-module _ (st₀ st : State) (l : Slots) (room : ℕ) where
+module _ (st₀ st : Progress) (l : Slots) (room : ℕ) where
   pub not-moved : st .place .0 ≡ st₀ .place .0 → moved st₀ (full st l room) ≡ stop [] (stopAt EventTookNoBits (st .place))
   unfolding moved refuse
   not-moved h = check-stops _ EventTookNoBits (full st l room) (eq-eqb _ _ h)

@@ -1,4 +1,3 @@
 pub mod Evented
 mod Ending
 mod Rounds
-mod Told

@@ -1,44 +1,43 @@
 -- An event's loop: the rounds of a run (field_read's Round), with runs put off, and behind all of them the turns that are left and 38.
 -- In order: what the loop is given and keeps; how it begins; a turn; runs put off; how it ends.
-use mathlib.Core.Path.{_≡_, refl, sym, subst, _∙_}
+use mathlib.Core.Path.{_≡_, refl, sym}
 use mathlib.Core.List.{List}
 use mathlib.Core.Bool.{Bool, true, false}
-use borrow.Author.Tests.{ltb-true}
-use Rattle.facts.proofs.Truth.{clash}
 use Prim.Native.Nat.{ℕ, _+_, _-_, _≤_, _<_}
 use native.Mathlib.Omega.{arith}
 use lib.ListN.{length, getD, set, length-set}
+use borrow.Author.Tests.{ltb-true}
 use Rattle.rules.specs.declared.Stop.{Stop}
 use Rattle.rules.specs.Limits.{slotCount, depthLimit}
 use Rattle.rules.specs.Slots.{Slots, packetSlots}
 use Rattle.rules.specs.Step.{Out, Step, _⨾_}
 use Rattle.rules.specs.Field.{Env}
+use Rattle.facts.proofs.Truth.{clash}
 use Rattle.class_layout.specs.Fragments.{askedAt, streamClassAt}
 use Rattle.class_layout.specs.Notes.{Notes, Prepared}
 use Rattle.class_layout.specs.Sizes.{Sized}
-use Rattle.leaf_find_number.specs.declared.Frame.{Frame}
-use Rattle.leaf_find_number.specs.Framed.{Framed, envOf}
-use Rattle.listing.specs.declared.State.{State}
+use Rattle.frame.specs.declared.Frame.{Frame}
+use Rattle.frame.specs.Framed.{envOf}
+use Rattle.listing.specs.declared.Progress.{Progress}
 use Rattle.listing.specs.declared.Went.the-variants.{On, Stopped}
 use Rattle.listing.specs.Did.{Did, full}
 use Rattle.listing.proofs.Parts.{Part, lent, merged}
 use Rattle.field_runs.specs.declared.Run.{Run}
 use Rattle.field_runs.specs.Run.{over}
-use Rattle.field_runs.specs.Ahead.{ahead, WholeRun}
+use Rattle.field_runs.specs.Ahead.{WholeRun}
 use Rattle.field_read.specs.Reads.{stateAt}
-use Rattle.field_read.proofs.Round.{Loop, Round, Stops, round-over}
-use Rattle.field_read.proofs.Apart.{noRun, apartFrom, heaped, Standing, none-standing, heap-start, push-round, pop-round, heap-end}
+use Rattle.field_read.proofs.Round.{Loop, Round, Stops}
+use Rattle.field_read.proofs.Apart.{noRun, apartFrom, piled, Standing, none-standing, pile-start, push-round, pop-round, pile-end}
 use Rattle.outcome.specs.Ran.{EventDid, stoppedRan}
 use Rattle.outcome.proofs.Parted.{Parted}
 use Rattle.event_turns.specs.declared.Asking.{Asking}
 use Rattle.event_turns.specs.declared.Turn.{Turn}
 use Rattle.event_turns.specs.Event.{heldTo}
-use Rattle.event_turns.specs.Left.{headerRun, turns, turnLeft, Gives}
-use Rattle.event_turns.specs.Ready.{Ready, OfStream}
+use Rattle.event_turns.specs.Left.{headerRun, turns, Gives}
+use Rattle.event_turns.specs.Ready.{OfStream}
 use Rattle.event_turns.specs.Turns.{turnsAt, Known}
-use Rattle.event_turns.proofs.Turned.{turn-did, turn-next, turns-end, turn-room, turn-same, turn-stops, turn-goes, header-begins}
-use Rattle.event_turns.proofs.Turned.{header-stands}
-use Rattle.event_turns.proofs.Turned.{known-first}
+use Rattle.event_turns.proofs.Turned.{turnOf, turn-did, known-first, header-stands, header-begins, turn-next, turns-end}
+use Rattle.event_turns.proofs.Turned.{turn-room, turn-same, turn-stops, turn-goes}
 use Rattle.event_read.specs.Start.{startState, runs, opensAt}
 use Rattle.event_read.proofs.Evented.{moved, behindStart}
 
@@ -50,7 +49,7 @@ pub record Given : Type 0 where
   pub table : List ℕ
   pub notes : Notes
   pub asking : Asking
-  pub begun : State
+  pub begun : Progress
 
 abbrev pub envGiven : Given → Env
 envGiven g = envOf (g .stream) (g .uuid) (g .frame)
@@ -70,25 +69,23 @@ eventLoop g all ws₀ class turn = record {
 }
 
 -- what a round keeps
-pub record EventRound (g : Given) (all : Out) (ws₀ : List ℕ) (class turn : ℕ) (run : Run) (heap : List Run) (off : ℕ) (ws : List ℕ)
-    (used : ℕ)
-    (st : State) (l : Slots) : Type 0 where
+pub record EventRound (g : Given) (all : Out) (ws₀ : List ℕ) (class turn : ℕ) (run : Run) (pile : List Run) (off : ℕ) (ws : List ℕ)
+    (used : ℕ) (st : Progress) (l : Slots) : Type 0 where
   pub early : turn ≤ turns
   pub few : off ≤ runs
-  pub size : length heap ≡ runs
+  pub size : length pile ≡ runs
   pub known : Known (g .table) (g .notes .sizes) turn class
-  pub standing : Standing (eventLoop g all ws₀ class turn) heap off
-  pub round : Round (heaped (eventLoop g all ws₀ class turn) heap off) run ws used st l
+  pub standing : Standing (eventLoop g all ws₀ class turn) pile off
+  pub round : Round (piled (eventLoop g all ws₀ class turn) pile off) run ws used st l
 
-module _ {g : Given} {all : Out} {ws₀ : List ℕ} {class turn : ℕ} {run : Run} {heap : List Run} {off : ℕ} {ws : List ℕ} {used : ℕ}
-    {st : State}
-    {l : Slots} (h : EventRound g all ws₀ class turn run heap off ws used st l) where
+module _ {g : Given} {all : Out} {ws₀ : List ℕ} {class turn : ℕ} {run : Run} {pile : List Run} {off : ℕ} {ws : List ℕ} {used : ℕ}
+    {st : Progress} {l : Slots} (h : EventRound g all ws₀ class turn run pile off ws used st l) where
   abbrev here : Loop
   here = eventLoop g all ws₀ class turn
 
   -- the same turn, and the same runs put off
-  pub gone-on : {run′ : Run} {ws′ : List ℕ} {used′ : ℕ} {st′ : State} {l′ : Slots} → Round (heaped here heap off) run′ ws′ used′ st′ l′
-      → EventRound g all ws₀ class turn run′ heap off ws′ used′ st′ l′
+  pub gone-on : {run′ : Run} {ws′ : List ℕ} {used′ : ℕ} {st′ : Progress} {l′ : Slots} → Round (piled here pile off) run′ ws′ used′ st′ l′
+      → EventRound g all ws₀ class turn run′ pile off ws′ used′ st′ l′
   gone-on r = record {
     early = h .early;
     few = h .few;
@@ -99,11 +96,11 @@ module _ {g : Given} {all : Out} {ws₀ : List ℕ} {class turn : ℕ} {run : Ru
   }
 
   -- a run is put off for another
-  pub put-off : {rest run′ : Run} {ws′ : List ℕ} {used′ : ℕ} {st′ : State} {l′ : Slots} → off < runs
-      → WholeRun depthLimit (g .table) rest → Round (apartFrom (heaped here heap off) rest) run′ ws′ used′ st′ l′
-      → EventRound g all ws₀ class turn run′ (set heap off rest) (off + 1) ws′ used′ st′ l′
+  pub put-off : {rest run′ : Run} {ws′ : List ℕ} {used′ : ℕ} {st′ : Progress} {l′ : Slots} → off < runs
+      → WholeRun depthLimit (g .table) rest → Round (apartFrom (piled here pile off) rest) run′ ws′ used′ st′ l′
+      → EventRound g all ws₀ class turn run′ (set pile off rest) (off + 1) ws′ used′ st′ l′
   put-off {rest} some stands r =
-      let q = push-round here heap off rest (omega (arith, h .size)) (h .standing) stands r in
+      let q = push-round here pile off rest (omega (arith, h .size)) (h .standing) stands r in
       record {
         early = h .early;
         few = omega arith;
@@ -114,9 +111,9 @@ module _ {g : Given} {all : Out} {ws₀ : List ℕ} {class turn : ℕ} {run : Ru
       }
 
   -- and comes back
-  pub come-back : 0 < off → over run ≡ true → EventRound g all ws₀ class turn (getD heap (off - 1) noRun) heap (off - 1) ws used st l
+  pub come-back : 0 < off → over run ≡ true → EventRound g all ws₀ class turn (getD pile (off - 1) noRun) pile (off - 1) ws used st l
   come-back some e =
-      let q = pop-round here heap off some (h .standing) (h .round) e in
+      let q = pop-round here pile off some (h .standing) (h .round) e in
       record {
         early = h .early;
         few = omega (arith, h .few);
@@ -127,12 +124,12 @@ module _ {g : Given} {all : Out} {ws₀ : List ℕ} {class turn : ℕ} {run : Ru
       }
 
   -- none is put off
-  pub none-off : off ≡ 0 → EventRound g all ws₀ class turn run heap 0 ws used st l
+  pub none-off : off ≡ 0 → EventRound g all ws₀ class turn run pile 0 ws used st l
   none-off e = rw e at h
 
-pub still-none : {g : Given} {all : Out} {ws₀ : List ℕ} {class turn : ℕ} {run : Run} {heap : List Run} {off : ℕ} {ws : List ℕ} {used : ℕ}
-    {st : State} {l : Slots} → off ≡ 0 → EventRound g all ws₀ class turn run heap 0 ws used st l
-    → EventRound g all ws₀ class turn run heap off ws used st l
+pub still-none : {g : Given} {all : Out} {ws₀ : List ℕ} {class turn : ℕ} {run : Run} {pile : List Run} {off : ℕ} {ws : List ℕ} {used : ℕ}
+    {st : Progress} {l : Slots} → off ≡ 0 → EventRound g all ws₀ class turn run pile 0 ws used st l
+    → EventRound g all ws₀ class turn run pile off ws used st l
 still-none e h = rw e h
 
 -- What a loop has to do that lists nothing: the turns that are left, and the runs that were put off
@@ -151,11 +148,11 @@ pub begun-round : (g : Given) (m : Step) (l : Slots) (ws ws₁ : List ℕ) → O
     → Parted (g .stream) (g .frame) m
     (behindStart (askedAt (g .table)) (streamClassAt (g .table) (g .asking .class)) (envGiven g) (g .begun)) (g .begun) l ws ws₁ 4
     (startState (g .begun)) (packetSlots l)
-    → {st₁ : State} {l₁ : Slots} {run₁ : Run} → st₁ ≡ startState (g .begun) → l₁ ≡ packetSlots l → run₁ ≡ headerRun (g .asking)
-    → (heap : List Run) → length heap ≡ runs
-    → EventRound g (m (full (g .begun) l (length ws))) ws 0 1 run₁ heap 0 ws₁ 4 (stateAt (g .begun .place) (g .begun .order) st₁) l₁
+    → {st₁ : Progress} {l₁ : Slots} {run₁ : Run} → st₁ ≡ startState (g .begun) → l₁ ≡ packetSlots l → run₁ ≡ headerRun (g .asking)
+    → (pile : List Run) → length pile ≡ runs
+    → EventRound g (m (full (g .begun) l (length ws))) ws 0 1 run₁ pile 0 ws₁ 4 (stateAt (g .begun .place) (g .begun .order) st₁) l₁
 unfolding behindStart
-begun-round g m l ws ws₁ of noted many p is-state is-slots is-run heap size =
+begun-round g m l ws ws₁ of noted many p is-state is-slots is-run pile size =
     let all = m (full (g .begun) l (length ws)) in
     let loop = eventLoop g all ws 0 1 in
     let begins = header-begins (g .table) (g .asking) (envGiven g) 0 (moved (g .begun)) of in
@@ -164,8 +161,8 @@ begun-round g m l ws ws₁ of noted many p is-state is-slots is-run heap size =
       few = omega arith;
       size = size;
       known = known-first (g .table) (g .notes .sizes) 0;
-      standing = none-standing loop heap;
-      round = heap-start heap record {
+      standing = none-standing loop pile;
+      round = pile-start pile record {
         stands = header-stands (g .table) (g .asking) of;
         noted = noted;
         framed = p .framed;
@@ -174,55 +171,47 @@ begun-round g m l ws ws₁ of noted many p is-state is-slots is-run heap size =
       };
     }
 
--- The loop stopped, with so many words listed
-abbrev pub EventStops : Out → List ℕ → Stop → ℕ → List ℕ → Type 0
-EventStops all ws₀ v n ws = (came : State) (l : Slots) → Did all came (Stopped v) n came l ws₀ ws
-
--- what stopped hands on no slots
-pub event-stopped : (m : Step) (came : State) (l : Slots) {ws₀ ws : List ℕ} {v : Stop} {n : ℕ}
-    → EventStops (m (full came l (length ws₀))) ws₀ v n ws → EventDid m came l (stoppedRan v n came) ws₀ ws
-event-stopped m came l stops = record { slots = l; kept = refl; did = stops came l }
+-- What stopped hands on no slots
+pub event-stopped : (m : Step) (came : Progress) (l : Slots) {ws₀ ws : List ℕ} {v : Stop} {n : ℕ}
+    → Did (m (full came l (length ws₀))) came (Stopped v) n came l ws₀ ws → EventDid m came l (stoppedRan v n came) ws₀ ws
+event-stopped m came l did = record { slots = l; kept = refl; did = did }
 
 -- A turn
-pub record TurnRound (g : Given) (all : Out) (ws₀ : List ℕ) (turn : ℕ) (heap : List Run) (ws : List ℕ) (used : ℕ) (st : State) (l : Slots)
-    (r : Turn) (ys : List ℕ) : Type 0 where
+pub record TurnRound (g : Given) (all : Out) (ws₀ : List ℕ) (class turn : ℕ) (pile : List Run) (ws : List ℕ) (used : ℕ) (st : Progress)
+    (l : Slots) (r : Turn) (ys : List ℕ) : Type 0 where
   pub room : used + r .used ≤ length ws₀
   pub same : length (merged used ws ys) ≡ length ws₀
   pub rises : r .went ≡ On → (turn < r .turn) × (r .turn ≤ turns)
-  pub stops : (v : Stop) → r .went ≡ Stopped v → EventStops all ws₀ v (used + r .used) (merged used ws ys)
-  pub goes : r .went ≡ On → EventRound g all ws₀ (r .class) (r .turn) (r .run) heap 0 (merged used ws ys) (used + r .used)
+  pub stops : (v : Stop) → r .went ≡ Stopped v → Stops (eventLoop g all ws₀ class turn) v (used + r .used) (merged used ws ys)
+  pub goes : r .went ≡ On → EventRound g all ws₀ (r .class) (r .turn) (r .run) pile 0 (merged used ws ys) (used + r .used)
       (heldTo (r .last) st) l
 
-pub turn-round : {g : Given} {all : Out} {ws₀ : List ℕ} {class turn : ℕ} {run : Run} {heap : List Run} {ws : List ℕ} {used : ℕ}
-    {st : State}
-    {l : Slots} → EventRound g all ws₀ class turn run heap 0 ws used st l → Sized (g .table) (g .notes .sizes)
-    → OfStream (g .table) (g .asking)
-    → over run ≡ true → turn < turns → {r : Turn} {ys : List ℕ}
-    → Gives (turnLeft (g .table) (g .asking) turn class (st .place) (st .clock .value) (st .last) (st .said .event)
-    (length (lent used ws))) r
-    (lent used ws) ys
-    → TurnRound g all ws₀ turn heap ws used st l r ys
-turn-round {g} {all} {ws₀} {class} {turn} {run} {heap} {ws} {used} {st} {l} h sized of done left {r} {ys} gave =
+pub turn-round : {g : Given} {all : Out} {ws₀ : List ℕ} {class turn : ℕ} {run : Run} {pile : List Run} {ws : List ℕ} {used : ℕ}
+    {st : Progress} {l : Slots} → EventRound g all ws₀ class turn run pile 0 ws used st l → Sized (g .table) (g .notes .sizes)
+    → OfStream (g .table) (g .asking) → over run ≡ true → turn < turns → {r : Turn} {ys : List ℕ}
+    → Gives (turnOf (g .table) (g .asking) turn class st (length (lent used ws))) r (lent used ws) ys
+    → TurnRound g all ws₀ class turn pile ws used st l r ys
+turn-round {g} {all} {ws₀} {class} {turn} {run} {pile} {ws} {used} {st} {l} h sized of done left {r} {ys} gave =
     let t = g .table in
     let s = g .notes .sizes in
     let w = g .asking in
     let e = envGiven g in
     let m = moved (g .begun) in
-    let round = heap-end heap (h .round) in
+    let round = pile-end pile (h .round) in
     let p : Part all (turnsAt t w e class turn ⨾ m) ws₀ ws used st l = rw (turn-next t w e class m run turn done) at (round .part) in
     let d = turn-did t s w sized of class st l e (lent used ws) turn (h .known) r ys gave in
     record {
       room = turn-room t s w e turn class m p d;
       same = turn-same t s w e turn class m p d;
-      rises = λ on. d .rises on (h .known .0) left;
+      rises = λ on. d .rises on left;
       stops = λ v off. turn-stops t s w e turn class m p d v off;
       goes = λ on. record {
-        early = d .rises on (h .known .0) left .1;
+        early = d .rises on left .1;
         few = omega arith;
         size = h .size;
         known = d .known on;
-        standing = none-standing (eventLoop g all ws₀ (r .class) (r .turn)) heap;
-        round = heap-start heap record {
+        standing = none-standing (eventLoop g all ws₀ (r .class) (r .turn)) pile;
+        round = pile-start pile record {
           stands = d .stands on;
           noted = h .round .noted;
           framed = h .round .framed;
@@ -233,9 +222,8 @@ turn-round {g} {all} {ws₀} {class} {turn} {run} {heap} {ws} {used} {st} {l} h 
     }
 
 -- How it ends: 38 is left
-pub round-ends : {g : Given} {all : Out} {ws₀ : List ℕ} {class turn : ℕ} {run : Run} {heap : List Run} {ws : List ℕ} {used : ℕ}
-    {st : State}
-    {l : Slots} → EventRound g all ws₀ class turn run heap 0 ws used st l → over run ≡ true → turns ≤ turn
+pub round-ends : {g : Given} {all : Out} {ws₀ : List ℕ} {class turn : ℕ} {run : Run} {pile : List Run} {ws : List ℕ} {used : ℕ}
+    {st : Progress} {l : Slots} → EventRound g all ws₀ class turn run pile 0 ws used st l → over run ≡ true → turns ≤ turn
     → Part all (moved (g .begun)) ws₀ ws used st l
-round-ends {g} {class = class} {turn = turn} {run = run} {heap = heap} h done none =
-    rw (turns-end (g .table) (g .asking) (envGiven g) class (moved (g .begun)) run turn done none) at (heap-end heap (h .round) .part)
+round-ends {g} {class = class} {turn = turn} {run = run} {pile = pile} h done none =
+    rw (turns-end (g .table) (g .asking) (envGiven g) class (moved (g .begun)) run turn done none) at (pile-end pile (h .round) .part)

@@ -4,13 +4,13 @@ use Prim.Native.Nat.{ℕ}
 use lib.Dec.{eqb, ltb}
 use Rattle.rules.specs.declared.Refusal.the-variants.{EventTookNoBits}
 use Rattle.rules.specs.Verdict.{stopAt}
-use Rattle.listing.specs.declared.State.{State}
+use Rattle.listing.specs.declared.Progress.{Progress}
 use Rattle.listing.specs.declared.Went.the-variants.{On}
 use Rattle.outcome.specs.declared.Ran.{Ran}
 use Rattle.outcome.specs.Ran.{stoppedRan}
 
 -- the state of an event that starts: its id is 0 until its header says one
-abbrev pub startState : State → State
+abbrev pub startState : Progress → Progress
 startState st = record {
   place = st .place;
   order = st .order;
@@ -28,7 +28,7 @@ unfoldable pub opensAt : Bool → ℕ → Bool
 opensAt here off = elim here [ true ↦ true | false ↦ ltb off runs ]
 
 -- an event that ends in a state with so many words listed, by the state in which it began: 38, if the place did not move
-unfoldable pub endedRan : ℕ → State → State → Ran
+unfoldable pub endedRan : ℕ → Progress → Progress → Ran
 endedRan n st came = elim (eqb (st .place .0) (came .place .0)) [
   | true ↦ stoppedRan (stopAt EventTookNoBits (st .place)) n came
   | false ↦ record { went = On; used = n; state = st }

@@ -17,11 +17,11 @@ use Rattle.rules.specs.Step.{stop, _⨾_, refuse, withLast}
 use Rattle.rules.specs.Field.{Env}
 use Rattle.rules.specs.Table.{StreamClass, EventClass, Asked}
 use Rattle.rules.specs.Packet.{mark, withEvent}
-use Rattle.listing.specs.declared.State.{State}
+use Rattle.listing.specs.declared.Progress.{Progress}
 use Rattle.listing.specs.Did.{full}
 use Rattle.listing.proofs.Checks.{room-first}
-use Rattle.class_layout.specs.declared.Found.{Found}
-use Rattle.class_layout.specs.declared.Found.the-variants.{At, Nothing}
+use Rattle.class_layout.specs.declared.TablePlace.{TablePlace}
+use Rattle.class_layout.specs.declared.TablePlace.the-variants.{At, Nothing}
 use Rattle.class_layout.specs.Fragments.{mapOption, streamClassAt, eventClassAt, findEventAt, fragmentsOf, isEvent, askedAt}
 use Rattle.class_layout.specs.Sizes.{foundOf, SizedFragment, Sized}
 use Rattle.class_layout.proofs.Lookups.{found-some, found-none, first-holds}
@@ -39,10 +39,10 @@ pub behind-first : (turn : ℕ) → 1 ≤ turn → (turn ≡ 1 → ⊥) → 2 �
 behind-first turn h k = omega (arith, h, k)
 
 -- the clock of an event is the one that the next event's is held to
-abbrev pub settled : State → State
+abbrev pub settled : Progress → Progress
 settled st = heldTo (st .clock .value) st
 
-module _ (a : Asked) (c : StreamClass) (e : Env) (st : State) (l : Slots) (room : ℕ) where
+module _ (a : Asked) (c : StreamClass) (e : Env) (st : Progress) (l : Slots) (room : ℕ) where
   abbrev Back : Bool → Type 0
   Back b = (c .timed && ltb (st .clock .value) (st .last)) ≡ b
 
@@ -86,7 +86,7 @@ module _ (t s : List ℕ) (w : Asking) (p : BitPlace) (clock last id room : ℕ)
   refused-stands : (why : Refusal) → Stands (refusedLeft why)
   refused-stands why on = let z : _≡_ {A = ℕ} 0 1 = cc in absurd (omega arith)
 
-  class-stands : (x : Found) → x ≡ foundOf (findEventAt t (fragmentsOf t) (w .id) id) → Stands (classLeft w p clock id x)
+  class-stands : (x : TablePlace) → x ≡ foundOf (findEventAt t (fragmentsOf t) (w .id) id) → Stands (classLeft w p clock id x)
   unfolding classLeft
   class-stands Nothing is = refused-stands (EventClassUnknown (w .id) id)
   class-stands (At class) is = λ on. event-stands t s (w .id) id class sized is
@@ -131,6 +131,6 @@ module _ (t : List ℕ) (w : Asking) (j : ℕ) (of : OfStream t w) where
   unfolding mapOption
   event-found p e = asked-id ∙ rw (found-some _ p e) refl
 
-  pub back-is : (st : State) (b : Bool) → (w .timed && ltb (st .clock .value) (st .last)) ≡ b
+  pub back-is : (st : Progress) (b : Bool) → (w .timed && ltb (st .clock .value) (st .last)) ≡ b
       → (Class .timed && ltb (st .clock .value) (st .last)) ≡ b
   back-is st b h = ap (λ u. u && ltb (st .clock .value) (st .last)) (sym (of .timed)) ∙ h

@@ -11,11 +11,11 @@ use Rattle.rules.specs.Step.{_⨾_, pass}
 use Rattle.rules.specs.Field.{Env}
 use Rattle.rules.specs.Packet.{readRoot}
 use Rattle.facts.proofs.Steps.{pass-seq, seq-pass}
-use Rattle.class_layout.specs.declared.Found.{Found}
-use Rattle.class_layout.specs.declared.Found.the-variants.{At, Nothing}
+use Rattle.class_layout.specs.declared.TablePlace.{TablePlace}
+use Rattle.class_layout.specs.declared.TablePlace.the-variants.{At, Nothing}
 use Rattle.class_layout.specs.Fragments.{rootPlace, eventClassAt}
 use Rattle.class_layout.specs.Sizes.{SizedFragment, foundOf}
-use Rattle.field_runs.specs.Run.{noArray, membersRun}
+use Rattle.field_runs.specs.Run.{membersRun}
 use Rattle.field_runs.specs.Ahead.{ahead, WholeRun}
 use Rattle.field_runs.proofs.Ahead.{members-reads, members-stand, none-whole, no-members}
 use Rattle.field_runs.proofs.Ahead.{one-member as one-reads}
@@ -31,27 +31,20 @@ use Rattle.event_turns.proofs.Looked.{one-member, root-class, root-stan
 -- the run of a root
 
 module _ (t : List ℕ) where
-  pub run-reads : (e : Env) (x : Found) → ahead depthLimit t e (rootRun x) ≡ readRoot e (classOf t x)
+  pub run-reads : (e : Env) (x : TablePlace) → ahead depthLimit t e (rootRun x) ≡ readRoot e (classOf t x)
   unfolding rootRun classOf readRoot
   run-reads e Nothing = members-reads depthLimit t e 0 0 ∙ no-members depthLimit t e 0 0 (omega arith)
   run-reads e (At p) = members-reads depthLimit t e p 1 ∙ one-reads depthLimit t e p
 
-  pub run-stands : (x : Found) → RootStands t x → WholeRun depthLimit t (rootRun x)
+  pub run-stands : (x : TablePlace) → RootStands t x → WholeRun depthLimit t (rootRun x)
   unfolding rootRun
   run-stands Nothing h = members-stand depthLimit t 0 0 (none-whole depthLimit t 0)
   run-stands (At p) h = members-stand depthLimit t p 1 (one-member t (At p) p refl h)
-
--- no element is open in it
-pub run-apart : (x : Found) → (rootRun x) .array ≡ noArray
-unfolding rootRun membersRun
-run-apart Nothing = refl
-run-apart (At p) = refl
 
 -- what is due from a turn behind the lookup on
 pub record DueAt (t : List ℕ) (w : Asking) (class turn : ℕ) (d : Due) : Type 0 where
   pub reads : (e : Env) → turnsAt t w e class turn ≡ (ahead depthLimit t e (d .run) ⨾ turnsAt t w e class (d .turn))
   pub stands : WholeRun depthLimit t (d .run)
-  pub apart : d .run .array ≡ noArray
   pub onward : turn ≤ d .turn
   pub rises : turn < turns → turn < d .turn
   pub bound : turn ≤ turns → d .turn ≤ turns
@@ -61,7 +54,7 @@ module _ (t s : List ℕ) (w : Asking) (of : OfStream t w) (class : ℕ) (known 
   unfolding rootFound
   turn-stands turn = by (eqb turn 2) (eqb turn 3)
     where
-      place : ℕ → Found
+      place : ℕ → TablePlace
       place i = foundOf (rootPlace t class i)
 
       by : (a b : Bool) → RootStands t (elim a [ true ↦ w .common | false ↦ elim b [ true ↦ place 0 | false ↦ place 1 ] ])
@@ -85,7 +78,6 @@ module _ (t s : List ℕ) (w : Asking) (of : OfStream t w) (class : ℕ) (known 
   all-done turn h = record {
     reads = λ e. sym (ap (λ m. m ⨾ turnsAt t w e class turn) (nothing e) ∙ pass-seq _);
     stands = run-stands t Nothing (unfold RootStands in tt);
-    apart = run-apart Nothing;
     onward = omega arith;
     rises = λ k. absurd (omega arith);
     bound = λ k. k;
@@ -103,7 +95,6 @@ module _ (t s : List ℕ) (w : Asking) (of : OfStream t w) (class : ℕ) (known 
           ∙ ap (λ x. readRoot e (classOf t x) ⨾ turnsAt t w e class (turn + 1)) (sym is)
           ∙ ap (λ m. m ⨾ turnsAt t w e class (turn + 1)) (sym (run-reads t e (At p)));
       stands = run-stands t (At p) (rw (← is) at (turn-stands turn));
-      apart = run-apart (At p);
       onward = omega arith;
       rises = λ _. omega arith;
       bound = λ _. omega arith;
@@ -117,14 +108,13 @@ module _ (t s : List ℕ) (w : Asking) (of : OfStream t w) (class : ℕ) (known 
     behind d is later = record {
       reads = λ e. passed is e ∙ later .reads e;
       stands = later .stands;
-      apart = later .apart;
       onward = omega (arith, later .onward);
       rises = λ _. omega (arith, later .onward);
       bound = λ _. later .bound (omega arith);
     }
 
     -- what is due behind a turn is due there, if its root is not
-    due-here : DueAt t w class (turn + 1) (nextDue t w class (turn + 1)) → (x : Found) → x ≡ rootFound t w turn class
+    due-here : DueAt t w class (turn + 1) (nextDue t w class (turn + 1)) → (x : TablePlace) → x ≡ rootFound t w turn class
         → DueAt t w class turn (nextDue t w class turn)
     due-here later Nothing is = rw (due-behind t w class turn h is) (behind _ is later)
     due-here later (At p) is = rw (due-at t w class turn h p is) (root-due p is)

@@ -11,8 +11,8 @@ use Rattle.rules.specs.declared.BitPlace.{BitPlace}
 use Rattle.rules.specs.declared.Refusal.{Refusal}
 use Rattle.rules.specs.declared.Refusal.the-variants.{ClockWentBack, EventClassUnknown, ListFull}
 use Rattle.rules.specs.Entry.{entry, words, eventClassFound}
-use Rattle.class_layout.specs.declared.Found.{Found}
-use Rattle.class_layout.specs.declared.Found.the-variants.{At, Nothing}
+use Rattle.class_layout.specs.declared.TablePlace.{TablePlace}
+use Rattle.class_layout.specs.declared.TablePlace.the-variants.{At, Nothing}
 use Rattle.class_layout.specs.Fragments.{findEventAt, fragmentsOf}
 use Rattle.class_layout.specs.Sizes.{foundOf}
 use Rattle.field_runs.specs.Run.{membersRun}
@@ -60,7 +60,7 @@ module _ (t : List ℕ) (w : Asking) (p : BitPlace) (clock last id room : ℕ) w
     unfolding lookupLeft
     left-looked h = rw (lookupLeft, b, le-ltb _ _ h) refl
 
-    module _ (h : 4 ≤ room) {o : Found} (looked : o ≡ foundOf (findEventAt t (fragmentsOf t) (w .id) id)) where
+    module _ (h : 4 ≤ room) {o : TablePlace} (looked : o ≡ foundOf (findEventAt t (fragmentsOf t) (w .id) id)) where
       pub left-unknown : o ≡ Nothing → lookupLeft t w p clock last id room ≡ refusedLeft (EventClassUnknown (w .id) id)
       unfolding classLeft
       left-unknown is = left-looked h ∙ ap (classLeft w p clock id) (sym looked ∙ is)

@@ -21,18 +21,18 @@ use Rattle.rules.specs.Field.{Env}
 use Rattle.rules.specs.Table.{StreamClass}
 use Rattle.rules.specs.Packet.{mark, readRoot}
 use Rattle.facts.proofs.Steps.{after-onto, seq-assoc, pass-seq}
-use Rattle.listing.specs.declared.State.{State}
+use Rattle.listing.specs.declared.Progress.{Progress}
 use Rattle.listing.specs.declared.Went.the-variants.{On, Stopped}
 use Rattle.listing.specs.Did.{Did, full, outOf}
 use Rattle.listing.proofs.Roles.{went-no-further}
 use Rattle.listing.proofs.Marks.{mark-on}
 use Rattle.listing.proofs.Parts.{Part, part-start, part-step, part-stop, part-length, lent-room, lent, merged}
-use Rattle.class_layout.specs.declared.Found.{Found}
-use Rattle.class_layout.specs.declared.Found.the-variants.{At, Nothing}
+use Rattle.class_layout.specs.declared.TablePlace.{TablePlace}
+use Rattle.class_layout.specs.declared.TablePlace.the-variants.{At, Nothing}
 use Rattle.class_layout.specs.Fragments.{streamClassAt, eventClassAt, askedAt, findEventAt, fragmentsOf}
 use Rattle.class_layout.specs.Sizes.{Sized, SizedFragment, foundOf}
 use Rattle.field_runs.specs.declared.Run.{Run}
-use Rattle.field_runs.specs.Run.{noArray, over}
+use Rattle.field_runs.specs.Run.{over}
 use Rattle.field_runs.specs.Ahead.{ahead, WholeRun}
 use Rattle.field_runs.proofs.Ahead.{over-reads}
 use Rattle.event_turns.specs.declared.Asking.{Asking}
@@ -46,15 +46,14 @@ use Rattle.event_turns.specs.Turns.{turnsFrom, turnsAt, Known}
 use Rattle.event_turns.proofs.Bodies.{behind-first, settled, body-back, body-full, body-unknown, body-found}
 use Rattle.event_turns.proofs.Bodies.{event-unknown, event-found, event-stands, back-is}
 use Rattle.event_turns.proofs.Lefts.{left-back, left-full, left-unknown, left-found, left-lookup, left-other}
-use Rattle.event_turns.proofs.Dues.{run-reads, run-stands, run-apart, due-from}
+use Rattle.event_turns.proofs.Dues.{run-reads, run-stands, due-from}
 
 -- a turn at a state, by what it gave back and the list before and behind it
-pub record TurnAt (t s : List ℕ) (w : Asking) (e : Env) (turn class : ℕ) (st : State) (l : Slots) (r : Turn) (ws ws′ : List ℕ)
+pub record TurnAt (t s : List ℕ) (w : Asking) (e : Env) (turn class : ℕ) (st : Progress) (l : Slots) (r : Turn) (ws ws′ : List ℕ)
     : Type 0 where
   pub known : r .went ≡ On → Known t s (r .turn) (r .class)
   pub stands : r .went ≡ On → WholeRun depthLimit t (r .run)
-  pub apart : r .went ≡ On → r .run .array ≡ noArray
-  pub rises : r .went ≡ On → 1 ≤ turn → turn < turns → (turn < r .turn) × (r .turn ≤ turns)
+  pub rises : r .went ≡ On → turn < turns → (turn < r .turn) × (r .turn ≤ turns)
   pub goes : r .went ≡ On
       → Part (turnsAt t w e class turn (full st l (length ws))) (ahead depthLimit t e (r .run) ⨾ turnsAt t w e (r .class) (r .turn)) ws ws′
       (r .used) (heldTo (r .last) st) l
@@ -64,10 +63,10 @@ pub record TurnAt (t s : List ℕ) (w : Asking) (e : Env) (turn class : ℕ) (st
   pub same : length ws′ ≡ length ws
 
 -- the turn that a state asks for, with so many words of room
-abbrev pub turnOf : List ℕ → Asking → ℕ → ℕ → State → ℕ → TurnLeft
+abbrev pub turnOf : List ℕ → Asking → ℕ → ℕ → Progress → ℕ → TurnLeft
 turnOf t w turn class st room = turnLeft t w turn class (st .place) (st .clock .value) (st .last) (st .said .event) room
 
-module _ (t s : List ℕ) (w : Asking) (sized : Sized t s) (of : OfStream t w) (class : ℕ) (st : State) (l : Slots) (e : Env)
+module _ (t s : List ℕ) (w : Asking) (sized : Sized t s) (of : OfStream t w) (class : ℕ) (st : Progress) (l : Slots) (e : Env)
     (ws : List ℕ) where
   abbrev Class : StreamClass
   Class = streamClassAt t (w .class)
@@ -85,8 +84,7 @@ module _ (t s : List ℕ) (w : Asking) (sized : Sized t s) (of : OfStream t w) (
       record {
         known = λ on. (omega (arith, behind, d .onward), λ _. stands);
         stands = λ on. d .stands;
-        apart = λ on. d .apart;
-        rises = λ on one h. (omega (arith, onward, d .rises (below h)), d .bound (omega (arith, below h)));
+        rises = λ on h. (omega (arith, onward, d .rises (below h)), d .bound (omega (arith, below h)));
         goes = λ on. rw (d .reads e) at done;
         stops = λ v off. let z : _≡_ {A = ℕ} 0 1 = cc in absurd (omega arith);
         room = done .room;
@@ -101,7 +99,6 @@ module _ (t s : List ℕ) (w : Asking) (sized : Sized t s) (of : OfStream t w) (
   refused-at-state why h = record {
     known = λ on. let z : _≡_ {A = ℕ} 0 1 = cc in absurd (omega arith);
     stands = λ on. let z : _≡_ {A = ℕ} 0 1 = cc in absurd (omega arith);
-    apart = λ on. let z : _≡_ {A = ℕ} 0 1 = cc in absurd (omega arith);
     rises = λ on. let z : _≡_ {A = ℕ} 0 1 = cc in absurd (omega arith);
     goes = λ on. let z : _≡_ {A = ℕ} 0 1 = cc in absurd (omega arith);
     stops = λ v off. let p : stopAt why (st .place) ≡ v = cc in rw (← p) (went-no-further _ st l (stopAt why (st .place)) ws h);
@@ -151,7 +148,7 @@ module _ (t s : List ℕ) (w : Asking) (sized : Sized t s) (of : OfStream t w) (
     told b h = back-is t w Id of st b h
 
     module _ (on : back ≡ false) (room : 4 ≤ length ws) where
-      looked : (x : Found) → x ≡ foundOf (findEventAt t (fragmentsOf t) (w .id) Id) → Looked
+      looked : (x : TablePlace) → x ≡ foundOf (findEventAt t (fragmentsOf t) (w .id) Id) → Looked
       unfolding classLeft turnBehind
       looked Nothing is =
           refused (EventClassUnknown (w .id) Id) (left-unknown t w (st .place) (st .clock .value) (st .last) Id (length ws) on room is refl)
@@ -227,10 +224,6 @@ pub header-stands : (t : List ℕ) (w : Asking) → OfStream t w → WholeRun de
 unfolding headerRun
 header-stands t w of = run-stands t (w .header) (of .headerStands)
 
-pub header-apart : (w : Asking) → (headerRun w) .array ≡ noArray
-unfolding headerRun
-header-apart w = run-apart (w .header)
-
 -- behind entry 4
 pub header-begins : (t : List ℕ) (w : Asking) (e : Env) (class : ℕ) (g : Step) → OfStream t w
     → (readRoot e ((streamClassAt t (w .class)) .header) ⨾ (bodyOf (askedAt t) (streamClassAt t (w .class)) e ⨾ g))
@@ -260,8 +253,8 @@ module _ (t : List ℕ) (w : Asking) (e : Env) (class : ℕ) (g : Step) where
   turns-end r turn h k = turn-next r turn h ∙ ap (λ m. m ⨾ g) (turns-done turn k) ∙ pass-seq g
 
 -- m was begun in the part of the list that was lent, and m′ is left of it
-module _ (m m′ g : Step) {o : Out} {ws₀ ws : List ℕ} {used : ℕ} {st : State} {l : Slots} (p : Part o (m ⨾ g) ws₀ ws used st l)
-    {n : ℕ} {st′ : State} {l′ : Slots} {ys : List ℕ} (q : Part (m (full st l (length (lent used ws)))) m′ (lent used ws) ys n st′ l′) where
+module _ (m m′ g : Step) {o : Out} {ws₀ ws : List ℕ} {used : ℕ} {st : Progress} {l : Slots} (p : Part o (m ⨾ g) ws₀ ws used st l)
+    {n : ℕ} {st′ : Progress} {l′ : Slots} {ys : List ℕ} (q : Part (m (full st l (length (lent used ws)))) m′ (lent used ws) ys n st′ l′) where
   begins : Step
   begins s = go (q .listed) (full st′ l′ (length (lent used ws) - n))
 
@@ -289,7 +282,7 @@ module _ (m m′ g : Step) {o : Out} {ws₀ ws : List ℕ} {used : ℕ} {st : St
   part-begun = part-step begins (m′ ⨾ g) before begins-did refl
 
 -- a turn that was lent the list behind what is listed
-module _ (t s : List ℕ) (w : Asking) (e : Env) (turn class : ℕ) (g : Step) {o : Out} {ws₀ ws : List ℕ} {used : ℕ} {st : State} {l : Slots}
+module _ (t s : List ℕ) (w : Asking) (e : Env) (turn class : ℕ) (g : Step) {o : Out} {ws₀ ws : List ℕ} {used : ℕ} {st : Progress} {l : Slots}
     (p : Part o (turnsAt t w e class turn ⨾ g) ws₀ ws used st l) {r : Turn} {ys : List ℕ}
     (d : TurnAt t s w e turn class st l r (lent used ws) ys) where
   pub turn-room : used + r .used ≤ length ws₀
@@ -298,7 +291,7 @@ module _ (t s : List ℕ) (w : Asking) (e : Env) (turn class : ℕ) (g : Step) {
   pub turn-same : length (merged used ws ys) ≡ length ws₀
   turn-same = same-len-mid used (length ws - used) ws ys (d .same) ∙ part-length p
 
-  pub turn-stops : (v : Stop) → r .went ≡ Stopped v → (came : State) (l₀ : Slots)
+  pub turn-stops : (v : Stop) → r .went ≡ Stopped v → (came : Progress) (l₀ : Slots)
       → Did o came (Stopped v) (used + r .used) came l₀ ws₀ (merged used ws ys)
   turn-stops v off came l₀ = part-stop (turnsAt t w e class turn) g p (d .stops v off) v came l₀ refl
 

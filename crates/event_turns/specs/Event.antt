@@ -8,7 +8,7 @@ use Rattle.rules.specs.Step.{Step, _⨾_, check, due, change, withLast}
 use Rattle.rules.specs.Field.{Env}
 use Rattle.rules.specs.Table.{StreamClass, Asked}
 use Rattle.rules.specs.Packet.{mark, withEvent}
-use Rattle.listing.specs.declared.State.{State}
+use Rattle.listing.specs.declared.Progress.{Progress}
 use Rattle.event_turns.specs.Roots.{partsOf}
 
 -- behind the header: 39; the lookup (37); entry 5, and the other roots
@@ -21,5 +21,5 @@ bodyOf t c e =
     (λ d. mark eventClassFound 0 (s .said .event) ⨾ partsOf e (c .common) (d .specific) (d .payload)) s
 
 -- the same state, with the clock that the next event's is held to
-abbrev pub heldTo : ℕ → State → State
+abbrev pub heldTo : ℕ → Progress → Progress
 heldTo clock st = record { place = st .place; order = st .order; clock = st .clock; last = clock; said = st .said }

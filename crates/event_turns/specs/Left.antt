@@ -13,8 +13,8 @@ use Rattle.rules.specs.declared.Refusal.the-variants.{ClockWentBack, EventClass
 use Rattle.rules.specs.Verdict.{stopAt}
 use Rattle.rules.specs.Entry.{entry, words, eventClassFound}
 use Rattle.listing.specs.declared.Went.the-variants.{On, Stopped}
-use Rattle.class_layout.specs.declared.Found.{Found}
-use Rattle.class_layout.specs.declared.Found.the-variants.{At, Nothing}
+use Rattle.class_layout.specs.declared.TablePlace.{TablePlace}
+use Rattle.class_layout.specs.declared.TablePlace.the-variants.{At, Nothing}
 use Rattle.class_layout.specs.Fragments.{rootPlace, findEventAt, fragmentsOf}
 use Rattle.class_layout.specs.Sizes.{foundOf}
 use Rattle.field_runs.specs.declared.Run.{Run}
@@ -29,7 +29,7 @@ abbrev pub listedInto : List Entry → List ℕ → List ℕ
 listedInto es ws = words es ++ drop (4 * length es) ws
 
 -- a root is one member; there is none, where it is not there
-unfoldable pub rootRun : Found → Run
+unfoldable pub rootRun : TablePlace → Run
 rootRun Nothing = membersRun 0 0
 rootRun (At p) = membersRun p 1
 
@@ -38,7 +38,7 @@ unfoldable pub headerRun : Asking → Run
 headerRun w = rootRun (w .header)
 
 -- behind the lookup come common, specific and payload
-unfoldable pub rootFound : List ℕ → Asking → ℕ → ℕ → Found
+unfoldable pub rootFound : List ℕ → Asking → ℕ → ℕ → TablePlace
 rootFound t w turn class =
     elim (eqb turn 2) [
       | true ↦ w .common
@@ -54,7 +54,7 @@ unfoldable pub noneDue : ℕ → Due
 noneDue turn = record { turn = turn; run = membersRun 0 0 }
 
 -- a root in its turn, or else what is due behind it
-unfoldable pub dueOf : ℕ → Due → Found → Due
+unfoldable pub dueOf : ℕ → Due → TablePlace → Due
 dueOf turn behind Nothing = behind
 dueOf turn behind (At p) = record { turn = turn + 1; run = membersRun p 1 }
 
@@ -82,7 +82,7 @@ abbrev pub refusedLeft : Refusal → LookupLeft
 refusedLeft why = record { result = notLooked why; listed = [] }
 
 -- the event's clock is the one that the next event's is held to; the common root's turn is next
-unfoldable pub classLeft : Asking → BitPlace → ℕ → ℕ → Found → LookupLeft
+unfoldable pub classLeft : Asking → BitPlace → ℕ → ℕ → TablePlace → LookupLeft
 classLeft w p clock id Nothing = refusedLeft (EventClassUnknown (w .id) id)
 classLeft w p clock id (At class) = record { result = lookedOn class clock 2 4; listed = entry eventClassFound p 0 id ∷ [] }
 

@@ -7,17 +7,17 @@ use Rattle.rules.specs.Class.{Class}
 use Rattle.rules.specs.Step.{Step, _⨾_}
 use Rattle.rules.specs.Field.{Env}
 use Rattle.rules.specs.Packet.{readRoot}
-use Rattle.class_layout.specs.declared.Found.{Found}
-use Rattle.class_layout.specs.declared.Found.the-variants.{At, Nothing}
+use Rattle.class_layout.specs.declared.TablePlace.{TablePlace}
+use Rattle.class_layout.specs.declared.TablePlace.the-variants.{At, Nothing}
 use Rattle.class_layout.specs.Trees.{classAt, whole}
 
 -- the class
-unfoldable pub classOf : List ℕ → Found → Option Class
+unfoldable pub classOf : List ℕ → TablePlace → Option Class
 classOf t Nothing = none
 classOf t (At p) = some (classAt depthLimit t p)
 
 -- that it stands whole
-unfoldable pub RootStands : List ℕ → Found → Type 0
+unfoldable pub RootStands : List ℕ → TablePlace → Type 0
 RootStands t Nothing = Unit {0}
 RootStands t (At p) = whole depthLimit t p
 

@@ -1,4 +1,7 @@
 -- A law of every number below a bound, given one after the other: `a ▷ b ▷ .. ▷ tt`.
+--
+-- Each, _▷_    the cases, as a type and as they are written
+-- below        what holds in each case holds of every number below the bound
 use mathlib.Core.Path.{_≡_}
 use Prim.Native.Nat.{ℕ, zero, suc, _+_, _<_}
 use native.Mathlib.Omega.{arith}

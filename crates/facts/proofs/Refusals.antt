@@ -2,7 +2,10 @@
 use Prim.Native.Nat.{_≤_}
 use native.Mathlib.Omega.{arith}
 use Rattle.rules.specs.declared.Refusal.{Refusal}
-use Rattle.rules.specs.declared.Refusal.the-variants.{StreamSize, PastBound, OrderChanged, LebTooLarge, NoZeroByte, SlotUnset, SlotOfWrongSort, LengthTooLarge, SelectorInNoOption, WrongMagic, WrongUuid, StreamClassChanged, StreamClassUnknown, LengthsContradict, ClocksContradict, ClockTooLarge, EventClassUnknown, EventTookNoBits, ClockWentBack, ListFull}
+use Rattle.rules.specs.declared.Refusal.the-variants.{StreamSize, PastBound, OrderChanged, LebTooLarge, NoZeroByte, SlotUnset}
+use Rattle.rules.specs.declared.Refusal.the-variants.{SlotOfWrongSort, LengthTooLarge, SelectorInNoOption, WrongMagic, WrongUuid}
+use Rattle.rules.specs.declared.Refusal.the-variants.{StreamClassChanged, StreamClassUnknown, LengthsContradict, ClocksContradict}
+use Rattle.rules.specs.declared.Refusal.the-variants.{ClockTooLarge, EventClassUnknown, EventTookNoBits, ClockWentBack, ListFull}
 use Rattle.rules.specs.Verdict.{refusalNumber}
 
 pub refusalNumber-bounds : (r : Refusal) → (21 ≤ refusalNumber r) × (refusalNumber r ≤ 40)

@@ -1,4 +1,7 @@
 -- Past the sixty-four slots there is none: nothing stands there, and nothing is set.
+--
+-- no-content    a slot past the last holds nothing
+-- no-slot       setting one past the last changes nothing
 use mathlib.Core.Path.{_≡_, refl, ap}
 use mathlib.Core.List.{[], _∷_}
 use Prim.Native.Nat.{ℕ, zero, suc, _≤_}

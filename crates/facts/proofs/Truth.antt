@@ -1,4 +1,10 @@
 -- Laws of tests that are joined, and of cases by a test.
+--
+-- clash                 false is not true
+-- or-false, or-true     what follows from a test `a || b` that failed, and that held
+-- and-left, and-right   what follows from a test `a && b` that held
+-- and-none              `a && false` fails
+-- if-agree              two cases by one test agree where their first branches do
 use mathlib.Core.Path.{_≡_, refl}
 use Prim.Native.Nat.{ℕ}
 use native.Mathlib.Omega.{arith}
@@ -28,6 +34,7 @@ and-none true = refl
 and-none false = refl
 
 -- the branch that a test takes first agrees, and the other is the same
-pub if-agree : {A : Type 0} (b : Bool) (x y z : A) → (b ≡ true → x ≡ y) → _≡_ {A = A} (elim b [ true ↦ x | false ↦ z ]) (elim b [ true ↦ y | false ↦ z ])
+pub if-agree : {A : Type 0} (b : Bool) (x y z : A) → (b ≡ true → x ≡ y)
+    → _≡_ {A = A} (elim b [ true ↦ x | false ↦ z ]) (elim b [ true ↦ y | false ↦ z ])
 if-agree true x y z h = h refl
 if-agree false x y z h = refl

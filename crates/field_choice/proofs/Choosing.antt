@@ -14,7 +14,8 @@ use Rattle.class_layout.specs.Notes.{endNoted}
 use Rattle.field_choice.specs.declared.Choice.the-variants.{Refused}
 use Rattle.slots.specs.declared.Number.the-variants.{Of, NotOf}
 use Rattle.slots.specs.Taken.{numberOf}
-use Rattle.field_choice.specs.Choice.{byNumber, presentAt, byFlag, byRanges, optionalClass, optionalAt, optionFrom, variantIn, WholeVariant}
+use Rattle.field_choice.specs.Choice.{byNumber, presentAt, byFlag, byRanges, optionalClass, optionalAt}
+use Rattle.field_choice.specs.Choice.{optionFrom, variantIn, WholeVariant}
 use Rattle.field_choice.proofs.Search.{option-here}
 
 module _ (t : List ℕ) (at : ℕ) (x : Content) where
@@ -42,7 +43,8 @@ module _ (t : List ℕ) (at : ℕ) (x : Content) where
   unfolding optionalAt
   optional-by-flag h = sym (flag-ranges (signAt t (at + 3)) (u8 t (at + 2)) (optionalClass t at) h)
 
-  pub optional-refused : (r : Refusal) → (u8 t (at + 2) ≡ 0 → ⊥) → numberOf (signOf (u8 t (at + 4))) x ≡ NotOf r → Refused r ≡ optionalAt t at x
+  pub optional-refused : (r : Refusal) → (u8 t (at + 2) ≡ 0 → ⊥) → numberOf (signOf (u8 t (at + 4))) x ≡ NotOf r
+      → Refused r ≡ optionalAt t at x
   unfolding optionalAt byNumber
   optional-refused r h e = rw (optional-sign) (sym (some-ranges _ (u8 t (at + 2)) (optionalClass t at) h ∙ rw (e) refl))
 

@@ -17,11 +17,12 @@ module _ (b n : ℕ) where
   unfolding key
   key-signed h = rw (sign-signed b h) refl
 
+-- by the keys, as they are compared
 module _ (g : Sign) (v : ℕ) (r : Range) where
-  pub holds-below : key g v < key g (r .low) → false ≡ holds g v r
+  pub holds-below : {n low : ℕ} → n ≡ key g v → low ≡ key g (r .low) → n < low → false ≡ holds g v r
   unfolding holds
-  holds-below l = rw (lt-leb (key g (r .low)) (key g v) l) refl
+  holds-below d e l = rw (lt-leb (key g (r .low)) (key g v) (rw (d, e) at l)) refl
 
-  pub holds-from : key g (r .low) ≤ key g v → leb (key g v) (key g (r .high)) ≡ holds g v r
+  pub holds-from : {n low high : ℕ} → n ≡ key g v → low ≡ key g (r .low) → high ≡ key g (r .high) → low ≤ n → leb n high ≡ holds g v r
   unfolding holds
-  holds-from l = rw (le-leb (key g (r .low)) (key g v) l) refl
+  holds-from d e h l = rw (d, h, le-leb (key g (r .low)) (key g v) (rw (d, e) at l)) refl

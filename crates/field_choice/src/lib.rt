@@ -1,4 +1,5 @@
 // What an optional or a variant selects: 26 and 27 come from taking the slot's content apart, 29 from a search that finds nothing.
+use numbers::signs;
 use rules::Content;
 use rules::Refusal;
 use slots::Number;
@@ -6,6 +7,10 @@ use slots::number_of;
 use table_bytes::count_at;
 use table_bytes::size_at;
 use table_bytes::u64_at;
+use table_records::bodies::OPTION_SIZE;
+use table_records::bodies::OPTIONAL_SIZE;
+use table_records::bodies::RANGE_SIZE;
+use table_records::bodies::VARIANT_SIZE;
 ghost use mathlib.Core.Path.{_≡_};
 ghost use Prim.Native.Nat.{_+_, _*_, _≤_, _<_};
 ghost use lib.ListN.{length};
@@ -23,18 +28,13 @@ pub enum Choice {
     Refused(Refusal),
 }
 
-// The bytes of a range's record.
-const RANGE: usize = 18;
-
 const SIGN_BIT: u64 = 0x8000_0000_0000_0000;
-
-const UNSIGNED: u8 = 0;
 
 // Words in the order of the numbers that they stand for.
 fn key(sign: u8, word: u64) -> u64
     ensures { λ r. ⌜ r ≡ key (signOf sign) word ⌝ }
 {
-    if sign == UNSIGNED {
+    if sign == signs::UNSIGNED {
         return word;
     }
     std::num::wrapping_add_u64(word, SIGN_BIT)
@@ -63,7 +63,7 @@ fn any_holds(table: &[u8], at: usize, count: usize, sign: u8, number: u64) -> bo
         if holds(table, here, sign, number) {
             return true;
         }
-        here = here + RANGE;
+        here = here + RANGE_SIZE;
         todo = todo - 1;
     }
     false
@@ -75,14 +75,14 @@ pub fn choose_optional(table: &[u8], at: usize, content: Content) -> Choice
     ensures { λ r. ⌜ r ≡ optionalAt (now (table .entry)) at content ⌝ }
 {
     let count = count_at(table, at + 2);
-    let class = at + 3 + RANGE * count;
+    let class = at + OPTIONAL_SIZE + RANGE_SIZE * count;
     if count == 0 {
         return by_flag(content, class);
     }
     let sign = table[at + 4];
     match number_of(content, sign) {
         Number::NotOf(why) => Choice::Refused(why),
-        Number::Of(n) => present(any_holds(table, at + 3, count, sign, n), class),
+        Number::Of(n) => present(any_holds(table, at + OPTIONAL_SIZE, count, sign, n), class),
     }
 }
 
@@ -118,7 +118,14 @@ pub fn choose_option(table: &[u8], sizes: &[u16], at: usize, content: Content) -
     let sign = table[at + 6];
     match number_of(content, sign) {
         Number::NotOf(why) => Choice::Refused(why),
-        Number::Of(n) => first_option(table, sizes, at + 3, count_at(table, at + 2), sign, n),
+        Number::Of(n) => first_option(
+            table,
+            sizes,
+            at + VARIANT_SIZE,
+            count_at(table, at + 2),
+            sign,
+            n,
+        ),
     }
 }
 
@@ -141,15 +148,15 @@ fn first_option(
     let mut found = Choice::Nothing;
     'search: while 0 < todo {
         let ranges = count_at(table, next + 1);
-        let class = next + 2 + RANGE * ranges;
-        let mut here = next + 2;
+        let class = next + OPTION_SIZE + RANGE_SIZE * ranges;
+        let mut here = next + OPTION_SIZE;
         let mut more = ranges;
         while 0 < more {
             if holds(table, here, sign, number) {
                 found = Choice::Class { at: class, option };
                 break 'search;
             }
-            here = here + RANGE;
+            here = here + RANGE_SIZE;
             more = more - 1;
         }
         next = class + size_at(sizes, class);

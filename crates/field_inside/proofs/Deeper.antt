@@ -6,7 +6,7 @@ use Rattle.rules.specs.declared.BitPlace.{BitPlace}
 use Rattle.rules.specs.Entry.{entry}
 use Rattle.rules.specs.Step.{State, _⨾_, listed}
 use Rattle.rules.specs.Field.{Env, times, read, readMembers}
-use Rattle.leaf_find_number.specs.declared.Frame.{Frame}
+use Rattle.frame.specs.declared.Frame.{Frame}
 use Rattle.class_layout.proofs.Depths.{deeper, members-deeper}
 use Rattle.field_inside.specs.declared.look.Inside.{Inside}
 use Rattle.field_inside.specs.declared.look.Inside.the-variants.{Members, Elements, Refused}

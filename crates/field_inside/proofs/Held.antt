@@ -16,9 +16,8 @@ use Rattle.rules.specs.Limits.{lengthLimit}
 use Rattle.rules.specs.Record.{u8}
 use Rattle.rules.specs.Class.{Sign, Range, anyHolds}
 use Rattle.places.proofs.Multiple.{align-near}
-use Rattle.leaf_find_number.specs.declared.Frame.{Frame}
-use Rattle.leaf_find_number.specs.Framed.{Framed}
-use Rattle.leaf_find_number.specs.Found.{alignedAt}
+use Rattle.frame.specs.declared.Frame.{Frame}
+use Rattle.frame.specs.Framed.{Framed, alignedAt}
 use Rattle.slots.specs.Taken.{lengthOf, numberOf}
 use Rattle.class_layout.specs.Trees.{shapeOf, shapes, recordSize, rangesAt, signAt, optionClass, Stood, stoodAt, nextAt, behindMembers}
 use Rattle.class_layout.specs.Trees.{wholeMembers, wholeOptions, wholeIn, whole}
@@ -31,7 +30,8 @@ use Rattle.slots.specs.declared.Number.the-variants.{Of as Told, NotOf as NoNum
 use Rattle.field_inside.specs.declared.look.Inside.{Inside}
 use Rattle.field_inside.specs.declared.look.Inside.the-variants.{Members, Elements, Refused}
 use Rattle.field_choice.specs.Choice.{byNumber, presentAt, byFlag, byRanges, optionalClass, optionalAt, optionFrom, variantIn}
-use Rattle.field_inside.specs.Inside.{within, standing, byLength, optionalInside, variantInside, bitsNoted, behindNoted, insideIn, insideOf}
+use Rattle.field_inside.specs.Inside.{within, standing, byLength, optionalInside, variantInside, bitsNoted, behindNoted}
+use Rattle.field_inside.specs.Inside.{insideIn, insideOf}
 use Rattle.field_inside.specs.Held.{Placed, Held}
 use Rattle.field_inside.proofs.Holders.{five}
 use Rattle.field_inside.proofs.Opened.{variant-noted}
@@ -129,7 +129,8 @@ module _ (b : List ℕ) (f : Frame) (d : ℕ) (t : List ℕ) (x : Notes) (at : �
       five (Has Here)
       (λ p l. standing-has Here (λ r. tt) f _ from _ (λ h. record { place = aligned h; classes = p .1 }))
       (λ p l. standing-has Here (λ r. tt) f _ from _ (λ h. record { place = aligned h; class = p .1 }))
-      (λ p l. length-has Here (λ r. tt) c _ (λ n u. standing-has Here (λ r. tt) f _ from _ (λ h. record { place = aligned h; class = p .1 })))
+      (λ p l. length-has Here (λ r. tt) c _
+      (λ n u. standing-has Here (λ r. tt) f _ from _ (λ h. record { place = aligned h; class = p .1 })))
       (λ p l. optional-has Here (λ r. tt) from (behindNoted x at) (optionalClass t at) (record { place = here; classes = (p .1, tt) })
       (record { place = here; classes = tt }) c (signAt t (at + 3)) (rangesAt t (at + 3) (u8 t (at + 2))))
       (λ p l. rw (variant-noted d t x at c ready (p .1))
@@ -165,7 +166,8 @@ module _ (f : Frame) (d : ℕ) (t : List ℕ) (x : Notes) (at : ℕ) (c : Conten
         (λ e p. standing-has (Here-ends 28) (λ r. tt) f _ from _
         (λ h. (λ z. absurd (omega arith), λ z. structure-in-place (suc d) t at w (rw e refl) .ends)))
         (λ e p. standing-has (Here-ends 29) (λ r. tt) f _ from _ (λ h. (λ z. absurd (omega arith), λ z. absurd (omega arith))))
-        (λ e p. length-has (Here-ends 30) (λ r. tt) c _ (λ n u. standing-has (Here-ends 30) (λ r. tt) f _ from _ (λ h. (λ z. absurd (omega arith), λ z. absurd (omega arith)))))
+        (λ e p. length-has (Here-ends 30) (λ r. tt) c _
+        (λ n u. standing-has (Here-ends 30) (λ r. tt) f _ from _ (λ h. (λ z. absurd (omega arith), λ z. absurd (omega arith)))))
         (λ e p. optional-has (Here-ends 31) (λ r. tt) from (behindNoted x at) (optionalClass t at)
         (λ z. absurd (omega arith), λ z. optional-in-place (suc d) t at w (rw e refl) .ends)
         (λ z. absurd (omega arith), λ z. ready .classes (suc d) at w .size)

@@ -5,20 +5,20 @@ use native.Mathlib.Omega.{arith}
 use mathlib.Core.List.{List}
 use lib.ListN.{length}
 use Rattle.rules.specs.declared.BitPlace.{BitPlace}
-use Rattle.rules.specs.declared.ByteLength.{ByteLength}
 use Rattle.rules.specs.declared.Content.{Content}
 use Rattle.rules.specs.declared.Refusal.{Refusal}
 use Rattle.rules.specs.Limits.{noSlot}
 use Rattle.rules.specs.Record.{u8, u16}
 use Rattle.facts.proofs.Cases.{below, _▷_}
-use Rattle.leaf_find_number.specs.declared.Frame.{Frame}
+use Rattle.frame.specs.declared.Frame.{Frame}
 use Rattle.slots.specs.declared.Length.the-variants.{Of, NotOf}
 use Rattle.slots.specs.Taken.{lengthOf}
 use Rattle.class_layout.specs.Trees.{shapeOf, shapes, recordSize, wholeIn}
 use Rattle.class_layout.specs.Notes.{Notes, endNoted}
 use Rattle.field_inside.specs.declared.look.Inside.the-variants.{Refused}
 use Rattle.field_choice.specs.Choice.{InTable, optionalAt, variantAt, WholeOptional, WholeVariant}
-use Rattle.field_inside.specs.Inside.{slotReadIn, slotReadAt, standing, membersFrom, elementsFrom, byLength, optionalInside, variantInside, bitsNoted, behindNoted, insideIn, insideOf, Opens}
+use Rattle.field_inside.specs.Inside.{slotReadIn, slotReadAt, standing, membersFrom, elementsFrom, byLength, optionalInside}
+use Rattle.field_inside.specs.Inside.{variantInside, bitsNoted, behindNoted, insideIn, insideOf, HolderStands}
 
 -- a law of the five, one after the other
 pub five : (P : ℕ → Type 0) → P 28 → P 29 → P 30 → P 31 → P 32 → (k : ℕ) → 28 ≤ k → k ≤ 32 → P k
@@ -39,8 +39,8 @@ module _ (t : List ℕ) (x : Notes) (at : ℕ) (f : Frame) (p : BitPlace) (c : C
   unfolding insideOf insideIn shapeOf shapes byLength
   inside-no-length r e h = rw (e, h) refl
 
-  pub inside-dynamic : (n : ByteLength) → u8 t at ≡ 30 → lengthOf c ≡ Of n
-      → standing f (bitsNoted x at) p (elementsFrom (n .0) (at + 3)) ≡ insideOf t x at f p c
+  pub inside-dynamic : (n : ℕ) → u8 t at ≡ 30 → lengthOf c ≡ Of n
+      → standing f (bitsNoted x at) p (elementsFrom n (at + 3)) ≡ insideOf t x at f p c
   unfolding insideOf insideIn shapeOf shapes byLength
   inside-dynamic n e h = rw (e, h) refl
 
@@ -54,7 +54,7 @@ module _ (t : List ℕ) (x : Notes) (at : ℕ) (f : Frame) (p : BitPlace) (c : C
 
 -- What the record of a kind says is there
 
-module _ {t : List ℕ} {x : Notes} {at : ℕ} (o : Opens t x at) where
+module _ {t : List ℕ} {x : Notes} {at : ℕ} (o : HolderStands t x at) where
   there : (k : ℕ) → u8 t at ≡ k → at + recordSize (shapeOf k) ≤ length t
   there k e = rw (e) at (o .stands .there)
 

@@ -1,18 +1,23 @@
 -- What stands whole at some depth can be looked into by the notes, with no depth: each class that it holds begins in the table and ends
--- where the notes say.
+-- where the notes say. And a class that holds fields has the byte behind its kind in the table.
 use mathlib.Core.Path.{_≡_, refl, sym, ap}
-use Prim.Native.Nat.{ℕ, zero, suc, _+_, _*_, _≤_}
+use Prim.Native.Nat.{ℕ, zero, suc, _+_, _-_, _*_, _≤_, _<_}
+use native.Mathlib.Omega.{arith}
+use lib.ListN.{length}
 use mathlib.Core.List.{List}
 use mathlib.Core.Bool.{true, false}
-use Rattle.rules.specs.Record.{Shape, bitField, lebField, signedLebField, zeroString, text, blob, textOf, blobOf, members, elements, elementsOf, option?, options, u8}
+use Rattle.rules.specs.Record.{Shape, bitField, lebField, signedLebField, zeroString, text, blob, textOf, blobOf, members, elements}
+use Rattle.rules.specs.Record.{elementsOf, option?, options, u8}
 use Rattle.rules.specs.Class.{Sign, anyHolds}
-use Rattle.class_layout.specs.Trees.{shapeOf, rangesAt, optionClass, Stood, stoodAt, nextAt, wholeMembers, wholeOptions, wholeIn, whole}
+use Rattle.facts.proofs.Cases.{_▷_, below}
+use Rattle.class_layout.specs.Trees.{shapeOf, shapes, recordSize, rangesAt, optionClass, Stood, stoodAt, nextAt}
+use Rattle.class_layout.specs.Trees.{wholeMembers, wholeOptions, wholeIn, whole}
 use Rattle.class_layout.specs.Notes.{Notes, endNoted, Prepared}
 use Rattle.class_layout.proofs.Turns.{whole-inside}
 use Rattle.class_layout.proofs.Aligned.{aligned}
 use Rattle.field_choice.specs.declared.Choice.the-variants.{Class}
 use Rattle.field_choice.specs.Choice.{InTable, optionFrom}
-use Rattle.field_inside.specs.Inside.{Opens}
+use Rattle.field_inside.specs.Inside.{HolderStands}
 
 -- f and f′ agree on where the classes end that stand whole by g, and these do by g′ too
 module _ (t : List ℕ) (g g′ : ℕ → Type 0) (f f′ : ℕ → Stood) (each : (p : ℕ) → g p → g′ p)
@@ -51,8 +56,9 @@ module _ (t : List ℕ) (g g′ : ℕ → Type 0) (f f′ : ℕ → Stood) (each
   option-same s v k at zero w = refl
   option-same s v k at (suc n) w =
       let e = same (optionClass t at) (w .2) in
-      let rest : optionFrom f′ t s v (k + 1) ((f′ (optionClass t at)) .next) n ≡ optionFrom f t s v (k + 1) ((f (optionClass t at)) .next) n =
-      rw (← e) (option-same s v (k + 1) ((f (optionClass t at)) .next) n (w .3)) in
+      let p = optionClass t at in
+      let rest : optionFrom f′ t s v (k + 1) ((f′ p) .next) n ≡ optionFrom f t s v (k + 1) ((f p) .next) n =
+      rw (← e) (option-same s v (k + 1) ((f p) .next) n (w .3)) in
       ap (λ o. elim (anyHolds s v (rangesAt t (at + 2) (u8 t (at + 1)))) [ true ↦ Class (optionClass t at) k | false ↦ o ]) rest
 
 module _ (t : List ℕ) (x : Notes) (r : Prepared t x) where
@@ -64,10 +70,10 @@ module _ (t : List ℕ) (x : Notes) (r : Prepared t x) where
   parts-too : (d at : ℕ) → whole (suc d) t at → wholeIn (InTable t) (endNoted (x .sizes)) t at (shapeOf (u8 t at))
   unfolding whole
   parts-too d at w =
-      shape-too t (whole d t) (InTable t) (stoodAt d t) (endNoted (x .sizes)) (λ p v. whole-inside d t p v) (end-same d) at (shapeOf (u8 t at))
-      (w .parts)
+      shape-too t (whole d t) (InTable t) (stoodAt d t) (endNoted (x .sizes)) (λ p v. whole-inside d t p v) (end-same d) at
+      (shapeOf (u8 t at)) (w .parts)
 
-  pub opens : (d at : ℕ) → whole d t at → 28 ≤ u8 t at → Opens t x at
+  pub opens : (d at : ℕ) → whole d t at → 28 ≤ u8 t at → HolderStands t x at
   unfolding whole
   opens zero at w k = absurd w
   opens (suc d) at w k = record {
@@ -78,3 +84,18 @@ module _ (t : List ℕ) (x : Notes) (r : Prepared t x) where
     stands = record { low = w .low; high = w .high; there = w .there; parts = parts-too d at w };
     align = rw (r .classes (suc d) at w .align) (aligned (suc d) t at w .1);
   }
+
+-- kinds 28 to 32 have a byte or more behind their kind
+held-size : (k : ℕ) → 28 ≤ k → k ≤ 32 → 2 ≤ recordSize (shapeOf k)
+unfolding shapeOf shapes recordSize
+held-size k l h = at-28 (k - 28) (omega arith) k (omega arith)
+  where
+    at-28 : (i : ℕ) → i < 5 → (k : ℕ) → k ≡ 28 + i → 2 ≤ recordSize (shapeOf k)
+    at-28 i h k e = rw e
+        (below (λ i. 2 ≤ recordSize (shapeOf (28 + i))) 5 (omega arith ▷ omega arith ▷ omega arith ▷ omega arith ▷ omega arith ▷ tt) i h)
+
+-- so the slot that such a class reads stands in the table
+pub slot-within : (t : List ℕ) (at d : ℕ) → whole d t at → 28 ≤ u8 t at → at + 2 ≤ length t
+unfolding whole
+slot-within t at zero w k = absurd w
+slot-within t at (suc d) w k = omega (arith, w .there, held-size (u8 t at) k (w .high))

@@ -21,12 +21,12 @@ use Rattle.rules.specs.Entry.{entry}
 use Rattle.rules.specs.Step.{State, Step, _⨾_, onto, after, refuse, listed}
 use Rattle.rules.specs.Field.{Env, aligned, fit, field, fromSlot, asFlag, asNumber, asLength, times, present, read, readMembers, readOption}
 use Rattle.facts.proofs.Steps.{onto-nil, after-pass}
-use Rattle.leaf_find_number.specs.declared.Frame.{Frame}
-use Rattle.leaf_find_number.specs.Framed.{Framed, envOf}
-use Rattle.leaf_find_number.specs.Found.{alignedAt}
+use Rattle.frame.specs.declared.Frame.{Frame}
+use Rattle.frame.specs.Framed.{Framed, envOf, alignedAt}
 use Rattle.slots.specs.Taken.{lengthOf, numberOf}
 use Rattle.listing.proofs.Checks.{check-stops, check-goes, room-first}
-use Rattle.class_layout.specs.Trees.{shapeOf, shapes, rangesAt, signAt, optionClass, optionalOf, Stood, membersAt, optionsAt, classIn, stoodAt, classAt, wholeOptions, wholeIn, whole}
+use Rattle.class_layout.specs.Trees.{shapeOf, shapes, rangesAt, signAt, optionClass, optionalOf, Stood, membersAt, optionsAt, classIn}
+use Rattle.class_layout.specs.Trees.{stoodAt, classAt, wholeOptions, wholeIn, whole}
 use Rattle.class_layout.specs.Notes.{Notes, endNoted, Prepared}
 use Rattle.class_layout.proofs.Turns.{whole-inside}
 use Rattle.class_layout.proofs.Aligned as aligned
@@ -36,8 +36,10 @@ use Rattle.slots.specs.declared.Number.{Number}
 use Rattle.slots.specs.declared.Number.the-variants.{Of, NotOf}
 use Rattle.field_inside.specs.declared.look.Inside.{Inside}
 use Rattle.field_inside.specs.declared.look.Inside.the-variants.{Members, Refused}
-use Rattle.field_choice.specs.Choice.{InTable, byNumber, presentAt, byFlag, byRanges, optionalClass, optionalAt, optionFrom, variantIn, variantAt}
-use Rattle.field_inside.specs.Inside.{slotReadIn, slotReadAt, within, standing, membersFrom, elementsFrom, byLength, optionalInside, variantInside, bitsNoted, behindNoted, insideIn, insideOf, opened}
+use Rattle.field_choice.specs.Choice.{InTable, byNumber, presentAt, byFlag, byRanges, optionalClass, optionalAt, optionFrom}
+use Rattle.field_choice.specs.Choice.{variantIn, variantAt}
+use Rattle.field_inside.specs.Inside.{slotReadIn, slotReadAt, within, standing, membersFrom, elementsFrom, byLength}
+use Rattle.field_inside.specs.Inside.{optionalInside, variantInside, bitsNoted, behindNoted, insideIn, insideOf, opened}
 use Rattle.field_inside.proofs.Holders.{five}
 use Rattle.field_inside.proofs.Noted.{option-same, end-same}
 
@@ -157,7 +159,8 @@ module _ (b uuid : List ℕ) (f : Frame) (s : State) (d : ℕ) (t : List ℕ) wh
 
     either : (c : Bool) (m n : Step) (x y : Choice)
         → m s ≡ opened e 32 d t (variantInside (s .place) x) s → n s ≡ opened e 32 d t (variantInside (s .place) y) s
-        → (elim c as (λ c. Step) [ true ↦ m | false ↦ n ]) s ≡ opened e 32 d t (variantInside (s .place) (elim c [ true ↦ x | false ↦ y ])) s
+        → (elim c as (λ c. Step) [ true ↦ m | false ↦ n ]) s
+        ≡ opened e 32 d t (variantInside (s .place) (elim c [ true ↦ x | false ↦ y ])) s
     either true m n x y h i = h
     either false m n x y h i = i
 
@@ -199,12 +202,14 @@ module _ (b uuid : List ℕ) (f : Frame) (s : State) (d : ℕ) (t : List ℕ) wh
           ∙ flag-opened 31 (optionalInside (s .place) at) (λ r. refl) (slotAt (s .slots) i) _ class (present-opened begun at class)
       optional-opened i at class g (r ∷ rs) =
           room-first _ s room
-          ∙ number-opened 31 (optionalInside (s .place) at) (λ r. refl) g (slotAt (s .slots) i) _ (λ v. presentAt (anyHolds g v (r ∷ rs)) class)
+          ∙ number-opened 31 (optionalInside (s .place) at) (λ r. refl) g (slotAt (s .slots) i) _
+          (λ v. presentAt (anyHolds g v (r ∷ rs)) class)
           (λ v. present-opened begun at class (anyHolds g v (r ∷ rs)))
 
       variant-opened : (i at n : ℕ) (g : Sign)
           → read e (variant i g (optionsAt (stoodAt d t) t at n)) s
-          ≡ opened e 32 d t (variantInside (s .place) (byNumber (numberOf g (slotAt (s .slots) i)) (λ v. optionFrom (stoodAt d t) t g v 0 at n))) s
+          ≡ opened e 32 d t
+          (variantInside (s .place) (byNumber (numberOf g (slotAt (s .slots) i)) (λ v. optionFrom (stoodAt d t) t g v 0 at n))) s
       unfolding read fromSlot variantInside
       variant-opened i at n g =
           room-first _ s room
@@ -224,8 +229,8 @@ pub variant-noted : (d : ℕ) (t : List ℕ) (x : Notes) (at : ℕ) (c : Content
 unfolding variantIn
 variant-noted d t x at c r w =
     number-same (numberOf (signAt t (at + 5)) c) _ _
-    (λ v. option-same t (whole d t) (InTable t) (stoodAt d t) (endNoted (x .sizes)) (λ p u. whole-inside d t p u) (λ p u. end-same t x r d p u)
-    _ v 0 (at + 3) (u8 t (at + 2)) w)
+    (λ v. option-same t (whole d t) (InTable t) (stoodAt d t) (endNoted (x .sizes)) (λ p u. whole-inside d t p u)
+    (λ p u. end-same t x r d p u) _ v 0 (at + 3) (u8 t (at + 2)) w)
 
 module _ (b uuid : List ℕ) (f : Frame) (d : ℕ) (t : List ℕ) (x : Notes) (at : ℕ) (c : Content) (s : State) where
   -- where the class at the byte is of the kind k

@@ -2,7 +2,7 @@
 use Prim.Native.Nat.{ℕ, _≤_}
 use mathlib.Core.List.{List}
 use Rattle.rules.specs.declared.BitPlace.{BitPlace}
-use Rattle.leaf_find_number.specs.declared.Frame.{Frame}
+use Rattle.frame.specs.declared.Frame.{Frame}
 use Rattle.class_layout.specs.Trees.{stoodAt, wholeMembers, whole}
 use Rattle.field_inside.specs.declared.look.Inside.{Inside}
 use Rattle.field_inside.specs.declared.look.Inside.the-variants.{Members, Elements, Refused}

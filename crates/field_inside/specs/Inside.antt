@@ -13,10 +13,10 @@ use Rattle.rules.specs.Record.{Shape, bitField, lebField, signedLebField, zeroS
 use Rattle.rules.specs.Entry.{entry}
 use Rattle.rules.specs.Step.{Step, _⨾_, refuse, listed}
 use Rattle.rules.specs.Field.{Env, times, read, readMembers}
-use Rattle.leaf_find_number.specs.declared.Frame.{Frame}
+use Rattle.frame.specs.declared.Frame.{Frame}
 use Rattle.slots.specs.declared.Length.{Length}
 use Rattle.slots.specs.declared.Length.the-variants.{Of, NotOf}
-use Rattle.leaf_find_number.specs.Found.{alignedAt}
+use Rattle.frame.specs.Framed.{alignedAt}
 use Rattle.slots.specs.Taken.{lengthOf}
 use Rattle.class_layout.specs.Trees.{shapeOf, membersAt, stoodAt, classAt, Whole}
 use Rattle.class_layout.specs.Notes.{Notes, endNoted}
@@ -61,7 +61,7 @@ abbrev pub elementsFrom : ℕ → ℕ → BitPlace → Inside
 elementsFrom n from p = Elements p n from n
 
 unfoldable pub byLength : Length → (ℕ → Inside) → Inside
-byLength (Of n) m = m (n .0)
+byLength (Of n) m = m n
 byLength (NotOf r) m = Refused r
 
 -- "optionals bits 0 and 1 or 0"; one that is not there holds no class, at the byte behind it
@@ -113,7 +113,7 @@ opened e k d t (Refused r) s = refuse r s
 -- What the code goes by: a class of kinds 28 to 32 stands at a byte, with all that it holds in the table, and what is noted of it can be
 -- asked; no depth is in it
 
-pub record Opens (t : List ℕ) (x : Notes) (at : ℕ) : Type 0 where
+pub record HolderStands (t : List ℕ) (x : Notes) (at : ℕ) : Type 0 where
   pub limit : length t ≤ tableLimit
   pub sizes : length t ≤ length (x .sizes)
   pub aligns : length t ≤ length (x .aligns)

@@ -3,7 +3,9 @@
 use field_choice::Choice;
 use field_choice::choose_option;
 use field_choice::choose_optional;
-use leaf_find_number::Frame;
+use frame::Frame;
+use numbers::kinds;
+use numbers::limits;
 use rules::BitPlace;
 use rules::Content;
 use rules::Refusal;
@@ -12,12 +14,13 @@ use slots::length_of;
 use table_bytes::count_at;
 use table_bytes::size_at;
 use table_bytes::u16_at;
+use table_records::bodies;
 ghost use mathlib.Core.Path.{_≡_};
 ghost use Prim.Native.Nat.{_+_, _≤_, _<_, _^_};
 ghost use lib.ListN.{length};
 ghost use Rattle.rules.specs.Record.{u8};
 ghost use Rattle.class_layout.specs.Notes.{notes};
-ghost use Rattle.field_inside.specs.Inside.{within, standing, membersFrom, elementsFrom, optionalInside, variantInside, insideOf, slotReadAt, Opens};
+ghost use Rattle.field_inside.specs.Inside.{within, standing, membersFrom, elementsFrom, optionalInside, variantInside, insideOf, slotReadAt, HolderStands};
 
 // Members: the field's place and value, and `count` classes one behind the other from the byte `from` on. Elements: the same, and the class
 // at `from`, `count` times.
@@ -37,24 +40,14 @@ pub enum Inside {
     Refused(Refusal),
 }
 
-const STRUCTURE: u8 = 28;
-
-const STATIC_ARRAY: u8 = 29;
-
-const DYNAMIC_ARRAY: u8 = 30;
-
-const OPTIONAL: u8 = 31;
-
-const NO_SLOT: usize = 255;
-
 // The slot that the class of kind 26 to 32 at a byte reads; 255 where it reads none.
 pub fn slot_read(table: &[u8], at: usize) -> usize
     requires { ⌜ (26 ≤ u8 (now table) at) × (u8 (now table) at ≤ 32) × (at + 2 ≤ length (now table)) ⌝ }
     ensures { λ r. ⌜ (r ≡ slotReadAt (now (table .entry)) at) × (r < 256) ⌝ }
 {
     match table[at] {
-        STRUCTURE => NO_SLOT,
-        STATIC_ARRAY => NO_SLOT,
+        kinds::STRUCTURE => limits::NO_SLOT_READ,
+        kinds::STATIC_ARRAY => limits::NO_SLOT_READ,
         _ => count_at(table, at + 1),
     }
 }
@@ -69,18 +62,30 @@ pub fn look(
     place: BitPlace,
     content: Content,
 ) -> Inside
-    requires { ⌜ Opens (now table) (notes (now sizes) (now aligns)) at ⌝ }
+    requires { ⌜ HolderStands (now table) (notes (now sizes) (now aligns)) at ⌝ }
     requires { ⌜ (frame .start .0 ≤ place .0) × (place .0 + 64 ≤ 2 ^ 64) ⌝ }
     ensures { λ r. ⌜ r ≡ insideOf (now (table .entry)) (notes (now (sizes .entry)) (now (aligns .entry))) at frame place content ⌝ }
 {
     match table[at] {
-        STRUCTURE => members(count_at(table, at + 1), at + 3, aligns[at], frame, place),
-        STATIC_ARRAY => elements(u16_at(table, at + 1), at + 4, aligns[at], frame, place),
-        DYNAMIC_ARRAY => match length_of(content) {
+        kinds::STRUCTURE => members(
+            count_at(table, at + 1),
+            at + bodies::STRUCTURE_SIZE,
+            aligns[at],
+            frame,
+            place,
+        ),
+        kinds::STATIC_ARRAY => elements(
+            u16_at(table, at + 1),
+            at + bodies::STATIC_ARRAY_SIZE,
+            aligns[at],
+            frame,
+            place,
+        ),
+        kinds::DYNAMIC_ARRAY => match length_of(content) {
             Length::NotOf(why) => Inside::Refused(why),
-            Length::Of(n) => elements(n.0, at + 3, aligns[at], frame, place),
+            Length::Of(n) => elements(n, at + bodies::DYNAMIC_ARRAY_SIZE, aligns[at], frame, place),
         },
-        OPTIONAL => optional(
+        kinds::OPTIONAL => optional(
             choose_optional(table, at, content),
             at + size_at(sizes, at),
             place,

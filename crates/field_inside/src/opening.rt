@@ -1,8 +1,9 @@
 // A field of kinds 28 to 32 opened: its own entry is listed, and what it holds is said in numbers alone, for a run of fields.
 use crate::look::Inside;
 use crate::look::look;
-use leaf_find_number::Frame;
+use frame::Frame;
 use listing::entry::write;
+use numbers::kinds;
 use rules::BitPlace;
 use rules::Content;
 use rules::Entry;
@@ -15,10 +16,8 @@ ghost use lib.ListN.{length, drop, getD};
 ghost use Rattle.rules.specs.Record.{u8};
 ghost use Rattle.rules.specs.Entry.{words, entry};
 ghost use Rattle.class_layout.specs.Notes.{notes};
-ghost use Rattle.field_inside.specs.Inside.{insideOf, Opens};
+ghost use Rattle.field_inside.specs.Inside.{insideOf, HolderStands};
 ghost use Rattle.field_inside.specs.Opening.{openedAs, listOpened, enteredAt, listEntered, wentIn};
-
-const STRUCTURE: u8 = 28;
 
 // A field that was opened: its place, and what it holds, as `Inside` has it; or why it was not, at the place from which it was looked for.
 pub struct Opened {
@@ -41,7 +40,7 @@ pub fn open_field(
     content: Content,
     list: &mut [u64],
 ) -> Opened
-    requires { ⌜ Opens (now table) (notes (now sizes) (now aligns)) at ⌝ }
+    requires { ⌜ HolderStands (now table) (notes (now sizes) (now aligns)) at ⌝ }
     requires { ⌜ (frame .start .0 ≤ place .0) × (place .0 + 64 ≤ 2 ^ 64) ⌝ }
     requires { ⌜ 4 ≤ length (now list) ⌝ }
     ensures { λ r. ⌜
@@ -123,12 +122,12 @@ pub fn enter_structure(
     if frame.bound.0 < place.0 {
         return Entered { on: false, place };
     }
-    list_holder(STRUCTURE, place, wide64(table[at + 1]), list);
+    list_holder(kinds::STRUCTURE, place, wide64(table[at + 1]), list);
     Entered { on: true, place }
 }
 
 // The entry of a field that holds fields: it has no bits of its own.
-pub fn list_holder(kind: u8, place: BitPlace, value: u64, list: &mut [u64])
+fn list_holder(kind: u8, place: BitPlace, value: u64, list: &mut [u64])
     requires { ⌜ 4 ≤ length (now list) ⌝ }
     ensures { λ _. ⌜ now (list .exit) ≡ words (entry kind place 0 value ∷ []) ++ drop 4 (now (list .entry)) ⌝ }
 {

@@ -1,6 +1,6 @@
 -- A loop that puts runs off: a field that cannot be opened in its run is opened in one of its own, and the rest of its run goes onto a
--- heap, of which the latest comes back when a run is over. In order: a loop with something else behind it; a field in a run of its own;
--- the heap.
+-- pile, of which the latest comes back when a run is over. In order: a loop with something else behind it; a field in a run of its own;
+-- the pile.
 use mathlib.Core.Path.{_≡_, refl, ap, sym, subst, _∙_}
 use mathlib.Core.List.{List}
 use mathlib.Core.Bool.{Bool, true, false}
@@ -21,7 +21,7 @@ use Rattle.rules.specs.Field.{read}
 use Rattle.facts.proofs.Numbers.{lt-or-ge}
 use Rattle.facts.proofs.Truth.{clash}
 use Rattle.class_layout.specs.Trees.{classAt}
-use Rattle.listing.specs.declared.State.{State}
+use Rattle.listing.specs.declared.Progress.{Progress}
 use Rattle.listing.specs.Did.{full}
 use Rattle.listing.proofs.Parts.{Part, lent, merged}
 use Rattle.field_inside.specs.declared.look.Inside.{Inside}
@@ -57,7 +57,7 @@ apartFrom w r = withBehind w (left w r)
 
 -- A field that is opened in a run of its own, whatever its run has put off
 
-pub record ApartRound (w : Loop) (r : Run) (ws : List ℕ) (used : ℕ) (st : State) (l : Slots) (o : Opened) (ys : List ℕ) : Type 0 where
+pub record ApartRound (w : Loop) (r : Run) (ws : List ℕ) (used : ℕ) (st : Progress) (l : Slots) (o : Opened) (ys : List ℕ) : Type 0 where
   pub same : length (merged used ws ys) ≡ length (w .list)
   pub few : o .elements ≡ false → o .count ≤ length (w .table)
   pub rest-stands : WholeRun (w .depths) (w .table) (behindRun r (w .notes .sizes) (r .next) (r .todo - 1))
@@ -65,7 +65,7 @@ pub record ApartRound (w : Loop) (r : Run) (ws : List ℕ) (used : ℕ) (st : St
   pub goes : o .on ≡ true → Round (apartFrom w (behindRun r (w .notes .sizes) (r .next) (r .todo - 1)))
       (aloneRun (o .from) (o .count) (o .elements)) (merged used ws ys) (used + 4) (stateAt (o .place) (st .order) st) l
 
-module _ {w : Loop} {r : Run} {ws : List ℕ} {used : ℕ} {st : State} {l : Slots} {c : Content} (h : Holder w r ws used st l c) where
+module _ {w : Loop} {r : Run} {ws : List ℕ} {used : ℕ} {st : Progress} {l : Slots} {c : Content} (h : Holder w r ws used st l c) where
   abbrev rest : Run
   rest = behindRun r (w .notes .sizes) (r .next) (r .todo - 1)
 
@@ -107,77 +107,77 @@ module _ {w : Loop} {r : Run} {ws : List ℕ} {used : ℕ} {st : State} {l : Slo
     goes = apart-goes (insideHere h) refl;
   }
 
--- The heap: the first n of some runs were put off, the latest in front
+-- The pile: the first n of some runs were put off, the latest in front
 
 abbrev pub noRun : Run
 noRun = run 0 0 0 0 0 0 0
 
-unfoldable pub heapLeft : Loop → List Run → ℕ → Step
-heapLeft w h zero = w .behind
-heapLeft w h (suc n) = ahead (w .depths) (w .table) (env w) (getD h n noRun) ⨾ heapLeft w h n
+unfoldable pub pileLeft : Loop → List Run → ℕ → Step
+pileLeft w p zero = w .behind
+pileLeft w p (suc n) = ahead (w .depths) (w .table) (env w) (getD p n noRun) ⨾ pileLeft w p n
 
-abbrev pub heaped : Loop → List Run → ℕ → Loop
-heaped w h n = withBehind w (heapLeft w h n)
+abbrev pub piled : Loop → List Run → ℕ → Loop
+piled w p n = withBehind w (pileLeft w p n)
 
 abbrev pub Standing : Loop → List Run → ℕ → Type 0
-Standing w h n = (i : ℕ) → i < n → WholeRun (w .depths) (w .table) (getD h i noRun)
+Standing w p n = (i : ℕ) → i < n → WholeRun (w .depths) (w .table) (getD p i noRun)
 
 -- none is put off
-module _ {w : Loop} (h : List Run) {r : Run} {ws : List ℕ} {used : ℕ} {st : State} {l : Slots} where
-  pub heap-start : Round w r ws used st l → Round (heaped w h 0) r ws used st l
-  unfolding heapLeft
-  heap-start q = record { stands = q .stands; noted = q .noted; framed = q .framed; many = q .many; part = q .part }
+module _ {w : Loop} (p : List Run) {r : Run} {ws : List ℕ} {used : ℕ} {st : Progress} {l : Slots} where
+  pub pile-start : Round w r ws used st l → Round (piled w p 0) r ws used st l
+  unfolding pileLeft
+  pile-start q = record { stands = q .stands; noted = q .noted; framed = q .framed; many = q .many; part = q .part }
 
-  pub heap-end : Round (heaped w h 0) r ws used st l → Round w r ws used st l
-  unfolding heapLeft
-  heap-end q = record { stands = q .stands; noted = q .noted; framed = q .framed; many = q .many; part = q .part }
+  pub pile-end : Round (piled w p 0) r ws used st l → Round w r ws used st l
+  unfolding pileLeft
+  pile-end q = record { stands = q .stands; noted = q .noted; framed = q .framed; many = q .many; part = q .part }
 
-pub none-standing : (w : Loop) (h : List Run) → Standing w h 0
-none-standing w h i k = absurd (omega arith)
+pub none-standing : (w : Loop) (p : List Run) → Standing w p 0
+none-standing w p i k = absurd (omega arith)
 
 -- a place past those that were put off is set
-pub heaped-set : (w : Loop) (h : List Run) (n i : ℕ) (r : Run) → n ≤ i → heapLeft w (set h i r) n ≡ heapLeft w h n
-unfolding heapLeft
-heaped-set w h zero i r k = refl
-heaped-set w h (suc n) i r k = rw (getD-set-other h i n r noRun (λ e. omega arith), heaped-set w h n i r (omega arith)) refl
+pub piled-set : (w : Loop) (p : List Run) (n i : ℕ) (r : Run) → n ≤ i → pileLeft w (set p i r) n ≡ pileLeft w p n
+unfolding pileLeft
+piled-set w p zero i r k = refl
+piled-set w p (suc n) i r k = rw (getD-set-other p i n r noRun (λ e. omega arith), piled-set w p n i r (omega arith)) refl
 
-heap-push : (w : Loop) (h : List Run) (n : ℕ) (r : Run) → n < length h → heapLeft w (set h n r) (n + 1) ≡ left (heaped w h n) r
-unfolding heapLeft
-heap-push w h n r k = rw (add-one n, heapLeft, getD-set-same h n r noRun k, heaped-set w h n n r (omega arith)) refl
+pile-push : (w : Loop) (p : List Run) (n : ℕ) (r : Run) → n < length p → pileLeft w (set p n r) (n + 1) ≡ left (piled w p n) r
+unfolding pileLeft
+pile-push w p n r k = rw (add-one n, pileLeft, getD-set-same p n r noRun k, piled-set w p n n r (omega arith)) refl
 
-push-stands : (w : Loop) (h : List Run) (n : ℕ) (r : Run) → n < length h → Standing w h n → WholeRun (w .depths) (w .table) r
-    → Standing w (set h n r) (n + 1)
-push-stands w h n r k all one i small = by (lt-or-ge i n)
+push-stands : (w : Loop) (p : List Run) (n : ℕ) (r : Run) → n < length p → Standing w p n → WholeRun (w .depths) (w .table) r
+    → Standing w (set p n r) (n + 1)
+push-stands w p n r k all one i small = by (lt-or-ge i n)
   where
-    by : (i < n) ⊎ (n ≤ i) → WholeRun (w .depths) (w .table) (getD (set h n r) i noRun)
-    by (inl a) = rw (getD-set-other h n i r noRun (λ e. omega arith)) (all i a)
-    by (inr a) = let e : i ≡ n = omega arith in rw (e, getD-set-same h n r noRun k) one
+    by : (i < n) ⊎ (n ≤ i) → WholeRun (w .depths) (w .table) (getD (set p n r) i noRun)
+    by (inl a) = rw (getD-set-other p n i r noRun (λ e. omega arith)) (all i a)
+    by (inr a) = let e : i ≡ n = omega arith in rw (e, getD-set-same p n r noRun k) one
 
 -- a run is put off
-pub push-round : (w : Loop) (h : List Run) (n : ℕ) (rest : Run) {r : Run} {ws : List ℕ} {used : ℕ} {st : State} {l : Slots}
-    → n < length h → Standing w h n → WholeRun (w .depths) (w .table) rest → Round (apartFrom (heaped w h n) rest) r ws used st l
-    → Round (heaped w (set h n rest) (n + 1)) r ws used st l × Standing w (set h n rest) (n + 1)
-push-round w h n rest {r} {ws} {used} {st} {l} k all one q = (
-  subst (λ (m : Step). Round (withBehind w m) r ws used st l) (sym (heap-push w h n rest k)) q,
-  push-stands w h n rest k all one,
+pub push-round : (w : Loop) (p : List Run) (n : ℕ) (rest : Run) {r : Run} {ws : List ℕ} {used : ℕ} {st : Progress} {l : Slots}
+    → n < length p → Standing w p n → WholeRun (w .depths) (w .table) rest → Round (apartFrom (piled w p n) rest) r ws used st l
+    → Round (piled w (set p n rest) (n + 1)) r ws used st l × Standing w (set p n rest) (n + 1)
+push-round w p n rest {r} {ws} {used} {st} {l} k all one q = (
+  subst (λ (m : Step). Round (withBehind w m) r ws used st l) (sym (pile-push w p n rest k)) q,
+  push-stands w p n rest k all one,
 )
 
-heap-pop : (w : Loop) (h : List Run) (n : ℕ) → 0 < n → heapLeft w h n ≡ left (heaped w h (n - 1)) (getD h (n - 1) noRun)
-unfolding heapLeft
-heap-pop w h zero k = absurd (omega arith)
-heap-pop w h (suc n) k = let less : suc n - 1 ≡ n = omega arith in rw less refl
+pile-pop : (w : Loop) (p : List Run) (n : ℕ) → 0 < n → pileLeft w p n ≡ left (piled w p (n - 1)) (getD p (n - 1) noRun)
+unfolding pileLeft
+pile-pop w p zero k = absurd (omega arith)
+pile-pop w p (suc n) k = let less : suc n - 1 ≡ n = omega arith in rw less refl
 
 -- the latest comes back
-pub pop-round : (w : Loop) (h : List Run) (n : ℕ) {r : Run} {ws : List ℕ} {used : ℕ} {st : State} {l : Slots} → 0 < n → Standing w h n
-    → Round (heaped w h n) r ws used st l → over r ≡ true
-    → Round (heaped w h (n - 1)) (getD h (n - 1) noRun) ws used st l × Standing w h (n - 1)
-pop-round w h n {r} {ws} {used} {st} {l} k all q e = (
+pub pop-round : (w : Loop) (p : List Run) (n : ℕ) {r : Run} {ws : List ℕ} {used : ℕ} {st : Progress} {l : Slots} → 0 < n → Standing w p n
+    → Round (piled w p n) r ws used st l → over r ≡ true
+    → Round (piled w p (n - 1)) (getD p (n - 1) noRun) ws used st l × Standing w p (n - 1)
+pop-round w p n {r} {ws} {used} {st} {l} k all q e = (
   record {
     stands = all (n - 1) (omega arith);
     noted = q .noted;
     framed = q .framed;
     many = q .many;
-    part = subst (λ (m : Step). Part (w .all) m (w .list) ws used st l) (heap-pop w h n k) (round-over q e);
+    part = subst (λ (m : Step). Part (w .all) m (w .list) ws used st l) (pile-pop w p n k) (round-over q e);
   },
   λ i small. all i (omega arith),
 )

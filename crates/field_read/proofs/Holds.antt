@@ -2,7 +2,7 @@
 use mathlib.Core.Path.{_≡_, refl, ap, sym, subst, _∙_}
 use mathlib.Core.List.{List, [], _∷_, _++_}
 use mathlib.Core.Bool.{true, false}
-use Prim.Native.Nat.{ℕ, zero, suc, _+_, _-_, _*_, _^_, _≤_, _<_}
+use Prim.Native.Nat.{ℕ, suc, _+_, _-_, _*_, _^_, _≤_, _<_}
 use native.Mathlib.Omega.{arith}
 use lib.ListN.{length, drop}
 use borrow.Rule.Slice.PartMut.{same-len-mid}
@@ -15,23 +15,22 @@ use Rattle.rules.specs.Slots.{Slots, slotAt}
 use Rattle.rules.specs.Entry.{entry, words}
 use Rattle.rules.specs.declared.Content.{Content}
 use Rattle.rules.specs.Record.{u8}
-use Rattle.rules.specs.Step.{State as Full, Step, after, _⨾_, refuse, listed}
-use Rattle.facts.proofs.Cases.{_▷_, below}
+use Rattle.rules.specs.Step.{State, Step, after, _⨾_, refuse, listed}
 use Rattle.facts.proofs.Truth.{clash}
-use Rattle.class_layout.specs.Trees.{shapeOf, shapes, recordSize, whole, wholeMembers, stoodAt}
+use Rattle.class_layout.specs.Trees.{whole, wholeMembers, stoodAt}
 use Rattle.class_layout.specs.Notes.{Notes, Prepared}
 use Rattle.field_inside.specs.declared.look.Inside.{Inside}
 use Rattle.field_inside.specs.declared.look.Inside.the-variants.{Members, Elements, Refused}
 use Rattle.field_inside.specs.declared.opening.Opened.{Opened}
 use Rattle.field_inside.specs.Opening.{openedAs, wentIn, listOpened}
-use Rattle.field_inside.specs.Inside.{insideOf, slotReadAt, opened, Opens}
+use Rattle.field_inside.specs.Inside.{insideOf, slotReadAt, opened, HolderStands}
 use Rattle.field_inside.specs.Held.{Held, Placed, HeldMembers, HeldElements}
 use Rattle.field_inside.proofs.Noted.{opens}
 use Rattle.field_inside.proofs.Opened.{inside-read}
 use Rattle.field_inside.proofs.Held.{inside-whole}
-use Rattle.leaf_find_number.specs.declared.Frame.{Frame}
-use Rattle.leaf_find_number.specs.Framed.{Framed, envOf}
-use Rattle.listing.specs.declared.State.{State}
+use Rattle.frame.specs.declared.Frame.{Frame}
+use Rattle.frame.specs.Framed.{Framed, envOf}
+use Rattle.listing.specs.declared.Progress.{Progress}
 use Rattle.listing.specs.declared.Went.{Went}
 use Rattle.listing.specs.declared.Went.the-variants.{On, Stopped}
 use Rattle.listing.specs.Did.{full, atPlace}
@@ -42,22 +41,8 @@ use Rattle.field_read.specs.Reads.{FieldReads, gone, entered}
 use Rattle.class_layout.proofs.Standing.{depth-some}
 use Rattle.field_read.proofs.Turns.{Call, call, outcome, CallReads, stoppedCall, classRead, membersRead, elementsRead, did-length}
 
--- kinds 28 to 32 have a byte or more behind their kind
-held-size : (k : ℕ) → 28 ≤ k → k ≤ 32 → 2 ≤ recordSize (shapeOf k)
-unfolding shapeOf shapes recordSize
-held-size k l h = at-28 (k - 28) (omega arith) k (omega arith)
-  where
-    at-28 : (i : ℕ) → i < 5 → (k : ℕ) → k ≡ 28 + i → 2 ≤ recordSize (shapeOf k)
-    at-28 i h k e = rw e
-        (below (λ i. 2 ≤ recordSize (shapeOf (28 + i))) 5 (omega arith ▷ omega arith ▷ omega arith ▷ omega arith ▷ omega arith ▷ tt) i h)
-
-pub slot-within : (t : List ℕ) (at d : ℕ) → whole d t at → 28 ≤ u8 t at → at + 2 ≤ length t
-unfolding whole
-slot-within t at zero w k = absurd w
-slot-within t at (suc d) w k = omega (arith, w .there, held-size (u8 t at) k (w .high))
-
 -- the class at a byte holds fields, and c is the content of the slot that it reads
-pub record Holder (b u : List ℕ) (f : Frame) (t : List ℕ) (x : Notes) (d at : ℕ) (c : Content) (st : State) (l : Slots)
+pub record Holder (b u : List ℕ) (f : Frame) (t : List ℕ) (x : Notes) (d at : ℕ) (c : Content) (st : Progress) (l : Slots)
     (ws : List ℕ) : Type 0 where
   pub stands : whole d t at
   pub holds : 28 ≤ u8 t at
@@ -75,6 +60,10 @@ pub record Closed (w : Call) (ws : List ℕ) (r : Field) : Type 0 where
   pub stops : (v : Stop) → r .went ≡ Stopped v → CallReads w (stoppedCall w v (4 + r .used)) ws
   pub goes : r .went ≡ On → CallReads w (record { went = On; used = 4 + r .used; state = r .state; slots = r .slots }) ws
 
+-- the same at numbers of the code's own
+pub closed-same : {w : Call} {ws ws′ : List ℕ} {r r′ : Field} → ws′ ≡ ws → r′ ≡ r → Closed w ws r → Closed w ws′ r′
+closed-same e f k = rw (e, f) k
+
 -- as it went
 pub closed-reads : {w : Call} {ws : List ℕ} {r : Field} → Closed w ws r → CallReads w (entered r (w .came) (w .given)) ws
 unfolding gone
@@ -84,9 +73,9 @@ closed-reads {w} {ws} {r} k = by (r .went) refl
     by On on = k .goes on
     by (Stopped v) off = k .stops v off
 
-module _ {b u : List ℕ} {f : Frame} {t : List ℕ} {x : Notes} {d at : ℕ} {c : Content} {st : State} {l : Slots} {ws : List ℕ}
+module _ {b u : List ℕ} {f : Frame} {t : List ℕ} {x : Notes} {d at : ℕ} {c : Content} {st : Progress} {l : Slots} {ws : List ℕ}
     (h : Holder b u f t x d at c st l ws) where
-  pub can-look : Opens t x at
+  pub can-look : HolderStands t x at
   can-look = opens t x (h .noted) d at (h .stands) (h .holds)
 
   -- its own depth is one of those left
@@ -116,7 +105,7 @@ module _ {b u : List ℕ} {f : Frame} {t : List ℕ} {x : Notes} {d at : ℕ} {c
   abbrev this : Call
   this = call b u f (classRead d t at) st l ws
 
-  abbrev s : Full
+  abbrev s : State
   s = full st l (length ws)
 
   opened-read : outcome this ≡ opened (envOf b u f) (u8 t at) (d - 1) t (insideOf t x at f (st .place) c) s
@@ -193,7 +182,8 @@ module _ {b u : List ℕ} {f : Frame} {t : List ℕ} {x : Notes} {d at : ℕ} {c
   members-did : {ys : List ℕ} {r : Field} (j : Inside) → told ≡ j →
       let o = openedAs (st .place) j in
       o .on ≡ true → o .elements ≡ false
-      → FieldReads (membersRead (d - 1) t (o .from) (o .count) (envOf b u f)) (atPlace (o .place) st) l r (lent 4 (listOpened (u8 t at) j ws)) ys
+      → FieldReads (membersRead (d - 1) t (o .from) (o .count) (envOf b u f)) (atPlace (o .place) st) l r
+      (lent 4 (listOpened (u8 t at) j ws)) ys
       → Closed this (merged 4 (listOpened (u8 t at) j ws) ys) r
   unfolding openedAs wentIn listOpened
   members-did (Members p v from n) e on one did = members-closed (sym e) refl refl did
@@ -203,7 +193,8 @@ module _ {b u : List ℕ} {f : Frame} {t : List ℕ} {x : Notes} {d at : ℕ} {c
   elements-did : {ys : List ℕ} {r : Field} (j : Inside) → told ≡ j →
       let o = openedAs (st .place) j in
       o .on ≡ true → o .elements ≡ true
-      → FieldReads (elementsRead (d - 1) t (o .from) (o .count) (envOf b u f)) (atPlace (o .place) st) l r (lent 4 (listOpened (u8 t at) j ws)) ys
+      → FieldReads (elementsRead (d - 1) t (o .from) (o .count) (envOf b u f)) (atPlace (o .place) st) l r
+      (lent 4 (listOpened (u8 t at) j ws)) ys
       → Closed this (merged 4 (listOpened (u8 t at) j ws) ys) r
   unfolding openedAs wentIn listOpened
   elements-did (Members p v from n) e on one did = absurd (clash one)

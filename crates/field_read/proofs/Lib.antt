@@ -1,6 +1,7 @@
 mod Roles
 pub mod Round
 pub mod Apart
+pub mod Told
 mod Walks
 mod Turns
-pub mod Holds
+mod Holds

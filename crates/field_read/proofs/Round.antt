@@ -1,6 +1,6 @@
--- Rounds of a loop over a run of fields, whichever loop it is: what was listed, and then what is ahead of the run, and then what comes behind
--- it, is the whole outcome. In order: what a loop keeps; what falls; entries put into the list; the run's end and no room; leaves, and what is
--- due of the last; fields that are opened; a field that is read by itself.
+-- Rounds of a loop over a run of fields, whichever loop it is: what was listed, and then what is ahead of the run, and then what comes
+-- behind it, is the whole outcome. In order: what a loop keeps; what falls; entries put into the list; the run's end and no room; leaves,
+-- and what is due of the last; fields that are opened; a field that is read by itself.
 use mathlib.Core.Path.{_≡_, refl, ap, sym, subst, _∙_}
 use mathlib.Core.List.{List, [], _∷_, _++_, append-nil}
 use mathlib.Core.Bool.{Bool, true, false}
@@ -23,7 +23,7 @@ use Rattle.rules.specs.Record.{u8}
 use Rattle.rules.specs.Faults.{roles, roleOf}
 use Rattle.rules.specs.Class.{Class, fixed, leb128, signedLeb128, string, staticString, staticBlob, dynamicString, dynamicBlob}
 use Rattle.rules.specs.Class.{structure, staticArray, dynamicArray, flagged, optional, variant}
-use Rattle.rules.specs.Step.{State as Full, Out, stop, go, Step, onto, after, _⨾_, pass, refuse, listed, change, withSlots, withSaid}
+use Rattle.rules.specs.Step.{State, Out, stop, go, Step, onto, after, _⨾_, pass, refuse, listed, change, withSlots, withSaid}
 use Rattle.rules.specs.Field.{Env, read, readFixed, store, say as saying, role}
 use Rattle.facts.specs.Bytes.{Bytes}
 use Rattle.facts.proofs.Truth.{clash}
@@ -34,14 +34,13 @@ use Rattle.class_layout.specs.Notes.{Notes, Prepared, SizedClasses}
 use Rattle.class_layout.proofs.Fields.{foremost}
 use Rattle.class_layout.proofs.InPlace.{members-few}
 use Rattle.class_layout.proofs.Standing.{depth-some, first}
-use Rattle.leaf_find_number.specs.declared.Frame.{Frame}
-use Rattle.leaf_find_number.specs.Found.{alignedAt}
-use Rattle.leaf_find_number.specs.Framed.{Framed, envOf}
+use Rattle.frame.specs.declared.Frame.{Frame}
+use Rattle.frame.specs.Framed.{Framed, envOf, alignedAt}
 use Rattle.leaf_after.specs.declared.Seen.{Seen}
 use Rattle.leaf_after.specs.declared.Seen.the-variants.{Field as Sees, OtherUuid, Stops as SeesStop}
 use Rattle.leaf_after.specs.declared.Due.{Due}
 use Rattle.leaf_after.specs.declared.Leaves.{Leaves}
-use Rattle.listing.specs.declared.State.{State}
+use Rattle.listing.specs.declared.Progress.{Progress}
 use Rattle.listing.specs.declared.Went.{Went}
 use Rattle.listing.specs.declared.Went.the-variants.{On, Stopped}
 use Rattle.listing.specs.declared.role.Roled.{Roled}
@@ -52,7 +51,8 @@ use Rattle.listing.proofs.Checks.{no-room-first}
 use Rattle.listing.proofs.Roles.{clock-held, clock-advanced}
 use Rattle.listing.proofs.Parts.{Part, part-step, part-stop, part-length, back-room, listed-length, lent, lent-room, merged}
 use Rattle.leaf_read.specs.Reads.{leafSlot}
-use Rattle.leaf_read.specs.Leaves.{contentOf, LeavesListed, listBehind, leafThen, stopsAt, stoppedLeaves, lastLeaf, behindEntries, leavesRead}
+use Rattle.leaf_read.specs.Leaves.{contentOf, LeavesListed, listBehind, leafThen, stopsAt, stoppedLeaves, lastLeaf, behindEntries}
+use Rattle.leaf_read.specs.Leaves.{leavesRead}
 use Rattle.leaf_read.proofs.Leaves.{LeavesSay, leaves-read}
 use Rattle.field_inside.specs.declared.look.Inside.{Inside}
 use Rattle.field_inside.specs.declared.look.Inside.the-variants.{Members, Elements, Refused}
@@ -97,7 +97,7 @@ abbrev pub left : Loop → Run → Step
 left w r = ahead (w .depths) (w .table) (env w) r ⨾ w .behind
 
 -- what a round keeps, m being left
-pub record Kept (w : Loop) (m : Step) (r : Run) (ws : List ℕ) (used : ℕ) (st : State) (l : Slots) : Type 0 where
+pub record Kept (w : Loop) (m : Step) (r : Run) (ws : List ℕ) (used : ℕ) (st : Progress) (l : Slots) : Type 0 where
   pub stands : WholeRun (w .depths) (w .table) r
   pub noted : Prepared (w .table) (w .notes)
   pub framed : Framed (w .stream) (w .frame) (st .place)
@@ -105,12 +105,12 @@ pub record Kept (w : Loop) (m : Step) (r : Run) (ws : List ℕ) (used : ℕ) (st
   pub part : Part (w .all) m (w .list) ws used st l
 
 -- a loop at a round's start
-abbrev pub Round : Loop → Run → List ℕ → ℕ → State → Slots → Type 0
+abbrev pub Round : Loop → Run → List ℕ → ℕ → Progress → Slots → Type 0
 Round w r = Kept w (left w r) r
 
 -- the loop stopped, with so many words listed
 abbrev pub Stops : Loop → Stop → ℕ → List ℕ → Type 0
-Stops w v n ws = (came : State) (l : Slots) → Did (w .all) came (Stopped v) n came l (w .list) ws
+Stops w v n ws = (came : Progress) (l : Slots) → Did (w .all) came (Stopped v) n came l (w .list) ws
 
 -- What falls: the room that is left, which a round that lists takes of, and the steps that a loop has to do without listing: turns that are
 -- left, and runs that were put off. A walk has none of these
@@ -128,7 +128,7 @@ round-falls words words′ used used′ steps steps′ e room some = omega (arit
 unlent : (u : ℕ) (ws : List ℕ) → merged u ws (lent u ws) ≡ ws
 unlent u ws = ap (λ z. take u ws ++ z) (take-append-drop (length ws - u) (drop u ws)) ∙ take-append-drop u ws
 
-module _ {o : Out} {m : Step} {ws₀ ws : List ℕ} {used : ℕ} {st : State} {l : Slots} (part : Part o m ws₀ ws used st l)
+module _ {o : Out} {m : Step} {ws₀ ws : List ℕ} {used : ℕ} {st : Progress} {l : Slots} (part : Part o m ws₀ ws used st l)
     (es : List Entry) (n : ℕ) {ys : List ℕ} (counted : n ≡ 4 * length es) (room : n ≤ length (lent used ws))
     (list : ys ≡ words es ++ drop n (lent used ws)) where
   -- by a step that goes on at a place and an order
@@ -188,15 +188,17 @@ module _ {o : Out} {m : Step} {ws₀ ws : List ℕ} {used : ℕ} {st : State} {l
     unfolding outOf halt
     halt-did = record { listed = es; out = refl; counted = counted; list = list; room = room; kept = λ w h. refl }
 
-    pub part-halt : (came : State) (l′ : Slots) → Did o came (Stopped v) (used + n) came l′ ws₀ (merged used ws ys)
+    pub part-halt : (came : Progress) (l′ : Slots) → Did o came (Stopped v) (used + n) came l′ ws₀ (merged used ws ys)
     part-halt came l′ = part-stop halt pass halt-part halt-did v came l′ refl
 
   pub put-length : length (merged used ws ys) ≡ length ws₀
-  put-length = same-len-mid used (length ws - used) ws ys (listed-length record { list = list; counted = counted; room = room }) ∙ part-length part
+  put-length =
+      same-len-mid used (length ws - used) ws ys (listed-length record { list = list; counted = counted; room = room })
+      ∙ part-length part
 
 -- The run's end, and no room
 
-pub same-round : {w : Loop} {r r′ : Run} {ws : List ℕ} {used : ℕ} {st : State} {l : Slots} → Same (w .depths) (w .table) r r′
+pub same-round : {w : Loop} {r r′ : Run} {ws : List ℕ} {used : ℕ} {st : Progress} {l : Slots} → Same (w .depths) (w .table) r r′
     → Round w r ws used st l → Round w r′ ws used st l
 same-round {w} same h = record {
   stands = same .stands;
@@ -206,12 +208,12 @@ same-round {w} same h = record {
   part = rw (same .reads (env w)) at (h .part);
 }
 
-pub round-over : {w : Loop} {r : Run} {ws : List ℕ} {used : ℕ} {st : State} {l : Slots} → Round w r ws used st l → over r ≡ true
+pub round-over : {w : Loop} {r : Run} {ws : List ℕ} {used : ℕ} {st : Progress} {l : Slots} → Round w r ws used st l → over r ≡ true
     → Part (w .all) (w .behind) (w .list) ws used st l
 round-over {w} {r} h e = rw (over-reads (w .depths) (w .table) (env w) r e, pass-seq (w .behind)) at (h .part)
 
 -- 40 comes before all else of a field
-read-full : (e : Env) (c : Class) (s : Full) → s .room < 4 → read e c s ≡ refuse ListFull s
+read-full : (e : Env) (c : Class) (s : State) → s .room < 4 → read e c s ≡ refuse ListFull s
 unfolding read readFixed
 read-full e (fixed k n o a i r) s h = no-room-first _ s h
 read-full e (leb128 i r) s h = no-room-first _ s h
@@ -229,8 +231,8 @@ read-full e (optional i g rs c) s h = no-room-first _ s h
 read-full e (variant i g os) s h = no-room-first _ s h
 
 -- a first step that stops with nothing listed
-first-stops : (m g : Step) {o : Out} {ws₀ ws : List ℕ} {used : ℕ} {st : State} {l : Slots} (p : Part o (m ⨾ g) ws₀ ws used st l) (v : Stop)
-    → m (full st l (length ws₀ - used)) ≡ stop [] v → (came : State) (l′ : Slots) → Did o came (Stopped v) used came l′ ws₀ ws
+first-stops : (m g : Step) {o : Out} {ws₀ ws : List ℕ} {used : ℕ} {st : Progress} {l : Slots} (p : Part o (m ⨾ g) ws₀ ws used st l) (v : Stop)
+    → m (full st l (length ws₀ - used)) ≡ stop [] v → (came : Progress) (l′ : Slots) → Did o came (Stopped v) used came l′ ws₀ ws
 unfolding _⨾_ after onto outOf
 first-stops m g p v e came l′ = record {
   listed = p .listed;
@@ -242,7 +244,7 @@ first-stops m g p v e came l′ = record {
 }
 
 -- a field that went on ends within the bound
-still-framed : (b u : List ℕ) (f : Frame) (c : Class) (l : Slots) {st st′ : State} {l′ : Slots} {n : ℕ} {ws ys : List ℕ} {went : Went}
+still-framed : (b u : List ℕ) (f : Frame) (c : Class) (l : Slots) {st st′ : Progress} {l′ : Slots} {n : ℕ} {ws ys : List ℕ} {went : Went}
     → Framed b f (st .place) → went ≡ On → Did (read (envOf b u f) c (full st l (length ws))) st went n st′ l′ ws ys
     → Framed b f (st′ .place)
 unfolding outOf
@@ -254,7 +256,7 @@ still-framed b u f c l {st} {st′} {l′} {n} {ws} h on did =
 
 -- The first field's class, and what is left behind it
 
-module _ {w : Loop} {r : Run} {ws : List ℕ} {used : ℕ} {st : State} {l : Slots} (h : Round w r ws used st l) (some : 0 < countOf r) where
+module _ {w : Loop} {r : Run} {ws : List ℕ} {used : ℕ} {st : Progress} {l : Slots} (h : Round w r ws used st l) (some : 0 < countOf r) where
   abbrev firstClass : Class
   firstClass = classAt (w .depths) (w .table) (firstAt r)
 
@@ -317,14 +319,14 @@ unfolding leavesRead stopsAt stoppedLeaves onward
 again-at t b u f x at zero p o room = refl
 again-at t b u f x at (suc n) p o room = then-at _ at (suc n) p o _ _ (λ q. again-at t b u f x at n _ _ _)
 
-module _ {w : Loop} {r : Run} {ws : List ℕ} {used : ℕ} {st : State} {l : Slots} (h : Round w r ws used st l) (some : 0 < countOf r)
+module _ {w : Loop} {r : Run} {ws : List ℕ} {used : ℕ} {st : Progress} {l : Slots} (h : Round w r ws used st l) (some : 0 < countOf r)
     (bytes : Bytes (w .stream)) (x : Content) (kind : u8 (w .table) (firstAt r) < 28) (room : 4 ≤ length ws - used)
     (told : slotAt l (leafSlot (w .table) (firstAt r)) ≡ x) where
   abbrev pub leavesOf : LeavesListed
   leavesOf = leavesRead (element r) (w .table) (w .stream) (w .uuid) (w .frame) x (firstAt r) (countOf r) (st .place) (st .order)
       (length (lent used ws))
 
-  abbrev begun : Full
+  abbrev begun : State
   begun = full st l (length (lent used ws))
 
   same-room : length (lent used ws) ≡ length (w .list) - used
@@ -386,7 +388,8 @@ module _ {w : Loop} {r : Run} {ws : List ℕ} {used : ℕ} {st : State} {l : Slo
       let q = leavesOf .leaves in
       let act = store (q .slot) (contentOf (u8 (w .table) (q .at)) (q .value)) in
       let say = role (roleOf (q .role)) (q .width) (q .value) in
-      let rest = readFields (element r) (w .depths) (w .table) (onward (element r) (q .at) (nextAt (w .depths) (w .table) (q .at))) (q .todo) (env w) in
+      let next = onward (element r) (q .at) (nextAt (w .depths) (w .table) (q .at)) in
+      let rest = readFields (element r) (w .depths) (w .table) next (q .todo) (env w) in
       let sized : SizedClasses (w .table) (w .notes .sizes) = λ d p v. h .noted .classes d p v .size in
       let back = behind-reads (w .depths) (w .table) (w .notes .sizes) sized r (q .at) (q .todo) (go .stands) last-at (env w) in
       let same : ((act ⨾ (say ⨾ rest)) ⨾ (tail ⨾ w .behind)) ≡ dueLeft =
@@ -412,7 +415,7 @@ module _ {w : Loop} {r : Run} {ws : List ℕ} {used : ℕ} {st : State} {l : Slo
       }
 
 -- the same of what the code says
-pub record LeavesRound (w : Loop) (r : Run) (ws : List ℕ) (used : ℕ) (st : State) (l : Slots) (q : Leaves) (ys : List ℕ) : Type 0 where
+pub record LeavesRound (w : Loop) (r : Run) (ws : List ℕ) (used : ℕ) (st : Progress) (l : Slots) (q : Leaves) (ys : List ℕ) : Type 0 where
   pub room : used + q .used ≤ length (w .list)
   pub same : length (merged used ws ys) ≡ length (w .list)
   pub stops : q .on ≡ false → Stops w (stopAt (q .why) (q .place)) (used + q .used) (merged used ws ys)
@@ -424,8 +427,8 @@ pub record LeavesRound (w : Loop) (r : Run) (ws : List ℕ) (used : ℕ) (st : S
       Kept w (store (q .slot) (contentOf (u8 (w .table) (q .at)) (q .value)) ⨾ (role (roleOf (q .role)) (q .width) (q .value) ⨾ left w r′))
       r′ (merged used ws ys) (used + q .used) (stateAt (q .place) (q .order) st) l
 
-pub leaves-round : {w : Loop} {r : Run} {ws : List ℕ} {used : ℕ} {st : State} {l : Slots} (h : Round w r ws used st l) (some : 0 < countOf r)
-    (bytes : Bytes (w .stream)) (x : Content) (kind : u8 (w .table) (firstAt r) < 28) (room : 4 ≤ length ws - used)
+pub leaves-round : {w : Loop} {r : Run} {ws : List ℕ} {used : ℕ} {st : Progress} {l : Slots} (h : Round w r ws used st l)
+    (some : 0 < countOf r) (bytes : Bytes (w .stream)) (x : Content) (kind : u8 (w .table) (firstAt r) < 28) (room : 4 ≤ length ws - used)
     (told : slotAt l (leafSlot (w .table) (firstAt r)) ≡ x) {q : Leaves} {ys : List ℕ}
     → q ≡ (leavesOf h some bytes x kind room told) .leaves → ys ≡ listBehind (leavesOf h some bytes x kind room told) (lent used ws)
     → LeavesRound w r ws used st l q ys
@@ -440,7 +443,7 @@ leaves-round h some bytes x kind room told e f = rw (e, f) record {
 }
 
 -- the slot is set
-pub stored : {w : Loop} {m : Step} {r : Run} {ws : List ℕ} {used : ℕ} {st : State} {l : Slots} (i : ℕ) (x : Content)
+pub stored : {w : Loop} {m : Step} {r : Run} {ws : List ℕ} {used : ℕ} {st : Progress} {l : Slots} (i : ℕ) (x : Content)
     → Kept w (store i x ⨾ m) r ws used st l → Kept w m r ws used st (setSlot l i x)
 unfolding _⨾_ after store change withSlots setSlot
 stored i x h = record {
@@ -458,7 +461,7 @@ stored i x h = record {
 }
 
 -- no role is due
-pub no-role : {w : Loop} {m : Step} {r : Run} {ws : List ℕ} {used : ℕ} {st : State} {l : Slots} (k n v : ℕ) → k ≡ 0
+pub no-role : {w : Loop} {m : Step} {r : Run} {ws : List ℕ} {used : ℕ} {st : Progress} {l : Slots} (k n v : ℕ) → k ≡ 0
     → Kept w (role (roleOf k) n v ⨾ m) r ws used st l → Kept w m r ws used st l
 unfolding role roleOf roles
 no-role {w} {m} k n v e h = record {
@@ -470,10 +473,10 @@ no-role {w} {m} k n v e h = record {
 }
 
 -- an event's id is said
-abbrev pub saidEvent : ℕ → State → State
+abbrev pub saidEvent : ℕ → Progress → Progress
 saidEvent v st = record { place = st .place; order = st .order; clock = st .clock; last = st .last; said = withEvent v (st .said) }
 
-pub event-role : {w : Loop} {m : Step} {r : Run} {ws : List ℕ} {used : ℕ} {st : State} {l : Slots} (k n v : ℕ) → k ≡ 11
+pub event-role : {w : Loop} {m : Step} {r : Run} {ws : List ℕ} {used : ℕ} {st : Progress} {l : Slots} (k n v : ℕ) → k ≡ 11
     → Kept w (role (roleOf k) n v ⨾ m) r ws used st l → Kept w m r ws used (saidEvent v st) l
 unfolding _⨾_ after role roleOf roles saying change withSaid
 event-role {w} {m} {r} {ws} {used} {st} {l} k n v e h =
@@ -492,18 +495,19 @@ event-role {w} {m} {r} {ws} {used} {st} {l} k n v e h =
       };
     }
 
-same-full : (p : BitPlace) (o : LastOrder) (q : State) (l : Slots) (n : ℕ) → q .place ≡ p → q .order ≡ o
+same-full : (p : BitPlace) (o : LastOrder) (q : Progress) (l : Slots) (n : ℕ) → q .place ≡ p → q .order ≡ o
     → full q l n ≡ full (stateAt p o q) l n
 same-full p o q l n a b = rw (a, b) refl
 
 -- the role is applied
-pub record RoleRound (w : Loop) (m : Step) (r : Run) (ws : List ℕ) (used : ℕ) (st : State) (l : Slots) (q : Roled) (ys : List ℕ) : Type 0 where
+pub record RoleRound (w : Loop) (m : Step) (r : Run) (ws : List ℕ) (used : ℕ) (st : Progress) (l : Slots) (q : Roled) (ys : List ℕ)
+    : Type 0 where
   pub room : used + q .used ≤ length (w .list)
   pub same : length (merged used ws ys) ≡ length (w .list)
   pub stops : (v : Stop) → q .went ≡ Stopped v → Stops w v (used + q .used) (merged used ws ys)
   pub goes : q .went ≡ On → Kept w m r (merged used ws ys) (used + q .used) (stateAt (st .place) (st .order) (q .state)) l
 
-pub role-round : {w : Loop} {m : Step} {r : Run} {ws : List ℕ} {used : ℕ} {st : State} {l : Slots} {q : Roled} {ys : List ℕ} (k n v : ℕ)
+pub role-round : {w : Loop} {m : Step} {r : Run} {ws : List ℕ} {used : ℕ} {st : Progress} {l : Slots} {q : Roled} {ys : List ℕ} (k n v : ℕ)
     → Kept w (role (roleOf k) n v ⨾ m) r ws used st l → RoleDid (role (roleOf k) n v) st q (lent used ws) ys
     → RoleRound w m r ws used st l q ys
 role-round {w} {m} {r} {ws} {used} {st} {l} {q} {ys} k n v h did =
@@ -528,20 +532,20 @@ role-round {w} {m} {r} {ws} {used} {st} {l} {q} {ys} k n v h did =
               list = part .list;
               counted = part .counted;
               room = part .room;
-              rest = part .rest ∙ ap (λ (z : Full). onto (part .listed) (m z)) (same-full _ _ (q .state) l _ (stays .0) (stays .1));
+              rest = part .rest ∙ ap (λ (z : State). onto (part .listed) (m z)) (same-full _ _ (q .state) l _ (stays .0) (stays .1));
             };
           };
     }
 
 -- the clock by numbers
-pub record ClockRound (w : Loop) (m : Step) (r : Run) (ws : List ℕ) (used : ℕ) (st : State) (l : Slots) (a : Advanced) (ys : List ℕ)
+pub record ClockRound (w : Loop) (m : Step) (r : Run) (ws : List ℕ) (used : ℕ) (st : Progress) (l : Slots) (a : Advanced) (ys : List ℕ)
     : Type 0 where
   pub same : length (merged used ws ys) ≡ length (w .list)
   pub room : a .on ≡ true → used + 4 ≤ length (w .list)
   pub stops : a .on ≡ false → Stops w (stopAt (a .why) (st .place)) used (merged used ws ys)
   pub goes : a .on ≡ true → Kept w m r (merged used ws ys) (used + 4) (tickedState st (a .clock)) l
 
-pub clock-role : {w : Loop} {m : Step} {r : Run} {ws : List ℕ} {used : ℕ} {st : State} {l : Slots} {a : Advanced} {ys : List ℕ} (k n v : ℕ)
+pub clock-role : {w : Loop} {m : Step} {r : Run} {ws : List ℕ} {used : ℕ} {st : Progress} {l : Slots} {a : Advanced} {ys : List ℕ} (k n v : ℕ)
     → k ≡ 7 → Kept w (role (roleOf k) n v ⨾ m) r ws used st l → a ≡ advancedBy n v (st .clock) (length (lent used ws))
     → ys ≡ listAdvanced (st .place) n a (lent used ws) → ClockRound w m r ws used st l a ys
 unfolding roleOf roles
@@ -567,12 +571,12 @@ clock-role {w} {m} {r} {ws} {used} {st} {l} {a} {ys} k n v is h e f = by (a .on)
 -- Fields that are opened
 
 -- what is read of a field that holds others has its entry in front
-onto-lists : (e : Entry) (o : Out) {es : List Entry} {z : Full} → onto (e ∷ []) o ≡ go es z → 1 ≤ length es
+onto-lists : (e : Entry) (o : Out) {es : List Entry} {z : State} → onto (e ∷ []) o ≡ go es z → 1 ≤ length es
 unfolding onto listOf
 onto-lists e (stop fs v) h = let z : _≡_ {A = ℕ} 0 1 = cc in absurd (omega arith)
 onto-lists e (go fs q) h = omega (arith, ap (λ o. length (listOf o)) h)
 
-opened-lists : (e : Env) (k d : ℕ) (t : List ℕ) (i : Inside) (a : Full) {es : List Entry} {z : Full} → opened e k d t i a ≡ go es z
+opened-lists : (e : Env) (k d : ℕ) (t : List ℕ) (i : Inside) (a : State) {es : List Entry} {z : State} → opened e k d t i a ≡ go es z
     → 1 ≤ length es
 unfolding opened _⨾_ after listed refuse
 opened-lists e k d t (Members p v from n) a h = onto-lists _ _ h
@@ -580,7 +584,7 @@ opened-lists e k d t (Elements p v from n) a h = onto-lists _ _ h
 opened-lists e k d t (Refused why) a h = let z : _≡_ {A = ℕ} 0 1 = cc in absurd (omega arith)
 
 -- a first member that holds fields, with room for its entry; c is what the slot holds that it reads
-pub record Holder (w : Loop) (r : Run) (ws : List ℕ) (used : ℕ) (st : State) (l : Slots) (c : Content) : Type 0 where
+pub record Holder (w : Loop) (r : Run) (ws : List ℕ) (used : ℕ) (st : Progress) (l : Slots) (c : Content) : Type 0 where
   pub round : Round w r ws used st l
   pub some : 0 < r .todo
   pub kind : 28 ≤ u8 (w .table) (r .next)
@@ -588,7 +592,7 @@ pub record Holder (w : Loop) (r : Run) (ws : List ℕ) (used : ℕ) (st : State)
   pub told : slotAt l (slotReadAt (w .table) (r .next)) ≡ c
 
 -- what was opened: it stopped the loop, or its parts stand in the run
-pub record OpenRound (w : Loop) (r : Run) (ws : List ℕ) (used : ℕ) (st : State) (l : Slots) (i : Inside) : Type 0 where
+pub record OpenRound (w : Loop) (r : Run) (ws : List ℕ) (used : ℕ) (st : Progress) (l : Slots) (i : Inside) : Type 0 where
   pub same : length (merged used ws (listOpened (u8 (w .table) (r .next)) i (lent used ws))) ≡ length (w .list)
   pub stops : openedAs (st .place) i .on ≡ false → Stops w (stopAt (openedAs (st .place) i .why) (st .place)) used
       (merged used ws (listOpened (u8 (w .table) (r .next)) i (lent used ws)))
@@ -597,7 +601,7 @@ pub record OpenRound (w : Loop) (r : Run) (ws : List ℕ) (used : ℕ) (st : Sta
       Round w (intoRun (u8 (w .table) (r .next)) r (w .notes .sizes) (o .from) (o .count) (o .elements))
       (merged used ws (listOpened (u8 (w .table) (r .next)) i (lent used ws))) (used + 4) (stateAt (o .place) (st .order) st) l
 
-module _ {w : Loop} {r : Run} {ws : List ℕ} {used : ℕ} {st : State} {l : Slots} {c : Content} (h : Holder w r ws used st l c) where
+module _ {w : Loop} {r : Run} {ws : List ℕ} {used : ℕ} {st : Progress} {l : Slots} {c : Content} (h : Holder w r ws used st l c) where
   abbrev d : ℕ
   d = w .depths
 
@@ -607,7 +611,7 @@ module _ {w : Loop} {r : Run} {ws : List ℕ} {used : ℕ} {st : State} {l : Slo
   abbrev at : ℕ
   at = r .next
 
-  abbrev here : Full
+  abbrev here : State
   here = full st l (length (w .list) - used)
 
   abbrev pub insideHere : Inside
@@ -638,8 +642,8 @@ module _ {w : Loop} {r : Run} {ws : List ℕ} {used : ℕ} {st : State} {l : Slo
   class-reads : read (env w) (classAt d t at) here ≡ opened (env w) (u8 t at) d t insideHere here
   class-reads =
       ap (λ (e : ℕ). read (env w) (classAt e t at) here) (depth-some t at d holder-there)
-      ∙ inside-read (w .stream) (w .uuid) (w .frame) (d - 1) t (w .notes) at c here deep (h .kind) has-room (sym (h .told)) (h .round .framed)
-      (h .round .noted)
+      ∙ inside-read (w .stream) (w .uuid) (w .frame) (d - 1) t (w .notes) at c here deep (h .kind) has-room (sym (h .told))
+      (h .round .framed) (h .round .noted)
       ∙ opened-deeper (d - 1) d t less (w .frame) (st .place) (env w) (u8 t at) insideHere here held-less
 
   placed : (p : BitPlace) → Placed (w .frame) (st .place) p → Framed (w .stream) (w .frame) p
@@ -790,14 +794,14 @@ module _ {w : Loop} {r : Run} {ws : List ℕ} {used : ℕ} {st : State} {l : Slo
   }
 
 -- the same of what the code says
-pub record CodeRound (w : Loop) (r : Run) (ws : List ℕ) (used : ℕ) (st : State) (l : Slots) (o : Opened) (ys : List ℕ) : Type 0 where
+pub record CodeRound (w : Loop) (r : Run) (ws : List ℕ) (used : ℕ) (st : Progress) (l : Slots) (o : Opened) (ys : List ℕ) : Type 0 where
   pub same : length (merged used ws ys) ≡ length (w .list)
   pub few : o .elements ≡ false → o .count ≤ length (w .table)
   pub stops : o .on ≡ false → Stops w (stopAt (o .why) (st .place)) used (merged used ws ys)
   pub goes : o .on ≡ true → Round w (intoRun (u8 (w .table) (r .next)) r (w .notes .sizes) (o .from) (o .count) (o .elements))
       (merged used ws ys) (used + 4) (stateAt (o .place) (st .order) st) l
 
-pub code-round : {w : Loop} {r : Run} {ws : List ℕ} {used : ℕ} {st : State} {l : Slots} {c : Content} (h : Holder w r ws used st l c)
+pub code-round : {w : Loop} {r : Run} {ws : List ℕ} {used : ℕ} {st : Progress} {l : Slots} {c : Content} (h : Holder w r ws used st l c)
     → ((u8 (w .table) (r .next) ≡ 28 → ⊥) → (u8 (w .table) (r .next) ≡ 31 → ⊥) → free r ≡ true) → {o : Opened} {ys : List ℕ}
     → o ≡ openedAs (st .place) (insideHere h) → ys ≡ listOpened (u8 (w .table) (r .next)) (insideHere h) (lent used ws)
     → CodeRound w r ws used st l o ys
@@ -806,13 +810,13 @@ code-round h may e f =
     rw (e, f) record { same = q .same; few = open-few h; stops = q .stops; goes = q .goes }
 
 -- a structure that was entered
-pub record EnterRound (w : Loop) (r : Run) (ws : List ℕ) (used : ℕ) (st : State) (l : Slots) (o : Entered) (ys : List ℕ) : Type 0 where
+pub record EnterRound (w : Loop) (r : Run) (ws : List ℕ) (used : ℕ) (st : Progress) (l : Slots) (o : Entered) (ys : List ℕ) : Type 0 where
   pub same : length (merged used ws ys) ≡ length (w .list)
   pub stops : o .on ≡ false → Stops w (stopAt PastBound (st .place)) used (merged used ws ys)
   pub goes : o .on ≡ true → Round w (openedRun r (r .next + 3) (u8 (w .table) (r .next + 1))) (merged used ws ys) (used + 4)
       (stateAt (o .place) (st .order) st) l
 
-pub enter-round : {w : Loop} {r : Run} {ws : List ℕ} {used : ℕ} {st : State} {l : Slots} {c : Content} → Holder w r ws used st l c
+pub enter-round : {w : Loop} {r : Run} {ws : List ℕ} {used : ℕ} {st : Progress} {l : Slots} {c : Content} → Holder w r ws used st l c
     → u8 (w .table) (r .next) ≡ 28 → {o : Entered} {ys : List ℕ} → o ≡ enteredAt (w .frame) (bitsNoted (w .notes) (r .next)) (st .place)
     → ys ≡ listEntered (w .frame) (bitsNoted (w .notes) (r .next)) (st .place) (u8 (w .table) (r .next + 1)) (lent used ws)
     → EnterRound w r ws used st l o ys
@@ -859,9 +863,9 @@ pub record FieldRound (w : Loop) (r : Run) (ws : List ℕ) (used : ℕ) (q : Fie
   pub goes : q .went ≡ On
       → Round w (behindRun r (w .notes .sizes) (r .next) (r .todo - 1)) (merged used ws ys) (used + q .used) (q .state) (q .slots)
 
-module _ {w : Loop} {r : Run} {ws : List ℕ} {used : ℕ} {st : State} {l : Slots} {c : Content} (h : Holder w r ws used st l c) where
-  pub field-round : {q : Field} {ys : List ℕ} → FieldReads (read (env w) (classAt (w .depths) (w .table) (r .next))) st l q (lent used ws) ys
-      → FieldRound w r ws used q ys
+module _ {w : Loop} {r : Run} {ws : List ℕ} {used : ℕ} {st : Progress} {l : Slots} {c : Content} (h : Holder w r ws used st l c) where
+  pub field-round : {q : Field} {ys : List ℕ}
+      → FieldReads (read (env w) (classAt (w .depths) (w .table) (r .next))) st l q (lent used ws) ys → FieldRound w r ws used q ys
   unfolding outOf
   field-round {q} {ys} did =
       let d = did .did in

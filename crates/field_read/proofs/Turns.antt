@@ -8,9 +8,9 @@ use Rattle.rules.specs.Slots.{Slots}
 use Rattle.rules.specs.Step.{Out, Step, pass}
 use Rattle.rules.specs.Field.{Env, read, readMembers, times}
 use Rattle.class_layout.specs.Trees.{stoodAt, classAt, membersAt}
-use Rattle.leaf_find_number.specs.declared.Frame.{Frame}
-use Rattle.leaf_find_number.specs.Framed.{envOf}
-use Rattle.listing.specs.declared.State.{State}
+use Rattle.frame.specs.declared.Frame.{Frame}
+use Rattle.frame.specs.Framed.{envOf}
+use Rattle.listing.specs.declared.Progress.{Progress}
 use Rattle.listing.specs.declared.Went.{Went}
 use Rattle.listing.specs.Did.{Did, full}
 use Rattle.listing.proofs.Parts.{part-length}
@@ -23,11 +23,11 @@ pub record Call : Type 0 where
   pub uuid : List ℕ
   pub frame : Frame
   pub all : Step
-  pub came : State
+  pub came : Progress
   pub given : Slots
   pub list : List ℕ
 
-abbrev pub call : List ℕ → List ℕ → Frame → (Env → Step) → State → Slots → List ℕ → Call
+abbrev pub call : List ℕ → List ℕ → Frame → (Env → Step) → Progress → Slots → List ℕ → Call
 call b u f m st l ws = record { stream = b; uuid = u; frame = f; all = m (envOf b u f); came = st; given = l; list = ws }
 
 abbrev pub outcome : Call → Out
@@ -50,7 +50,7 @@ abbrev pub elementsRead : ℕ → List ℕ → ℕ → ℕ → Env → Step
 elementsRead d t at n e = times n (read e (classAt d t at))
 
 -- a list keeps its length
-pub did-length : {o : Out} {came st : State} {went : Went} {n : ℕ} {l : Slots} {ws ys : List ℕ} → Did o came went n st l ws ys
+pub did-length : {o : Out} {came st : Progress} {went : Went} {n : ℕ} {l : Slots} {ws ys : List ℕ} → Did o came went n st l ws ys
     → length ys ≡ length ws
 did-length {st = st} {l = l} did = part-length {m = pass} {st = st} {l = l}
     record { listed = did .listed; list = did .list; counted = did .counted; room = did .room; rest = refl }

@@ -11,9 +11,9 @@ use Rattle.rules.specs.Slots.{Slots}
 use Rattle.rules.specs.Step.{Step, pass}
 use Rattle.facts.proofs.Steps.{seq-pass}
 use Rattle.class_layout.specs.Notes.{Notes, Prepared}
-use Rattle.leaf_find_number.specs.declared.Frame.{Frame}
-use Rattle.leaf_find_number.specs.Framed.{Framed, envOf}
-use Rattle.listing.specs.declared.State.{State}
+use Rattle.frame.specs.declared.Frame.{Frame}
+use Rattle.frame.specs.Framed.{Framed, envOf}
+use Rattle.listing.specs.declared.Progress.{Progress}
 use Rattle.listing.specs.declared.Went.the-variants.{On, Stopped}
 use Rattle.listing.specs.Did.{Did, full}
 use Rattle.listing.proofs.Parts.{Part, part-start, part-end}
@@ -23,7 +23,7 @@ use Rattle.field_runs.specs.Ahead.{ahead, WholeRun}
 use Rattle.field_read.specs.Reads.{FieldReads, stoppedField, stateAt}
 use Rattle.field_read.proofs.Round.{Loop, Round, round-over}
 
-module _ (b u : List ℕ) (f : Frame) (d : ℕ) (t : List ℕ) (x : Notes) (begun : Run) (st : State) (given : Slots) (ws₀ : List ℕ) where
+module _ (b u : List ℕ) (f : Frame) (d : ℕ) (t : List ℕ) (x : Notes) (begun : Run) (st : Progress) (given : Slots) (ws₀ : List ℕ) where
   abbrev pub walkRead : Step
   walkRead = ahead d t (envOf b u f) begun
 
@@ -51,7 +51,7 @@ module _ (b u : List ℕ) (f : Frame) (d : ℕ) (t : List ℕ) (x : Notes) (begu
         (sym (seq-pass walkRead)) (part-start walkRead ws₀ (stateAt (st .place) (st .order) st) given);
   }
 
-  pub walk-end : {r : Run} {ws : List ℕ} {used : ℕ} {st′ : State} {l : Slots} → Round walkLoop r ws used st′ l → over r ≡ true
+  pub walk-end : {r : Run} {ws : List ℕ} {used : ℕ} {st′ : Progress} {l : Slots} → Round walkLoop r ws used st′ l → over r ≡ true
       → FieldReads walkRead st given (record { went = On; used = used; state = st′; slots = l }) ws₀ ws
   unfolding pass
   walk-end h e = record {
@@ -60,8 +60,8 @@ module _ (b u : List ℕ) (f : Frame) (d : ℕ) (t : List ℕ) (x : Notes) (begu
     many = h .many;
   }
 
-pub walk-stopped : (b u : List ℕ) (f : Frame) (d : ℕ) (t : List ℕ) (begun : Run) (st : State) (given : Slots) (ws₀ : List ℕ)
+pub walk-stopped : (b u : List ℕ) (f : Frame) (d : ℕ) (t : List ℕ) (begun : Run) (st : Progress) (given : Slots) (ws₀ : List ℕ)
     {v : Stop} {n : ℕ} {ws : List ℕ} → length given ≡ slotCount
-    → ((came : State) (l : Slots) → Did (ahead d t (envOf b u f) begun (full st given (length ws₀))) came (Stopped v) n came l ws₀ ws)
+    → ((came : Progress) (l : Slots) → Did (ahead d t (envOf b u f) begun (full st given (length ws₀))) came (Stopped v) n came l ws₀ ws)
     → FieldReads (ahead d t (envOf b u f) begun) st given (stoppedField v n st given) ws₀ ws
 walk-stopped b u f d t begun st given ws₀ many stops = record { did = stops st given; kept = λ v h. refl; many = many }

@@ -21,34 +21,33 @@ use field_runs::is_over;
 use field_runs::members;
 use field_runs::opened;
 use field_runs::taken;
-use leaf_find_number::Frame;
-use leaf_read::FIRST_THAT_HOLDS;
+use frame::Frame;
 use leaf_read::content_of;
 use leaf_read::leaf_slot;
 use leaf_read::read_leaves;
-use listing::State;
+use listing::Progress;
 use listing::Went;
 use listing::at_place;
 use listing::role;
+use numbers::kinds;
 use rules::BitPlace;
 use rules::Content;
 use rules::Refusal;
 use rules::Slot;
 use rules::Stop;
 use table_bytes::wide;
+use table_records::bodies::STRUCTURE_SIZE;
 ghost use mathlib.Core.Path.{_≡_};
 ghost use Prim.Native.Nat.{_+_, _^_, _≤_, _<_};
 ghost use lib.ListN.{length};
 ghost use Rattle.rules.specs.Record.{u8};
 ghost use Rattle.rules.specs.Verdict.{stopAt};
 ghost use Rattle.rules.specs.Field.{read, readMembers, times};
-ghost use Rattle.leaf_find_number.specs.Framed.{Framed, envOf};
+ghost use Rattle.frame.specs.Framed.{Framed, envOf};
 ghost use Rattle.class_layout.specs.Trees.{whole, wholeMembers, stoodAt, classAt, membersAt};
 ghost use Rattle.class_layout.specs.Notes.{notes, Prepared};
 ghost use Rattle.field_runs.specs.Ahead.{ahead, WholeRun};
 ghost use Rattle.field_read.specs.Reads.{FieldReads, stoppedField, entered};
-
-pub const STRUCTURE: u8 = 28;
 
 // The field of the class at a byte, which holds fields, where there is room for its entry. `left` depths are left, its own among them.
 pub fn read_field(
@@ -60,7 +59,7 @@ pub fn read_field(
     frame: Frame,
     at: usize,
     left: usize,
-    st: State,
+    st: Progress,
     slots: [Slot; 64],
     list: &mut [u64],
 ) -> Field
@@ -120,7 +119,7 @@ pub fn read_field(
 }
 
 // A field's own entry stands before what is inside it. What stopped hands back what came to the field, not what its entry left.
-fn behind_entry(inside: Field, st: State, slots: [Slot; 64]) -> Field
+fn behind_entry(inside: Field, st: Progress, slots: [Slot; 64]) -> Field
     requires { ⌜ 4 + inside .used < 2 ^ 64 ⌝ }
     ensures { λ r. ⌜ r ≡ entered inside st slots ⌝ }
 {
@@ -151,7 +150,7 @@ pub fn walk_members(
     at: usize,
     count: usize,
     left: usize,
-    st: State,
+    st: Progress,
     given: [Slot; 64],
     list: &mut [u64],
 ) -> Field
@@ -190,7 +189,7 @@ fn walk_elements(
     at: usize,
     count: usize,
     left: usize,
-    st: State,
+    st: Progress,
     given: [Slot; 64],
     list: &mut [u64],
 ) -> Field
@@ -230,7 +229,7 @@ fn walk(
     frame: Frame,
     begun: Run,
     left: usize,
-    st: State,
+    st: Progress,
     given: [Slot; 64],
     list: &mut [u64],
 ) -> Field
@@ -263,7 +262,7 @@ fn walk(
         }
         let next = first(run);
         let kind = table[next];
-        if kind < FIRST_THAT_HOLDS {
+        if kind < kinds::FIRST_THAT_HOLDS {
             let mut content = Content::Unset;
             let i = leaf_slot(table, next);
             if i < 64 {
@@ -320,13 +319,13 @@ fn walk(
             continue;
         }
         run = taken(run);
-        if kind == STRUCTURE {
+        if kind == kinds::STRUCTURE {
             let o = enter_structure(table, aligns, frame, next, place, &mut list[used..]);
             if !o.on {
                 return refused(Refusal::PastBound, place, used, st, given);
             }
             place = o.place;
-            run = opened(run, next + 3, wide(table[next + 1]));
+            run = opened(run, next + STRUCTURE_SIZE, wide(table[next + 1]));
             used = used + 4;
             continue;
         }
@@ -386,14 +385,14 @@ fn walk(
 }
 
 // What stopped at a place.
-fn refused(why: Refusal, place: BitPlace, used: usize, st: State, slots: [Slot; 64]) -> Field
+fn refused(why: Refusal, place: BitPlace, used: usize, st: Progress, slots: [Slot; 64]) -> Field
     ensures { λ r. ⌜ r ≡ stoppedField (stopAt why place) used st slots ⌝ }
 {
     stopped(Stop { why, place }, used, st, slots)
 }
 
 // What stopped: state and slots are those that came.
-fn stopped(stop: Stop, used: usize, st: State, slots: [Slot; 64]) -> Field
+fn stopped(stop: Stop, used: usize, st: Progress, slots: [Slot; 64]) -> Field
     ensures { λ r. ⌜ r ≡ stoppedField stop used st slots ⌝ }
 {
     Field {

@@ -24,7 +24,7 @@ use Rattle.field_runs.proofs.Ahead.{stood, membersRead, elementsRead, M
 use Rattle.field_runs.proofs.Ahead.{heldRead, restRead, member-reads, instead}
 
 -- at a state a run reads m, and then what another one does, which stands whole
-pub record Opens (d : ℕ) (t : List ℕ) (e : Env) (s : State) (m : Step) (r r′ : Run) : Type 0 where
+pub record OpensTo (d : ℕ) (t : List ℕ) (e : Env) (s : State) (m : Step) (r r′ : Run) : Type 0 where
   pub reads : ahead d t e r s ≡ (m ⨾ ahead d t e r′) s
   pub stands : WholeRun d t r′
 
@@ -51,7 +51,7 @@ module _ (d : ℕ) (t : List ℕ) (r : Run) (w : WholeRun d t r) (h : 0 < r .tod
         }
 
     pub opened-opens : (e : Env) (s : State) (m : Step) → read e (classAt d t (r .next)) s ≡ (m ⨾ membersRead d t e from n) s
-        → Opens d t e s m r (openedRun r from n)
+        → OpensTo d t e s m r (openedRun r from n)
     opened-opens e s m k = record {
       reads =
           ap (λ f. f s) (member-reads d t e r w h) ∙ instead _ m _ _ s k
@@ -91,7 +91,7 @@ module _ (d : ℕ) (t : List ℕ) (r : Run) (w : WholeRun d t r) (h : 0 < r .tod
     put-off-stands = record { members = none-whole d t at; elements = λ _. class; later = rw behind-first rest-whole }
 
     pub put-off-opens : (e : Env) (s : State) (m : Step) → read e (classAt d t (r .next)) s ≡ (m ⨾ elementsRead d t e at n) s
-        → Opens d t e s m r (putOffRun r sizes at n array)
+        → OpensTo d t e s m r (putOffRun r sizes at n array)
     put-off-opens e s m k = record {
       reads =
           ap (λ f. f s) (member-reads d t e r w h) ∙ instead _ m _ _ s k
@@ -117,14 +117,14 @@ module _ (d : ℕ) (t : List ℕ) (r : Run) (w : WholeRun d t r) (h : 0 < r .tod
   one-whole at v = v .0
 
   pub into-opens : (sizes : List ℕ) (k from n : ℕ) (elements : Bool) → Holds sizes k from n elements → (e : Env) (s : State) (m : Step)
-      → read e (classAt d t (r .next)) s ≡ (m ⨾ heldRead d t e from n elements) s → Opens d t e s m r (intoRun k r sizes from n elements)
+      → read e (classAt d t (r .next)) s ≡ (m ⨾ heldRead d t e from n elements) s → OpensTo d t e s m r (intoRun k r sizes from n elements)
   unfolding heldRead
   into-opens sizes k from n true q e s m h =
       let a = q .many refl in
       rw (into-elements k r sizes from n true refl) (put-off-opens sizes (q .noted) (a .0) from n from (a .1) e s m h)
   into-opens sizes k from n false q e s m h = by (eqb k variantKind) refl
     where
-      by : (b : Bool) → eqb k variantKind ≡ b → Opens d t e s m r (intoRun k r sizes from n false)
+      by : (b : Bool) → eqb k variantKind ≡ b → OpensTo d t e s m r (intoRun k r sizes from n false)
       by true b =
           let v = eqb-true k variantKind b in
           let a = q .one refl v in

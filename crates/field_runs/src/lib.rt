@@ -2,6 +2,7 @@
 // and end where it ends, so that they take its turn among the classes. The class of a variant's option, and an array's elements, stand in
 // front of what was left, which is put off; only where something is put off already, or an element is open, does such a field have to be
 // read by itself.
+use numbers::kinds;
 use table_bytes::size_at;
 ghost use mathlib.Core.Path.{_≡_};
 ghost use mathlib.Core.Bool.{false};
@@ -21,10 +22,6 @@ pub struct Run {
     pub rest: usize,
     pub array: usize,
 }
-
-const OPTIONAL: u8 = 31;
-
-const VARIANT: u8 = 32;
 
 // No class stands at the table's first byte.
 const NO_ARRAY: usize = 0;
@@ -102,7 +99,7 @@ pub fn is_free(run: Run) -> bool
 pub fn is_open(kind: u8, run: Run) -> bool
     ensures { λ r. ⌜ r ≡ canOpen kind run ⌝ }
 {
-    if kind == OPTIONAL {
+    if kind == kinds::OPTIONAL {
         return true;
     }
     is_free(run)
@@ -237,7 +234,7 @@ pub fn into(kind: u8, run: Run, sizes: &[u16], from: usize, parts: usize, elemen
     if elements {
         return put_off(run, sizes, from, parts, from);
     }
-    if kind == VARIANT {
+    if kind == kinds::VARIANT {
         return put_off(run, sizes, from, 1, NO_ARRAY);
     }
     opened(run, from, parts)

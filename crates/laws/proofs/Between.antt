@@ -23,7 +23,8 @@ use Rattle.rules.specs.declared.Ended.{Ended}
 use Rattle.rules.specs.declared.Ended.the-variants.{After, Never}
 use Rattle.rules.specs.declared.Entry.{Entry}
 use Rattle.rules.specs.declared.Refusal.{Refusal}
-use Rattle.rules.specs.declared.Refusal.the-variants.{PastBound, OrderChanged, LebTooLarge, NoZeroByte, SlotUnset, SlotOfWrongSort, LengthTooLarge, SelectorInNoOption, WrongMagic, WrongUuid, ClockTooLarge}
+use Rattle.rules.specs.declared.Refusal.the-variants.{PastBound, OrderChanged, LebTooLarge, NoZeroByte, SlotUnset, SlotOfWrongSort}
+use Rattle.rules.specs.declared.Refusal.the-variants.{LengthTooLarge, SelectorInNoOption, WrongMagic, WrongUuid, ClockTooLarge}
 use Rattle.rules.specs.declared.Stop.{Stop}
 use Rattle.rules.specs.Verdict.{stopAt}
 use Rattle.rules.specs.Bits.{bits}
@@ -34,9 +35,11 @@ use Rattle.rules.specs.Place.{alignFrom}
 use Rattle.rules.specs.Slots.{slotAt}
 use Rattle.rules.specs.Entry.{entry, clockAdvanced}
 use Rattle.rules.specs.Step.{State, go, Step, _⨾_, check, listed, change, pass, withSlots, withOrder, withClock, withSaid}
-use Rattle.rules.specs.Class.{Role, noRole, magic, streamClassId, streamId, uuid, totalLength, contentLength, clock, endClock, discarded, sequence, eventClassId}
+use Rattle.rules.specs.Class.{Role, noRole, magic, streamClassId, streamId, uuid, totalLength, contentLength, clock, endClock}
+use Rattle.rules.specs.Class.{discarded, sequence, eventClassId}
 use Rattle.rules.specs.Class.{Class, Sort, kindOf}
-use Rattle.rules.specs.Field.{Env, aligned, fit, field, store, newClock, say, role, blobRole, fromSlot, valueOf, slotOf, ahead, bytesAt, readFixed, readLeb, readZero, readText, readBlob, read}
+use Rattle.rules.specs.Field.{Env, aligned, fit, field, store, newClock, say, role, blobRole, fromSlot, valueOf, slotOf, ahead, bytesAt}
+use Rattle.rules.specs.Field.{readFixed, readLeb, readZero, readText, readBlob, read}
 use Rattle.leb128.proofs.ValueSays.{unsigned-value, signed-value}
 use Rattle.text.proofs.Laws.{zero-found}
 use Rattle.laws.specs.Between.{Between}
@@ -109,7 +112,8 @@ module _ (e : Env) where
           let b : alignFrom (e .start .0) a (s .place .0) + n ≤ e .bound .0 = x .1 in
           let l : s .place .0 ≤ alignFrom (e .start .0) a (s .place .0) = alignFrom-le (e .start .0) a (s .place .0) h in
           let f : e .start .0 ≤ alignFrom (e .start .0) a (s .place .0) = start-le (e .start .0) a (s .place .0) in
-          ((omega arith, tt), (record { from = omega arith; to = b; kept = j .moves (s .place .0) _ (s .said) (omega arith) (g .kept) }, omega arith));
+          let kept = j .moves (s .place .0) (alignFrom (e .start .0) a (s .place .0) + n) (s .said) (omega arith) (g .kept) in
+          ((omega arith, tt), (record { from = omega arith; to = b; kept = kept }, omega arith));
     }
 
     a-field : (k a n v : ℕ) → 1 ≤ a → Fine (Fit a n) (field e k a n v) Holds
@@ -117,7 +121,9 @@ module _ (e : Env) where
 
     tagged : (k v : ℕ) → Holding J (field e k 1 0 v)
     unfolding aligned
-    tagged k v = record { at = λ s h. a-field k 1 0 v (le-refl 1) .at s (h, omega (arith, align-one (e .start .0) (s .place .0) (h .from), h .to)) }
+    tagged k v = record {
+      at = λ s h. a-field k 1 0 v (le-refl 1) .at s (h, omega (arith, align-one (e .start .0) (s .place .0) (h .from), h .to));
+    }
 
     -- what leaves place and said alone
     set-order : (n : ℕ) (o : LastOrder) → Fine (Behind n) (change (withOrder o)) (Behind n)
@@ -137,7 +143,8 @@ module _ (e : Env) where
     held-clock : (l : ℕ) (o : Option ℕ) → Holding J (newClock l o)
     unfolding newClock
     held-clock l none = refusing In At NoMore stops ClockTooLarge tt
-    held-clock l (some c) = by ⨾ᵇ changing In At NoMore (withClock c) (λ s h. unfold withClock in record { from = h .from; to = h .to; kept = h .kept })
+    held-clock l (some c) =
+        by ⨾ᵇ changing In At NoMore (withClock c) (λ s h. unfold withClock in record { from = h .from; to = h .to; kept = h .kept })
       where
         by : Holding J (λ s. listed (entry clockAdvanced (s .place) l c) (s .place) s)
         by = unfold listed in record { at = λ s h. (((h .from, h .to), tt), record { from = h .from; to = h .to; kept = h .kept }) }
@@ -187,7 +194,8 @@ module _ (e : Env) where
         dued In At NoMore stops tt (plain-fit a 0 (untested In At NoMore stops _ OrderChanged tt (fitting a n (record {
           at = λ s x.
               (let v : ℕ = bits o (e .bytes) ((aligned e a s) .0) n in
-              put-field (kindOf k) a n (valueOf k n v) h ⨾ᵇ set-order n (Was o) ⨾ᵇ set-slot n i (slotOf k n v) ⨾ᵇ held-role n w r n (valueOf k n v)) .at s x;
+              put-field (kindOf k) a n (valueOf k n v) h ⨾ᵇ set-order n (Was o) ⨾ᵇ set-slot n i (slotOf k n v)
+              ⨾ᵇ held-role n w r n (valueOf k n v)) .at s x;
         }))))
 
     held-leb : (k : ℕ) (sl : ℕ → Content) (i : ℕ) (r : Role) (x : Leb) (s : State) → Holds s → (aligned e 8 s) .0 ≤ e .bound .0
@@ -201,7 +209,8 @@ module _ (e : Env) where
         (put-field k 8 (8 * n .0) v (omega arith) ⨾ᵇ set-slot (8 * n .0) i (sl v) ⨾ᵇ held-role (8 * n .0) w r (7 * n .0) v) .at s
         (h, ahead-fits e (aligned e 8 s) (n .0) b (y .inside))
 
-    held-zero : (x : Ended) (s : State) → Holds s → (aligned e 8 s) .0 ≤ e .bound .0 → ((n : ByteLength) → x ≡ After n → n .0 < length (ahead e (aligned e 8 s)))
+    held-zero : (x : Ended) (s : State) → Holds s → (aligned e 8 s) .0 ≤ e .bound .0
+        → ((n : ByteLength) → x ≡ After n → n .0 < length (ahead e (aligned e 8 s)))
         → Ok In At NoMore Holds (readZero e x s)
     unfolding readZero
     held-zero Never s h b g = refusing In At NoMore stops NoZeroByte tt .at s h
@@ -223,13 +232,21 @@ module _ (e : Env) where
       within = λ n h. untested In At NoMore stops _ LengthTooLarge tt h;
       slot = λ i f h. record { at = λ s x. h (slotAt (s .slots) i) (any-slot (slotAt (s .slots) i)) .at s x };
       fixes = λ k n o a i r w z. held-fixed k n o (2 ^ a) i r w (pow-pos a);
-      lebs = λ i r z. at-zero 8 (record { at = λ s x. held-leb 21 Unsigned i r (lebUnsigned (ahead e (aligned e 8 s))) s (x .0) (x .1) (unsigned-value _) });
-      signedLebs = λ i z. at-zero 8 (record { at = λ s x. held-leb 22 Signed i noRole (lebSigned (ahead e (aligned e 8 s))) s (x .0) (x .1) (signed-value _) });
+      lebs = λ i r z. at-zero 8 (record {
+        at = λ s x. held-leb 21 Unsigned i r (lebUnsigned (ahead e (aligned e 8 s))) s (x .0) (x .1) (unsigned-value _);
+      });
+      signedLebs = λ i z. at-zero 8 (record {
+        at = λ s x. held-leb 22 Signed i noRole (lebSigned (ahead e (aligned e 8 s))) s (x .0) (x .1) (signed-value _);
+      });
       zeros = at-zero 8 (record { at = λ s x. held-zero (zeroAt (ahead e (aligned e 8 s))) s (x .0) (x .1) (λ n z. zero-found _ n z .0) });
       texts = λ k n h. unfold readText in
-          plain-fit 8 0 (fitting 8 (8 * n) (record { at = λ s x. a-field k 8 (8 * n) (textLength (bytesAt e (aligned e 8 s) n)) (omega arith) .at s x }));
+          plain-fit 8 0 (fitting 8 (8 * n) (record {
+            at = λ s x. a-field k 8 (8 * n) (textLength (bytesAt e (aligned e 8 s) n)) (omega arith) .at s x;
+          }));
       blobs = λ k n r h. unfold readBlob in
-          plain-fit 8 0 (fitting 8 (8 * n) (record { at = λ s x. (a-field k 8 (8 * n) n (omega arith) ⨾ᵇ held-blobRole r (bytesAt e (aligned e 8 s) n)) .at s x }));
+          plain-fit 8 0 (fitting 8 (8 * n) (record {
+            at = λ s x. (a-field k 8 (8 * n) n (omega arith) ⨾ᵇ held-blobRole r (bytesAt e (aligned e 8 s) n)) .at s x;
+          }));
       heads = λ k a v h g w x. fitting a 0 (a-field k a 0 v g ⨾ᵇ x);
       tags = λ k v h w x. tagged k v ⨾ᵇ x;
       tag = λ k v h w. tagged k v;
@@ -247,7 +264,8 @@ module _ (e : Env) where
       → e .start .0 ≤ s .place .0 → s .place .0 ≤ e .bound .0 → m s ≡ go es s′
       → (s .place .0 ≤ s′ .place .0) × (s′ .place .0 ≤ e .bound .0)
   went m h s es s′ f t g =
-      let x = subst (Ok In At NoMore (Held e (λ p d. s .place .0 ≤ p))) g (h (s .place .0) .at s (record { from = f; to = t; kept = le-refl (s .place .0) })) in
+      let held : Held e (λ p d. s .place .0 ≤ p) s = record { from = f; to = t; kept = le-refl (s .place .0) } in
+      let x = subst (Ok In At NoMore (Held e (λ p d. s .place .0 ≤ p))) g (h (s .place .0) .at s held) in
       (x .1 .kept, x .1 .to)
 
   pub read-between : (c : Class) (s : State) (es : List Entry) (s′ : State)

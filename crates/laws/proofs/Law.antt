@@ -1,4 +1,16 @@
--- Laws of every field's reading, proved once over the classes: what holds of the parts of a reading, and under their composition, holds of it.
+-- Laws of every field's reading, proved once over the classes: what holds of the parts of a reading, and under their composition, holds
+-- of it.
+--
+-- FieldKind                      the kinds of a field's entry
+-- Fits, FitMembers, FitOptions,  what is asked of the numbers of a class, of members, of options and of a root
+--   FitRoot
+-- fits, fitMembers, fitRoot      where every number will do, every class does
+-- SlotOf                         what is asked of a slot's number
+-- Law                            a law of steps, by the parts that every reading is made of
+-- law-read, law-members,         it holds of a field's reading, of members one after another, of a root's
+--   law-root
+-- law-times                      it holds of a step that is done n times
+-- Any, any-slot, law-any         a law that asks nothing of the numbers
 use Prim.Native.Nat.{ℕ, zero, suc, _+_, _^_, _≤_, max}
 use native.Mathlib.Omega.{arith}
 use lib.Pow.{pow-pos}
@@ -13,8 +25,12 @@ use Rattle.rules.specs.Limits.{lengthLimit}
 use Rattle.rules.specs.Leb128.{lebUnsigned, lebSigned}
 use Rattle.rules.specs.Text.{zeroAt}
 use Rattle.rules.specs.Step.{Step, _⨾_, refuse, check, due, pass}
-use Rattle.rules.specs.Class.{Role, noRole, Sort, Sign, plain, signed as withSign, anyHolds, alignOf, Class, fixed, leb128, signedLeb128, string, staticString, staticBlob, dynamicString, dynamicBlob, structure, staticArray, dynamicArray, flagged, optional, variant, Classes, noMember, member, Options, noOption, option, count}
-use Rattle.rules.specs.Field.{Env, aligned, fit, field, asFlag, asNumber, asLength, fromSlot, ahead, readFixed, readLeb, readZero, readText, readBlob, times, present, read, readMembers, readOption}
+use Rattle.rules.specs.Class.{Role, noRole, Sort, Sign, plain, signed as withSign, anyHolds, alignOf}
+use Rattle.rules.specs.Class.{Class, fixed, leb128, signedLeb128, string, staticString, staticBlob, dynamicString, dynamicBlob}
+use Rattle.rules.specs.Class.{structure, staticArray, dynamicArray, flagged, optional, variant}
+use Rattle.rules.specs.Class.{Classes, noMember, member, Options, noOption, option, count}
+use Rattle.rules.specs.Field.{Env, aligned, fit, field, asFlag, asNumber, asLength, fromSlot, ahead, times, present}
+use Rattle.rules.specs.Field.{readFixed, readLeb, readZero, readText, readBlob, read, readMembers, readOption}
 use Rattle.rules.specs.Packet.{readRoot}
 
 -- the kinds of a field's entry

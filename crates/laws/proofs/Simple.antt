@@ -1,5 +1,5 @@
--- Laws that ask nothing of a field's bits or values, and of the slots that it sets only S: what holds of the primitive steps, and under their
--- composition, holds of every root. L is a law of steps, and R the same of steps that come where there is room for an entry.
+-- Laws that ask nothing of a field's bits or values, and of the slots that it sets only S: what holds of the primitive steps, and under
+-- their composition, holds of every root. L is a law of steps, and R the same of steps that come where there is room for an entry.
 use Prim.Native.Nat.{ℕ, _+_, _-_, _*_, _%_, _^_, _≤_, _<_}
 use native.Mathlib.Omega.{arith}
 use native.Mathlib.Nat.{le-refl}
@@ -20,7 +20,8 @@ use Rattle.rules.specs.declared.Leb.the-variants.{Value, Past, Large}
 use Rattle.rules.specs.declared.Ended.{Ended}
 use Rattle.rules.specs.declared.Ended.the-variants.{After, Never}
 use Rattle.rules.specs.declared.Refusal.{Refusal}
-use Rattle.rules.specs.declared.Refusal.the-variants.{PastBound, OrderChanged, LebTooLarge, NoZeroByte, SlotUnset, SlotOfWrongSort, LengthTooLarge, SelectorInNoOption, WrongMagic, WrongUuid, ClockTooLarge}
+use Rattle.rules.specs.declared.Refusal.the-variants.{PastBound, OrderChanged, LebTooLarge, NoZeroByte, SlotUnset, SlotOfWrongSort}
+use Rattle.rules.specs.declared.Refusal.the-variants.{LengthTooLarge, SelectorInNoOption, WrongMagic, WrongUuid, ClockTooLarge}
 use Rattle.rules.specs.Limits.{lengthLimit, magicNumber}
 use Rattle.rules.specs.Verdict.{refusalNumber}
 use Rattle.rules.specs.Bits.{bits}
@@ -30,9 +31,11 @@ use Rattle.rules.specs.Text.{textLength, zeroAt}
 use Rattle.rules.specs.Place.{bitPlace, alignFrom}
 use Rattle.rules.specs.Entry.{entry, clockAdvanced}
 use Rattle.rules.specs.Step.{State, Step, _⨾_, refuse, check, due, listed, change, pass, withOrder, withClock}
-use Rattle.rules.specs.Class.{Role, noRole, magic, streamClassId, streamId, uuid, totalLength, contentLength, clock, endClock, discarded, sequence, eventClassId}
+use Rattle.rules.specs.Class.{Role, noRole, magic, streamClassId, streamId, uuid, totalLength, contentLength, clock, endClock}
+use Rattle.rules.specs.Class.{discarded, sequence, eventClassId}
 use Rattle.rules.specs.Class.{Class, Sort, bitArray, boolean, unsignedInt, signedInt, float, kindOf}
-use Rattle.rules.specs.Field.{Env, aligned, fit, ahead, bytesAt, field, store, newClock, say, role, sameBytes, blobRole, fromSlot, valueOf, slotOf, otherOrder, turned}
+use Rattle.rules.specs.Field.{Env, aligned, fit, ahead, bytesAt, field, store, newClock, say, role, sameBytes, blobRole, fromSlot}
+use Rattle.rules.specs.Field.{valueOf, slotOf, otherOrder, turned}
 use Rattle.rules.specs.Field.{readFixed, readLeb, readZero, readText, readBlob}
 use Rattle.rules.specs.Packet.{readRoot}
 use Rattle.laws.proofs.Law.{FieldKind, Any, any-slot, FitRoot, Law, law-root, law-any}
@@ -87,7 +90,8 @@ module _ (e : Env) {S : ℕ → Type 0} {L R : Step → Type 0} (h : Simple e S 
   turning : (a : ℕ) (o : Order) {m : Step} → R m → R (check (turned e a o) OrderChanged ⨾ m)
   unfolding turned aligned refusalNumber
   turning a o g =
-      h .checksʳ (λ x. not (eqb ((alignFrom (e .start .0) a (x .place .0) - e .start .0) % 8) 0) && otherOrder o (x .order)) OrderChanged (omega arith) g
+      h .checksʳ (λ x. not (eqb ((alignFrom (e .start .0) a (x .place .0) - e .start .0) % 8) 0) && otherOrder o (x .order)) OrderChanged
+      (omega arith) g
 
   simple-newClock : (l : ℕ) (o : Option ℕ) → R (newClock l o)
   unfolding newClock refusalNumber
@@ -130,11 +134,13 @@ module _ (e : Env) {S : ℕ → Type 0} {L R : Step → Type 0} (h : Simple e S 
       h .dueʳ (fitting a 0 (turning a o (fitting a n (h .looksʳ
       (λ x. let v = bits o (e .bytes) (alignFrom (e .start .0) a (x .place .0)) n in
       field e (kindOf k) a n (valueOf k n v) ⨾ change (withOrder (Was o)) ⨾ store i (slotOf k n v) ⨾ role r n (valueOf k n v))
-      (λ x. h .seqʳ (h .fields (kindOf k) a n _ (kind-fields k) g) (h .seq (h .orders (Was o)) (h .seq (h .stores i _ w) (simple-role r n _))))))))
+      (λ x. h .seqʳ (h .fields (kindOf k) a n _ (kind-fields k) g)
+      (h .seq (h .orders (Was o)) (h .seq (h .stores i _ w) (simple-role r n _))))))))
 
   simple-leb : (k : ℕ) (c : ℕ → Content) (i : ℕ) (r : Role) (x : Leb) → S i → FieldKind k → R (readLeb e k c i r x)
   unfolding readLeb refusalNumber
-  simple-leb k c i r (Value v n) w g = h .seqʳ (h .fields k 8 (8 * n .0) v g (omega arith)) (h .seq (h .stores i (c v) w) (simple-role r (7 * n .0) v))
+  simple-leb k c i r (Value v n) w g =
+      h .seqʳ (h .fields k 8 (8 * n .0) v g (omega arith)) (h .seq (h .stores i (c v) w) (simple-role r (7 * n .0) v))
   simple-leb k c i r Past w g = h .refuses PastBound (omega arith)
   simple-leb k c i r Large w g = h .refuses LebTooLarge (omega arith)
 
@@ -167,11 +173,14 @@ module _ (e : Env) {S : ℕ → Type 0} {L R : Step → Type 0} (h : Simple e S 
     slot = λ i f a. h .slots i f (λ x. a x (any-slot x));
     fixes = λ k n o a i r w z. simple-fixed k n o (2 ^ a) i r z (pow-pos a);
     lebs = λ i r z. bytewise (λ p. readLeb e 21 Unsigned i r (lebUnsigned (ahead e p))) (λ p. simple-leb 21 Unsigned i r _ z (omega arith));
-    signedLebs = λ i z. bytewise (λ p. readLeb e 22 Signed i noRole (lebSigned (ahead e p))) (λ p. simple-leb 22 Signed i noRole _ z (omega arith));
+    signedLebs = λ i z.
+        bytewise (λ p. readLeb e 22 Signed i noRole (lebSigned (ahead e p))) (λ p. simple-leb 22 Signed i noRole _ z (omega arith));
     zeros = bytewise (λ p. readZero e (zeroAt (ahead e p))) (λ p. simple-zero _);
-    texts = λ k n g. unfold readText in bytes n (λ p. field e k 8 (8 * n) (textLength (bytesAt e p n))) (λ p. h .fields k 8 (8 * n) _ g (omega arith));
+    texts = λ k n g. unfold readText in
+        bytes n (λ p. field e k 8 (8 * n) (textLength (bytesAt e p n))) (λ p. h .fields k 8 (8 * n) _ g (omega arith));
     blobs = λ k n r g. unfold readBlob in
-        bytes n (λ p. field e k 8 (8 * n) n ⨾ blobRole e r (bytesAt e p n)) (λ p. h .seqʳ (h .fields k 8 (8 * n) n g (omega arith)) (simple-blobRole r _));
+        bytes n (λ p. field e k 8 (8 * n) n ⨾ blobRole e r (bytesAt e p n))
+        (λ p. h .seqʳ (h .fields k 8 (8 * n) n g (omega arith)) (simple-blobRole r _));
     heads = λ k a v g l w b. fitting a 0 (h .seqʳ (h .fields k a 0 v g l) b);
     tags = λ k v g w b. h .seqʳ (h .fields k 1 0 v g (le-refl 1)) b;
     tag = λ k v g w. h .fields k 1 0 v g (le-refl 1);

@@ -72,7 +72,8 @@ module _ (Q : Entry → Type 0) (U : Stop → Type 0) (I : Refusal → Type 0) w
           by s h true e = unfold refuse in (tt, u r i s h)
           by s h false e = unfold pass in (tt, (h, e))
 
-      pub tested : {B : State → Type 0} (t : State → Bool) (r : Refusal) → I r → {m : Step} → Triple (λ s. A s × (t s ≡ false)) m B → Triple A (check t r ⨾ m) B
+      pub tested : {B : State → Type 0} (t : State → Bool) (r : Refusal) → I r → {m : Step} → Triple (λ s. A s × (t s ≡ false)) m B
+          → Triple A (check t r ⨾ m) B
       tested {B} t r i {m} h = then (checking t r i) h
 
       pub untested : {B : State → Type 0} (t : State → Bool) (r : Refusal) → I r → {m : Step} → Triple A m B → Triple A (check t r ⨾ m) B

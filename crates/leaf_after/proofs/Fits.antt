@@ -8,20 +8,18 @@ use lib.Dec.{ltb, eqb}
 use lib.ListN.{take, drop}
 use borrow.Author.Tests.{ltb-false}
 use Rattle.rules.specs.declared.BitPlace.{BitPlace}
-use Rattle.rules.specs.declared.ByteLength.{ByteLength}
 use Rattle.rules.specs.declared.Order.{Order}
 use Rattle.rules.specs.declared.LastOrder.{LastOrder}
 use Rattle.rules.specs.declared.Content.{Content}
 use Rattle.rules.specs.declared.Content.the-variants.{Unset, Flag, Unsigned, Signed}
 use Rattle.rules.specs.Limits.{lengthLimit}
-use Rattle.rules.specs.Place.{byteLength}
 use Rattle.rules.specs.Class.{Sort}
 use Rattle.rules.specs.Field.{sameBytes, valueOf}
 use Rattle.facts.specs.Bytes.{Bytes}
-use Rattle.leaf_find_number.specs.declared.Frame.{Frame}
-use Rattle.leaf_find_number.specs.declared.find.Found.{Found}
-use Rattle.leaf_find_number.specs.declared.find.Found.the-variants.{At, Refused}
-use Rattle.leaf_find_number.specs.Framed.{Framed}
+use Rattle.frame.specs.declared.Frame.{Frame}
+use Rattle.leaf_find_number.specs.declared.Found.{Found}
+use Rattle.leaf_find_number.specs.declared.Found.the-variants.{At, Refused}
+use Rattle.frame.specs.Framed.{Framed}
 use Rattle.leaf_find_number.specs.Found.{foundBits, foundUnsigned, foundSigned}
 use Rattle.leaf_find_number.proofs.Lies.{bits-lie, unsigned-lies, signed-lies}
 use Rattle.leaf_find_bytes.specs.Found.{Ends}
@@ -87,13 +85,13 @@ module _ (b u : List ℕ) (o : LastOrder) where
 
 -- A length that a slot gives, or none
 
-pub length-small : (c : Content) {x : Length} {n : ByteLength} → x ≡ lengthOf c → x ≡ Of n → n .0 ≤ lengthLimit
+pub length-small : (c : Content) {x : Length} {n : ℕ} → x ≡ lengthOf c → x ≡ Of n → n ≤ lengthLimit
 unfolding lengthOf
 length-small Unset is e = let z : _≡_ {A = ℕ} 0 1 = cc in absurd (omega arith)
 length-small (Flag t) is e = let z : _≡_ {A = ℕ} 0 1 = cc in absurd (omega arith)
 length-small (Unsigned k) {x} {n} is e = by (ltb lengthLimit k) refl
   where
-    by : (t : Bool) → ltb lengthLimit k ≡ t → n .0 ≤ lengthLimit
+    by : (t : Bool) → ltb lengthLimit k ≡ t → n ≤ lengthLimit
     by true h = let z : _≡_ {A = ℕ} 0 1 = cc in absurd (omega arith)
-    by false h = let same : byteLength k ≡ n = cc in rw (← same) (ltb-false lengthLimit k h)
+    by false h = let same : k ≡ n = cc in rw (← same) (ltb-false lengthLimit k h)
 length-small (Signed k) is e = let z : _≡_ {A = ℕ} 0 1 = cc in absurd (omega arith)

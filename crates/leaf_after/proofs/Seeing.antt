@@ -31,10 +31,10 @@ use Rattle.facts.proofs.Steps.{onto-nil}
 use Rattle.facts.proofs.Numbers.{lt-or-ge}
 use Rattle.facts.proofs.Cases.{_▷_, below}
 use Rattle.facts.proofs.Slots.{no-slot}
-use Rattle.leaf_find_number.specs.declared.Frame.{Frame}
-use Rattle.leaf_find_number.specs.declared.find.Found.{Found}
-use Rattle.leaf_find_number.specs.Framed.{envOf}
-use Rattle.leaf_find_number.specs.Found.{alignedAt, unless, within, bytesAhead, foundBits, foundLeb, foundUnsigned, foundSigned}
+use Rattle.frame.specs.declared.Frame.{Frame}
+use Rattle.leaf_find_number.specs.declared.Found.{Found}
+use Rattle.frame.specs.Framed.{envOf, alignedAt}
+use Rattle.leaf_find_number.specs.Found.{unless, within, bytesAhead, foundBits, foundLeb, foundUnsigned, foundSigned}
 use Rattle.leaf_find_bytes.specs.Found.{foundZero, foundString, foundText, foundBlob}
 use Rattle.slots.specs.Taken.{lengthOf}
 use Rattle.listing.proofs.Checks.{check-stops, check-goes, room-first}

@@ -21,8 +21,8 @@ use Rattle.rules.specs.Step.{Step, _⨾_, refuse, listed, change, withOrder}
 use Rattle.rules.specs.Field.{sameBytes, store, role, valueOf, slotOf}
 use Rattle.slots.specs.declared.Length.{Length}
 use Rattle.slots.specs.declared.Length.the-variants.{Of, NotOf}
-use Rattle.leaf_find_number.specs.declared.find.Found.{Found}
-use Rattle.leaf_find_number.specs.declared.find.Found.the-variants.{At, Refused}
+use Rattle.leaf_find_number.specs.declared.Found.{Found}
+use Rattle.leaf_find_number.specs.declared.Found.the-variants.{At, Refused}
 use Rattle.listing.specs.Roled.{Stamp}
 use Rattle.leaf_after.specs.declared.Due.{Due}
 use Rattle.leaf_after.specs.declared.Seen.{Seen}
@@ -96,5 +96,5 @@ blobSeen b u r o p n v = elim (eqb r 4) [ true ↦ uuidSeen b u o p n v | false 
 
 -- a length that a slot gives, or none
 unfoldable pub forLength : Length → (ℕ → Seen) → Seen
-forLength (Of n) m = m (n .0)
+forLength (Of n) m = m n
 forLength (NotOf r) m = Stops r

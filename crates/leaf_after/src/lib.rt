@@ -7,10 +7,6 @@ use rules::Entry;
 use rules::LastOrder;
 use rules::Refusal;
 
-pub const NO_SLOT: u8 = 255;
-
-pub const NO_ROLE: u8 = 0;
-
 // What is due of a leaf: its entry; the order that is the packet's last behind it; which slot becomes what, 255 is none; and the role of
 // its value, which has `width` bits as a timestamp.
 pub struct Due {

@@ -14,11 +14,12 @@ use Rattle.rules.specs.declared.Refusal.the-variants.{PastBound, NoZeroByte}
 use Rattle.rules.specs.Place.{byteLength}
 use Rattle.rules.specs.Text.{textLength, zeroAt}
 use Rattle.text.proofs.Laws.{zero-found}
-use Rattle.leaf_find_number.specs.declared.Frame.{Frame}
-use Rattle.leaf_find_number.specs.declared.find.Found.{Found}
-use Rattle.leaf_find_number.specs.declared.find.Found.the-variants.{At, Refused}
-use Rattle.leaf_find_number.specs.Found.{alignedAt, unless, within}
-use Rattle.leaf_find_number.proofs.Found.{within-past, within-fits, read, bytes-ahead}
+use Rattle.frame.specs.declared.Frame.{Frame}
+use Rattle.leaf_find_number.specs.declared.Found.{Found}
+use Rattle.leaf_find_number.specs.declared.Found.the-variants.{At, Refused}
+use Rattle.frame.specs.Framed.{alignedAt}
+use Rattle.leaf_find_number.specs.Found.{unless, within}
+use Rattle.leaf_find_number.proofs.Finds.{within-past, within-fits, read, bytes-ahead}
 use Rattle.leaf_find_bytes.specs.Found.{foundZero, foundString, foundBlob, foundText}
 
 -- BLOBs that stand at p once they are aligned

@@ -9,11 +9,11 @@ use Rattle.rules.specs.declared.Ended.{Ended}
 use Rattle.rules.specs.declared.Ended.the-variants.{After, Never}
 use Rattle.rules.specs.Text.{zeroAt}
 use Rattle.text.proofs.Laws.{zero-found}
-use Rattle.leaf_find_number.specs.declared.Frame.{Frame}
-use Rattle.leaf_find_number.specs.declared.find.Found.{Found}
-use Rattle.leaf_find_number.specs.declared.find.Found.the-variants.{At, Refused}
-use Rattle.leaf_find_number.specs.Framed.{Framed}
-use Rattle.leaf_find_number.specs.Found.{alignedAt, within, bytesAhead}
+use Rattle.frame.specs.declared.Frame.{Frame}
+use Rattle.leaf_find_number.specs.declared.Found.{Found}
+use Rattle.leaf_find_number.specs.declared.Found.the-variants.{At, Refused}
+use Rattle.frame.specs.Framed.{Framed, alignedAt}
+use Rattle.leaf_find_number.specs.Found.{within, bytesAhead}
 use Rattle.leaf_find_number.proofs.Lies.{within-found, ahead-length, below-bound}
 use Rattle.leaf_find_bytes.specs.Found.{Ends, foundZero, foundString, foundBlob, foundText}
 

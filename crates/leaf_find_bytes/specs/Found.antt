@@ -7,10 +7,11 @@ use Rattle.rules.specs.declared.Refusal.the-variants.{NoZeroByte}
 use Rattle.rules.specs.declared.Ended.{Ended}
 use Rattle.rules.specs.declared.Ended.the-variants.{After, Never}
 use Rattle.rules.specs.Text.{textLength, zeroAt}
-use Rattle.leaf_find_number.specs.declared.Frame.{Frame}
-use Rattle.leaf_find_number.specs.declared.find.Found.{Found}
-use Rattle.leaf_find_number.specs.declared.find.Found.the-variants.{At, Refused}
-use Rattle.leaf_find_number.specs.Found.{alignedAt, within, bytesAhead}
+use Rattle.frame.specs.declared.Frame.{Frame}
+use Rattle.leaf_find_number.specs.declared.Found.{Found}
+use Rattle.leaf_find_number.specs.declared.Found.the-variants.{At, Refused}
+use Rattle.frame.specs.Framed.{alignedAt}
+use Rattle.leaf_find_number.specs.Found.{within, bytesAhead}
 
 -- a leaf that ends below what a place can be
 unfoldable pub Ends : Found → Type 0

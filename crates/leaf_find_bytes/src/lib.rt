@@ -1,15 +1,15 @@
 // Where a leaf counted in whole bytes, kinds 23 to 27, stands and what it says, or why it is refused: alignment, then its bytes. Nothing is
 // listed here.
-use leaf_find_number::Frame;
-use leaf_find_number::find::BYTE;
-use leaf_find_number::find::Found;
+use frame::Frame;
+use leaf_find_number::BYTE;
+use leaf_find_number::Found;
 use rules::BitPlace;
 use rules::ByteLength;
 use rules::Ended;
 use rules::Refusal;
 ghost use mathlib.Core.Path.{_≡_};
 ghost use Prim.Native.Nat.{_≤_};
-ghost use Rattle.leaf_find_number.specs.Framed.{Framed};
+ghost use Rattle.frame.specs.Framed.{Framed};
 ghost use Rattle.leaf_find_bytes.specs.Found.{foundString, foundBlob, foundText};
 
 // Kind 23: a string up to its zero byte.

@@ -19,12 +19,12 @@ use Rattle.facts.proofs.Bytes.{bytes-take, bytes-drop}
 use Rattle.facts.proofs.Numbers.{lt-or-ge}
 use Rattle.bits.proofs.Laws.{bits-below}
 use Rattle.leb128.proofs.ValueSays.{unsigned-value, signed-value, unsigned-small}
-use Rattle.leaf_find_number.specs.declared.Frame.{Frame}
-use Rattle.leaf_find_number.specs.declared.find.Found.{Found}
-use Rattle.leaf_find_number.specs.declared.find.Found.the-variants.{At}
-use Rattle.leaf_find_number.specs.Framed.{Framed}
-use Rattle.leaf_find_number.specs.Found.{alignedAt, unless, within, bytesAhead, foundBits, foundLeb, foundUnsigned, foundSigned}
-use Rattle.leaf_find_number.proofs.Found.{within-past, within-fits}
+use Rattle.frame.specs.declared.Frame.{Frame}
+use Rattle.leaf_find_number.specs.declared.Found.{Found}
+use Rattle.leaf_find_number.specs.declared.Found.the-variants.{At}
+use Rattle.frame.specs.Framed.{Framed, alignedAt}
+use Rattle.leaf_find_number.specs.Found.{unless, within, bytesAhead, foundBits, foundLeb, foundUnsigned, foundSigned}
+use Rattle.leaf_find_number.proofs.Finds.{within-past, within-fits}
 
 -- A leaf that was found passed each test
 

@@ -1,6 +1,6 @@
 -- Where a leaf stands and what it says, or why it is refused: "alignment, 23, then its bits or bytes" (Reading). The steps of `read` in
 -- which nothing is listed yet, as numbers. Kinds 23 to 27 are in the crate leaf_find_bytes.
-use Prim.Native.Nat.{ℕ, _+_, _-_, _*_, _/_, _%_}
+use Prim.Native.Nat.{ℕ, _+_, _-_, _*_, _/_, _%_, _≤_}
 use mathlib.Core.List.{List}
 use mathlib.Core.Bool.{Bool, true, false, not, _&&_}
 use lib.Dec.{ltb, eqb}
@@ -14,15 +14,11 @@ use Rattle.rules.specs.declared.Leb.{Leb}
 use Rattle.rules.specs.declared.Leb.the-variants.{Value, Past, Large}
 use Rattle.rules.specs.Bits.{bits}
 use Rattle.rules.specs.Leb128.{lebUnsigned, lebSigned}
-use Rattle.rules.specs.Place.{bitPlace, alignFrom}
 use Rattle.rules.specs.Field.{otherOrder}
-use Rattle.leaf_find_number.specs.declared.Frame.{Frame}
-use Rattle.leaf_find_number.specs.declared.find.Found.{Found}
-use Rattle.leaf_find_number.specs.declared.find.Found.the-variants.{At, Refused}
-
--- "A field aligns (place - P) up to its requirement"
-unfoldable pub alignedAt : Frame → ℕ → BitPlace → BitPlace
-alignedAt f a p = bitPlace (alignFrom (f .start .0) a (p .0))
+use Rattle.frame.specs.declared.Frame.{Frame}
+use Rattle.frame.specs.Framed.{alignedAt}
+use Rattle.leaf_find_number.specs.declared.Found.{Found}
+use Rattle.leaf_find_number.specs.declared.Found.the-variants.{At, Refused}
 
 -- refused where a test holds
 unfoldable pub unless : Bool → Refusal → Found → Found
@@ -55,3 +51,9 @@ foundUnsigned b f from = let p = alignedAt f 8 from in within f p 0 (foundLeb p 
 
 unfoldable pub foundSigned : List ℕ → Frame → BitPlace → Found
 foundSigned b f from = let p = alignedAt f 8 from in within f p 0 (foundLeb p (lebSigned (bytesAhead b f p)))
+
+-- a LEB128 number of ten bytes at most
+unfoldable pub Short : Leb → Type 0
+Short (Value v n) = n .0 ≤ 10
+Short Past = Unit {0}
+Short Large = Unit {0}

@@ -1,2 +1,1 @@
-pub mod Framed
 pub mod Found

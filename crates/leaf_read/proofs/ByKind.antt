@@ -10,7 +10,6 @@ use mathlib.Core.Logic.{⊎-elim}
 use lib.ListN.{length}
 use borrow.Author.Tests.{le-ltb, eq-eqb, ne-eqb}
 use Rattle.rules.specs.declared.BitPlace.{BitPlace}
-use Rattle.rules.specs.declared.ByteLength.{ByteLength}
 use Rattle.rules.specs.declared.LastOrder.{LastOrder}
 use Rattle.rules.specs.declared.Refusal.{Refusal}
 use Rattle.rules.specs.declared.Order.{Order}
@@ -22,15 +21,15 @@ use Rattle.rules.specs.Class.{Sort, bitArray, boolean, unsignedInt, signedInt, 
 use Rattle.rules.specs.Record.{bitField, u8, u16}
 use Rattle.rules.specs.Parse.{orderOf}
 use Rattle.rules.specs.Slots.{Slots, slotAt}
-use Rattle.rules.specs.Step.{State as Whole}
+use Rattle.rules.specs.Step.{State}
 use Rattle.rules.specs.Field.{read, valueOf}
 use Rattle.facts.specs.Bytes.{Bytes}
 use Rattle.facts.proofs.Numbers.{lt-or-ge}
 use Rattle.facts.proofs.Cases.{_▷_, below}
-use Rattle.leaf_find_number.specs.declared.Frame.{Frame}
-use Rattle.leaf_find_number.specs.declared.find.Found.{Found}
-use Rattle.leaf_find_number.specs.declared.find.Found.the-variants.{At, Refused}
-use Rattle.leaf_find_number.specs.Framed.{Framed, envOf}
+use Rattle.frame.specs.declared.Frame.{Frame}
+use Rattle.leaf_find_number.specs.declared.Found.{Found}
+use Rattle.leaf_find_number.specs.declared.Found.the-variants.{At, Refused}
+use Rattle.frame.specs.Framed.{Framed, envOf}
 use Rattle.leaf_find_number.proofs.Lies.{bits-lie}
 use Rattle.leaf_find_number.specs.Found.{foundBits, foundUnsigned, foundSigned}
 use Rattle.leaf_find_bytes.specs.Found.{foundString, foundText, foundBlob}
@@ -46,7 +45,7 @@ use Rattle.leaf_after.proofs.Seeing.{fixed-read, unsigned-read, signed-read, st
 use Rattle.leaf_after.proofs.Seeing.{dynamic-string-read, dynamic-blob-read}
 use Rattle.leaf_after.proofs.Fits.{fixed-fits, unsigned-fits, signed-fits, plain-fits, blob-fits}
 use Rattle.leaf_see_number.specs.Extends.{Extends}
-use Rattle.leaf_see_bytes.specs.Within.{Within}
+use Rattle.leaf_see_bytes.specs.InStream.{InStream}
 use Rattle.class_layout.specs.Trees.{shapes, shapeOf, recordSize, stoodAt, fixedAt, classIn, classAt, whole, wholeIn}
 use Rattle.leaf_read.specs.Reads.{leafSlot}
 use Rattle.leaf_read.specs.Seen.{LeafSeen, bitsSeenAt, dynamicSeen, seenIn, seenAt}
@@ -157,7 +156,7 @@ pub dynamic-apart : (b : List ℕ) (f : Frame) (p : BitPlace) (o : LastOrder) (k
 unfolding forLength dynamicSeen
 dynamic-apart b f p o k (Of n) d e = by (eqb k 26) refl e
   where
-    by : (t : Bool) → eqb k 26 ≡ t → dynamicSeen b f p o k (n .0) ≡ Field d → slotCount ≤ d .slot
+    by : (t : Bool) → eqb k 26 ≡ t → dynamicSeen b f p o k n ≡ Field d → slotCount ≤ d .slot
     by true i e = plain-apart k o _ d (rw (i, dynamicSeen) at e)
     by false i e = plain-apart k o _ d (rw (i, dynamicSeen) at e)
 dynamic-apart b f p o k (NotOf r) d e = let z : _≡_ {A = ℕ} 0 1 = cc in absurd (omega arith)
@@ -176,19 +175,25 @@ module _ (t b u : List ℕ) (f : Frame) (at : ℕ) (p : BitPlace) (o : LastOrder
   unfolding seenAt
   seen-of k e = rw (e) refl
 
+  pub sees-of : {r : Seen} (k : ℕ) → u8 t at ≡ k → r ≡ seenIn t b u f at p o x (shapeOf k) → r ≡ seenAt t b u f at p o x
+  sees-of k e is = is ∙ sym (seen-of k e)
+
   -- what the code finds of kinds 16 to 20, by the numbers that it reads
-  pub bits-of : {w e : ℕ} {d : Order} {r : Seen} → BitsSay t at w d e → (k : Sort) (i ro : ℕ)
-      → r ≡ seen (foundBits b f p o w d (2 ^ e)) (fixedSeen k d i ro) → seenAt t b u f at p o x ≡ bitsSeenAt t b f at p o k i ro
+  pub bits-of : {w e : ℕ} {d : Order} {y : Found} {r : Seen} → BitsSay t at w d e → y ≡ foundBits b f p o w d (2 ^ e)
+      → (k : Sort) (i ro : ℕ) → r ≡ seen y (fixedSeen k d i ro) → seenAt t b u f at p o x ≡ bitsSeenAt t b f at p o k i ro
       → r ≡ seenAt t b u f at p o x
   unfolding bitsSeenAt
-  bits-of n k i ro is sees = rw (n .width, n .order, n .exponent) at is ∙ sym sees
+  bits-of n found k i ro is sees = rw (found, n .width, n .order, n .exponent) at is ∙ sym sees
 
-  pub dynamic-of : 26 ≤ u8 t at → u8 t at < 28 → seenAt t b u f at p o x ≡ dynamically b f x (u8 t at) p o
+  dynamic-is : 26 ≤ u8 t at → u8 t at < 28 → seenAt t b u f at p o x ≡ dynamically b f x (u8 t at) p o
   unfolding shapeOf shapes seenIn
-  dynamic-of low high = ⊎-elim
+  dynamic-is low high = ⊎-elim
       (λ (h : u8 t at < 27). let k : u8 t at ≡ 26 = omega arith in rw (k) (seen-of 26 k))
       (λ (h : 27 ≤ u8 t at). let k : u8 t at ≡ 27 = omega arith in rw (k) (seen-of 27 k))
       (lt-or-ge (u8 t at) 27)
+
+  pub dynamic-of : {r : Seen} → 26 ≤ u8 t at → u8 t at < 28 → r ≡ dynamically b f x (u8 t at) p o → r ≡ seenAt t b u f at p o x
+  dynamic-of low high is = is ∙ sym (dynamic-is low high)
 
 no-role : {A : Type 0} → _≡_ {A = ℕ} 0 7 → A
 no-role e = absurd (omega arith)
@@ -199,7 +204,7 @@ module _ (b u : List ℕ) (f : Frame) (t : List ℕ) (at : ℕ) (p : BitPlace) (
 
   -- y is what is seen from a place on, with an order as the last
   by-class : (c : Class) (y : BitPlace → LastOrder → Seen) → classAt 1 t at ≡ c → this ≡ y p o → Fits (y p o)
-      → ((s : Whole) → 4 ≤ s .room → length (s .slots) ≡ slotCount → slotAt (s .slots) (leafSlot t at) ≡ x
+      → ((s : State) → 4 ≤ s .room → length (s .slots) ≡ slotCount → slotAt (s .slots) (leafSlot t at) ≡ x
       → read (envOf b u f) c s ≡ done (y (s .place) (s .order)) s)
       → SeesAt b u f t at x p o this
   by-class c y e is fits law = record {
@@ -230,7 +235,7 @@ module _ (b u : List ℕ) (f : Frame) (t : List ℕ) (at : ℕ) (p : BitPlace) (
       by-kind n false e = rw (e, dynamicSeen) (plain-fits k o _ (blob-ends framed n refl))
 
       by : (l : Length) → Fits (forLength l (dynamicSeen b f p o k))
-      by (Of n) = by-kind (n .0) (eqb k 26) refl
+      by (Of n) = by-kind n (eqb k 26) refl
       by (NotOf r) = tt
 
   module _ (bytes : Bytes b) where
@@ -285,8 +290,8 @@ module _ {b : List ℕ} {f : Frame} {p : BitPlace} (framed : Framed b f p) where
       (omega (arith, lies .2), omega (arith, lies .2), lies .1)
   bits-extend (Refused r) o w d a is low high = tt
 
-  pub blob-within : (x : Found) (n : ℕ) → x ≡ foundBlob f p n → Within b x
-  unfolding Within
+  pub blob-within : (x : Found) (n : ℕ) → x ≡ foundBlob f p n → InStream b x
+  unfolding InStream
   blob-within (At q m v) n is = let lies = blob-lies framed refl n is in rw (lies .2) (lies .1)
   blob-within (Refused r) n is = tt
 
@@ -297,11 +302,18 @@ module _ (b : List ℕ) (f : Frame) (p : BitPlace) (o : LastOrder) {x y : Length
   unfolding forLength
   no-length-seen e k = rw (← is, e) refl
 
-  module _ {n : ByteLength} (e : x ≡ Of n) (k : ℕ) where
-    pub text-seen : k ≡ 26 → seen (foundText b f p (n .0)) (plainSeen k o) ≡ forLength y (dynamicSeen b f p o k)
+  module _ {n : ℕ} (e : x ≡ Of n) (k : ℕ) where
+    text-is : k ≡ 26 → seen (foundText b f p n) (plainSeen k o) ≡ forLength y (dynamicSeen b f p o k)
     unfolding forLength dynamicSeen
-    text-seen h = rw (← is, e, eq-eqb k 26 h, dynamicSeen) refl
+    text-is h = rw (← is, e, eq-eqb k 26 h, dynamicSeen) refl
 
-    pub blob-seen : (k ≡ 26 → ⊥) → seen (foundBlob f p (n .0)) (plainSeen k o) ≡ forLength y (dynamicSeen b f p o k)
+    blob-is : (k ≡ 26 → ⊥) → seen (foundBlob f p n) (plainSeen k o) ≡ forLength y (dynamicSeen b f p o k)
     unfolding forLength dynamicSeen
-    blob-seen h = rw (← is, e, ne-eqb k 26 h, dynamicSeen) refl
+    blob-is h = rw (← is, e, ne-eqb k 26 h, dynamicSeen) refl
+
+    module _ {z : Found} {r : Seen} (sees : r ≡ seen z (plainSeen k o)) where
+      pub text-seen : k ≡ 26 → z ≡ foundText b f p n → r ≡ forLength y (dynamicSeen b f p o k)
+      text-seen h found = rw (found) at sees ∙ text-is h
+
+      pub blob-seen : (k ≡ 26 → ⊥) → z ≡ foundBlob f p n → r ≡ forLength y (dynamicSeen b f p o k)
+      blob-seen h found = rw (found) at sees ∙ blob-is h

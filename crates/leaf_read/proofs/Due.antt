@@ -33,9 +33,9 @@ use Rattle.laws.proofs.Law.{Any, fits, law-read}
 use Rattle.laws.proofs.Triple.{Ok}
 use Rattle.laws.proofs.Between.{Kept, Held, In, At, NoMore, held-law}
 use Rattle.listing.proofs.Checks.{check-stops, check-goes, room-first, no-room-first}
-use Rattle.leaf_find_number.specs.declared.Frame.{Frame}
-use Rattle.leaf_find_number.specs.declared.find.Found.{Found}
-use Rattle.leaf_find_number.specs.declared.find.Found.the-variants.{At as Lies, Refused}
+use Rattle.frame.specs.declared.Frame.{Frame}
+use Rattle.leaf_find_number.specs.declared.Found.{Found}
+use Rattle.leaf_find_number.specs.declared.Found.the-variants.{At as Lies, Refused}
 use Rattle.leaf_after.specs.declared.Due.{Due}
 use Rattle.leaf_after.specs.declared.Seen.{Seen}
 use Rattle.leaf_after.specs.declared.Seen.the-variants.{Field, OtherUuid}

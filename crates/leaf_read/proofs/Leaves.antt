@@ -27,8 +27,8 @@ use Rattle.facts.proofs.Truth.{clash, or-false}
 use Rattle.facts.proofs.Steps.{onto-nil, onto-onto, after-onto}
 use Rattle.facts.proofs.Slots.{no-slot}
 use Rattle.facts.proofs.Numbers.{lt-or-ge}
-use Rattle.leaf_find_number.specs.declared.Frame.{Frame}
-use Rattle.leaf_find_number.specs.Framed.{Framed, envOf}
+use Rattle.frame.specs.declared.Frame.{Frame}
+use Rattle.frame.specs.Framed.{Framed, envOf}
 use Rattle.listing.specs.Roled.{Stamp}
 use Rattle.leaf_after.specs.declared.Due.{Due}
 use Rattle.leaf_after.specs.declared.Leaves.{Leaves}

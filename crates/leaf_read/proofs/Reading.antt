@@ -24,8 +24,8 @@ use Rattle.rules.specs.Step.{State}
 use Rattle.facts.specs.Bytes.{Bytes}
 use Rattle.facts.proofs.Slots.{no-content}
 use Rattle.facts.proofs.Numbers.{lt-or-ge}
-use Rattle.leaf_find_number.specs.declared.Frame.{Frame}
-use Rattle.leaf_find_number.specs.Framed.{Framed}
+use Rattle.frame.specs.declared.Frame.{Frame}
+use Rattle.frame.specs.Framed.{Framed}
 use Rattle.listing.proofs.Parts.{Listed, none-listed, listed-length}
 use Rattle.leaf_after.specs.declared.Due.{Due}
 use Rattle.leaf_after.specs.declared.Leaves.{Leaves}

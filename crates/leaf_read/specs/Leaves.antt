@@ -16,7 +16,7 @@ use Rattle.rules.specs.Limits.{wordsPerEntry, slotCount, noSlot}
 use Rattle.rules.specs.Place.{further}
 use Rattle.rules.specs.Record.{u8}
 use Rattle.rules.specs.Entry.{words}
-use Rattle.leaf_find_number.specs.declared.Frame.{Frame}
+use Rattle.frame.specs.declared.Frame.{Frame}
 use Rattle.leaf_after.specs.declared.Due.{Due}
 use Rattle.leaf_after.specs.declared.Seen.{Seen}
 use Rattle.leaf_after.specs.declared.Seen.the-variants.{Field, OtherUuid, Stops}

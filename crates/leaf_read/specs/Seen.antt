@@ -18,7 +18,7 @@ use Rattle.rules.specs.Parse.{orderOf}
 use Rattle.rules.specs.Slots.{slotAt}
 use Rattle.rules.specs.Step.{State, Step}
 use Rattle.slots.specs.Taken.{lengthOf}
-use Rattle.leaf_find_number.specs.declared.Frame.{Frame}
+use Rattle.frame.specs.declared.Frame.{Frame}
 use Rattle.leaf_find_number.specs.Found.{foundBits, foundUnsigned, foundSigned}
 use Rattle.leaf_find_bytes.specs.Found.{foundString, foundText, foundBlob}
 use Rattle.leaf_after.specs.declared.Seen.{Seen}

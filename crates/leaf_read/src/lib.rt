@@ -1,14 +1,14 @@
 // Leaves of the classes at bytes of the table: each is found by the numbers of its record, and what is seen of it is told by its kind. Each
 // number is read where it is needed; what the check of the table has shown of it is not tested again.
+use frame::Frame;
 use leaf_after::Leaves;
 use leaf_after::Seen;
 use leaf_find_bytes::find_blob;
 use leaf_find_bytes::find_string;
 use leaf_find_bytes::find_text;
-use leaf_find_number::Frame;
-use leaf_find_number::find::find_bits;
-use leaf_find_number::find::find_signed;
-use leaf_find_number::find::find_unsigned;
+use leaf_find_number::find_bits;
+use leaf_find_number::find_signed;
+use leaf_find_number::find_unsigned;
 use leaf_see_bytes::plain;
 use leaf_see_bytes::static_blob;
 use leaf_see_number::fixed::bit_array;
@@ -19,6 +19,8 @@ use leaf_see_number::fixed::unsigned;
 use leaf_see_number::leb::signed_leb;
 use leaf_see_number::leb::unsigned_leb;
 use listing::entry::write;
+use numbers::kinds;
+use numbers::limits;
 use rules::BitPlace;
 use rules::ByteLength;
 use rules::Content;
@@ -36,7 +38,7 @@ ghost use Prim.Native.Nat.{_+_, _≤_, _<_};
 ghost use lib.ListN.{length, getD};
 ghost use Rattle.rules.specs.Record.{u8};
 ghost use Rattle.rules.specs.Parse.{orderOf};
-ghost use Rattle.leaf_find_number.specs.Framed.{Framed};
+ghost use Rattle.frame.specs.Framed.{Framed};
 ghost use Rattle.slots.specs.Taken.{lengthOf};
 ghost use Rattle.leaf_after.specs.Seeing.{forLength};
 ghost use Rattle.class_layout.specs.Trees.{whole};
@@ -46,39 +48,14 @@ ghost use Rattle.leaf_read.specs.Reads.{Held, leafSlot};
 ghost use Rattle.leaf_read.specs.Seen.{seenAt, BitsSeen, dynamicSeen};
 ghost use Rattle.leaf_read.specs.Leaves.{contentOf, stoppedLeaves, listBehind, leavesEnd, leavesRead, Standing};
 
-const BIT_ARRAY: u8 = 16;
-
-const BOOLEAN: u8 = 17;
-
-const UNSIGNED: u8 = 18;
-
-const SIGNED: u8 = 19;
-
-const UNSIGNED_LEB: u8 = 21;
-
-const SIGNED_LEB: u8 = 22;
-
-const STRING: u8 = 23;
-
-const STATIC_STRING: u8 = 24;
-
-const STATIC_BLOB: u8 = 25;
-
-const DYNAMIC_STRING: u8 = 26;
-
-// Kinds from here on hold fields.
-pub const FIRST_THAT_HOLDS: u8 = 28;
-
-const NO_SLOT: usize = 255;
-
 // The slot that the leaf at a byte reads; 255 where it reads none.
 pub fn leaf_slot(table: &[u8], at: usize) -> usize
     requires { ⌜ whole 1 (now table) at ⌝ }
     requires { ⌜ u8 (now table) at < 28 ⌝ }
     ensures { λ r. ⌜ r ≡ leafSlot (now (table .entry)) at ⌝ }
 {
-    if table[at] < DYNAMIC_STRING {
-        return NO_SLOT;
+    if table[at] < kinds::DYNAMIC_STRING {
+        return limits::NO_SLOT_READ;
     }
     wide(table[at + 1])
 }
@@ -195,9 +172,9 @@ pub fn content_of(kind: u8, value: u64) -> Content
     ensures { λ r. ⌜ r ≡ contentOf kind value ⌝ }
 {
     match kind {
-        BOOLEAN => Content::Flag(value != 0),
-        SIGNED => Content::Signed(value),
-        SIGNED_LEB => Content::Signed(value),
+        kinds::BOOLEAN => Content::Flag(value != 0),
+        kinds::SIGNED => Content::Signed(value),
+        kinds::LEB128_SIGNED => Content::Signed(value),
         _ => Content::Unsigned(value),
     }
 }
@@ -224,7 +201,7 @@ fn ends(table: &[u8], next: usize, todo: usize, room: usize, slot: u8, role: u8)
     if room < 4 {
         return true;
     }
-    if DYNAMIC_STRING <= table[next] {
+    if kinds::DYNAMIC_STRING <= table[next] {
         return true;
     }
     if slot < 64 {
@@ -249,23 +226,31 @@ fn see_leaf(
     requires { ⌜ Framed (now stream) frame from ⌝ }
     ensures { λ r. ⌜ r ≡ seenAt (now (table .entry)) (now (stream .entry)) (now (uuid .entry)) frame at from last content ⌝ }
 {
-    if table[at] < UNSIGNED_LEB {
+    if table[at] < kinds::FIRST_OF_BYTES {
         return see_bits(table, at, stream, frame, from, last);
     }
     match table[at] {
-        UNSIGNED_LEB => unsigned_leb(
+        kinds::LEB128_UNSIGNED => unsigned_leb(
             find_unsigned(stream, frame, from),
             last,
             table[at + 1],
             table[at + 2],
         ),
-        SIGNED_LEB => signed_leb(find_signed(stream, frame, from), last, table[at + 1]),
-        STRING => plain(STRING, find_string(stream, frame, from), last),
-        STATIC_STRING => {
+        kinds::LEB128_SIGNED => signed_leb(find_signed(stream, frame, from), last, table[at + 1]),
+        kinds::NULL_TERMINATED_STRING => plain(
+            kinds::NULL_TERMINATED_STRING,
+            find_string(stream, frame, from),
+            last,
+        ),
+        kinds::STATIC_STRING => {
             let bytes = ByteLength(u16_at(table, at + 1));
-            plain(STATIC_STRING, find_text(stream, frame, from, bytes), last)
+            plain(
+                kinds::STATIC_STRING,
+                find_text(stream, frame, from, bytes),
+                last,
+            )
         }
-        STATIC_BLOB => {
+        kinds::STATIC_BLOB => {
             let bytes = ByteLength(u16_at(table, at + 1));
             static_blob(
                 find_blob(stream, frame, from, bytes),
@@ -294,10 +279,18 @@ fn see_dynamic(
     match length_of(content) {
         Length::NotOf(why) => Seen::Stops(why),
         Length::Of(bytes) => {
-            if kind == DYNAMIC_STRING {
-                return plain(kind, find_text(stream, frame, from, bytes), last);
+            if kind == kinds::DYNAMIC_STRING {
+                return plain(
+                    kind,
+                    find_text(stream, frame, from, ByteLength(bytes)),
+                    last,
+                );
             }
-            plain(kind, find_blob(stream, frame, from, bytes), last)
+            plain(
+                kind,
+                find_blob(stream, frame, from, ByteLength(bytes)),
+                last,
+            )
         }
     }
 }
@@ -321,10 +314,10 @@ fn see_bits(
     let exponent = wide64(table[at + 3]);
     let found = find_bits(stream, frame, from, last, width, order, exponent);
     match table[at] {
-        BIT_ARRAY => bit_array(found, order),
-        BOOLEAN => boolean(found, order, table[at + 4]),
-        UNSIGNED => unsigned(found, order, table[at + 4], table[at + 5]),
-        SIGNED => signed(found, order, table[at + 4]),
+        kinds::BIT_ARRAY => bit_array(found, order),
+        kinds::BOOLEAN => boolean(found, order, table[at + 4]),
+        kinds::UNSIGNED => unsigned(found, order, table[at + 4], table[at + 5]),
+        kinds::SIGNED => signed(found, order, table[at + 4]),
         _ => float(found, order),
     }
 }

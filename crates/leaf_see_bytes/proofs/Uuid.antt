@@ -15,10 +15,11 @@ use Rattle.rules.specs.Place.{byteLength}
 use Rattle.rules.specs.Entry.{entry}
 use Rattle.rules.specs.Field.{sameBytes}
 use Rattle.facts.proofs.Truth.{and-left, and-right}
-use Rattle.leaf_find_number.specs.declared.find.Found.{Found}
-use Rattle.leaf_find_number.specs.declared.find.Found.the-variants.{At, Refused}
+use Rattle.leaf_find_number.specs.declared.Found.{Found}
+use Rattle.leaf_find_number.specs.declared.Found.the-variants.{At, Refused}
 use Rattle.leaf_after.specs.declared.Seen.the-variants.{OtherUuid}
 use Rattle.leaf_after.specs.Seeing.{seen, plainSeen, uuidSeen, blobSeen}
+use Rattle.leaf_see_bytes.specs.InStream.{InStream}
 
 same-refl : (xs : List ℕ) → sameBytes xs xs ≡ true
 unfolding sameBytes
@@ -59,25 +60,34 @@ module _ (stream uuid : List ℕ) (at count : ℕ) (h : at + count ≤ length st
 
   pub same-all : length uuid ≡ count → ((k : ℕ) → k < count → getD stream (at + k) 0 ≡ getD uuid k 0) → true ≡ sameBytes part uuid
   same-all l alike =
-      let e : part ≡ uuid = ext-getD 0 part uuid (part-length ∙ sym l) (λ k i. part-at k (omega (arith, part-length)) ∙ alike k (omega (arith, part-length))) in
+      let each : (k : ℕ) → k < length part → getD part k 0 ≡ getD uuid k 0 =
+      λ k i. part-at k (omega (arith, part-length)) ∙ alike k (omega (arith, part-length)) in
+      let e : part ≡ uuid = ext-getD 0 part uuid (part-length ∙ sym l) each in
       rw (e) (sym (same-refl uuid))
+
+-- A BLOB that was found lies in the stream
+
+module _ (b : List ℕ) {x : Found} {p : BitPlace} {n v : ℕ} (found : x ≡ At p n v) {q : ByteLength} (byte : q ≡ byteLength (p .0 / 8)) where
+  pub found-within : InStream b x → q .0 + v ≤ length b
+  unfolding InStream
+  found-within w = rw (byte) (rw (found) at w)
 
 -- What is seen
 
 module _ (b u : List ℕ) (o : LastOrder) where
-  -- t is what the code says of the bytes at q
-  module _ (p : BitPlace) (n v : ℕ) {q : ByteLength} (byte : q ≡ byteLength (p .0 / 8)) {t : Bool}
+  -- x is what was found, and t what the code says of its bytes, from q on
+  module _ {x : Found} (p : BitPlace) (n v : ℕ) (found : x ≡ At p n v) {q : ByteLength} (byte : q ≡ byteLength (p .0 / 8)) {t : Bool}
       (told : t ≡ sameBytes (take v (drop (q .0) b)) u) where
-    is : (x : Bool) → t ≡ x → sameBytes (take v (drop (p .0 / 8) b)) u ≡ x
-    is x e = sym (rw (byte) at told) ∙ e
+    is : (y : Bool) → t ≡ y → sameBytes (take v (drop (p .0 / 8) b)) u ≡ y
+    is y e = sym (rw (byte) at told) ∙ e
 
-    pub uuid-seen : t ≡ true → plainSeen 25 o p n v ≡ uuidSeen b u o p n v
-    unfolding uuidSeen
-    uuid-seen e = rw (is true e, uuidSeen) refl
+    pub uuid-seen : t ≡ true → seen (At p n v) (plainSeen 25 o) ≡ seen x (uuidSeen b u o)
+    unfolding seen uuidSeen
+    uuid-seen e = rw (found, is true e, uuidSeen) refl
 
-    pub other-seen : t ≡ false → OtherUuid (entry 25 p n v) ≡ uuidSeen b u o p n v
-    unfolding uuidSeen
-    other-seen e = rw (is false e, uuidSeen) refl
+    pub other-seen : t ≡ false → OtherUuid (entry 25 p n v) ≡ seen x (uuidSeen b u o)
+    unfolding seen uuidSeen
+    other-seen e = rw (found, is false e, uuidSeen) refl
 
   -- by the role
   pub role-seen : (r : ℕ) (x : Found) → r ≡ 4 → seen x (uuidSeen b u o) ≡ seen x (blobSeen b u r o)

@@ -1,9 +1,10 @@
 // What is seen of a leaf that is bytes, kinds 23 to 27, once it is found or refused: none sets a slot, and a static BLOB alone has a role.
 use leaf_after::Due;
-use leaf_after::NO_ROLE;
-use leaf_after::NO_SLOT;
 use leaf_after::Seen;
-use leaf_find_number::find::Found;
+use leaf_find_number::Found;
+use numbers::kinds;
+use numbers::limits::NO_SLOT;
+use numbers::roles;
 use rules::Content;
 use rules::Entry;
 use rules::LastOrder;
@@ -12,11 +13,7 @@ ghost use Prim.Native.Nat.{_+_, _≤_};
 ghost use lib.ListN.{length, take, drop};
 ghost use Rattle.rules.specs.Field.{sameBytes};
 ghost use Rattle.leaf_after.specs.Seeing.{seen, plainSeen, uuidSeen, blobSeen};
-ghost use Rattle.leaf_see_bytes.specs.Within.{Within};
-
-const STATIC_BLOB: u8 = 25;
-
-const UUID: u8 = 4;
+ghost use Rattle.leaf_see_bytes.specs.InStream.{InStream};
 
 // A leaf of any of these kinds, without a role.
 pub fn plain(kind: u8, found: Found, last: LastOrder) -> Seen
@@ -34,7 +31,7 @@ pub fn plain(kind: u8, found: Found, last: LastOrder) -> Seen
             order: last,
             slot: NO_SLOT,
             content: Content::Unset,
-            role: NO_ROLE,
+            role: roles::NO_ROLE,
             width: 0,
         }),
     }
@@ -42,18 +39,18 @@ pub fn plain(kind: u8, found: Found, last: LastOrder) -> Seen
 
 // Kind 25, which may have to be the trace class's UUID.
 pub fn static_blob(found: Found, role: u8, last: LastOrder, uuid: &[u8], stream: &[u8]) -> Seen
-    requires { ⌜ Within (now stream) found ⌝ }
+    requires { ⌜ InStream (now stream) found ⌝ }
     ensures { λ r. ⌜ r ≡ seen found (blobSeen (now (stream .entry)) (now (uuid .entry)) role last) ⌝ }
 {
-    if role == UUID {
+    if role == roles::UUID {
         return uuid_blob(found, last, uuid, stream);
     }
-    plain(STATIC_BLOB, found, last)
+    plain(kinds::STATIC_BLOB, found, last)
 }
 
 // A BLOB whose bytes must be the UUID's.
 fn uuid_blob(found: Found, last: LastOrder, uuid: &[u8], stream: &[u8]) -> Seen
-    requires { ⌜ Within (now stream) found ⌝ }
+    requires { ⌜ InStream (now stream) found ⌝ }
     ensures { λ r. ⌜ r ≡ seen found (uuidSeen (now (stream .entry)) (now (uuid .entry)) last) ⌝ }
 {
     match found {
@@ -61,10 +58,10 @@ fn uuid_blob(found: Found, last: LastOrder, uuid: &[u8], stream: &[u8]) -> Seen
         Found::At { place, bits, value } => {
             let at = places::bytes_before(place);
             if same(stream, at.0, value as usize, uuid) {
-                return plain(STATIC_BLOB, found, last);
+                return plain(kinds::STATIC_BLOB, found, last);
             }
             Seen::OtherUuid(Entry {
-                kind: STATIC_BLOB as u64,
+                kind: kinds::STATIC_BLOB as u64,
                 place,
                 bits,
                 value,

@@ -1,9 +1,10 @@
 // Kinds 16 to 20, which leave their order as the packet's last.
 use leaf_after::Due;
-use leaf_after::NO_ROLE;
-use leaf_after::NO_SLOT;
 use leaf_after::Seen;
-use leaf_find_number::find::Found;
+use leaf_find_number::Found;
+use numbers::entries;
+use numbers::limits::NO_SLOT;
+use numbers::roles::NO_ROLE;
 use rules::Content;
 use rules::Entry;
 use rules::LastOrder;
@@ -15,28 +16,18 @@ ghost use Rattle.rules.specs.Field.{truth, oneOrNone};
 ghost use Rattle.leaf_after.specs.Seeing.{seen, fixedSeen, bitsSeen};
 ghost use Rattle.leaf_see_number.specs.Extends.{Extends};
 
-const BIT_ARRAY: u64 = 16;
-
-const BOOLEAN: u64 = 17;
-
-const UNSIGNED: u64 = 18;
-
-const SIGNED: u64 = 19;
-
-const FLOAT: u64 = 20;
-
 // Kind 16.
 pub fn bit_array(found: Found, order: Order) -> Seen
     ensures { λ r. ⌜ r ≡ seen found (fixedSeen bitArray order noSlot 0) ⌝ }
 {
-    see_bits(BIT_ARRAY, found, order)
+    see_bits(entries::BIT_ARRAY, found, order)
 }
 
 // Kind 20.
 pub fn float(found: Found, order: Order) -> Seen
     ensures { λ r. ⌜ r ≡ seen found (fixedSeen float order noSlot 0) ⌝ }
 {
-    see_bits(FLOAT, found, order)
+    see_bits(entries::FLOAT, found, order)
 }
 
 // "floats and bit arrays their bits as unsigned" (The list)
@@ -72,7 +63,7 @@ pub fn boolean(found: Found, order: Order, slot: u8) -> Seen
         Found::Refused(why) => Seen::Stops(why),
         Found::At { place, bits, value } => {
             let entry = Entry {
-                kind: BOOLEAN,
+                kind: entries::BOOLEAN,
                 place,
                 bits,
                 value: one_or_none(value),
@@ -109,7 +100,7 @@ pub fn unsigned(found: Found, order: Order, slot: u8, role: u8) -> Seen
         Found::Refused(why) => Seen::Stops(why),
         Found::At { place, bits, value } => {
             let entry = Entry {
-                kind: UNSIGNED,
+                kind: entries::UNSIGNED,
                 place,
                 bits,
                 value,
@@ -140,7 +131,7 @@ pub fn signed(found: Found, order: Order, slot: u8) -> Seen
         } => {
             let value = bits::sign_extend(number, bits);
             let entry = Entry {
-                kind: SIGNED,
+                kind: entries::SIGNED,
                 place,
                 bits,
                 value,

@@ -1,18 +1,15 @@
 // Kinds 21 and 22, which leave the packet's last order as it was: "L the field's bits (7 times its bytes for LEB128)" (Reading)
 use leaf_after::Due;
-use leaf_after::NO_ROLE;
 use leaf_after::Seen;
-use leaf_find_number::find::Found;
+use leaf_find_number::Found;
+use numbers::entries;
+use numbers::roles::NO_ROLE;
 use rules::Content;
 use rules::Entry;
 use rules::LastOrder;
 ghost use mathlib.Core.Path.{_≡_};
 ghost use Rattle.rules.specs.declared.Content.the-variants.{Unsigned, Signed};
 ghost use Rattle.leaf_after.specs.Seeing.{seen, lebSeen};
-
-const UNSIGNED_LEB: u64 = 21;
-
-const SIGNED_LEB: u64 = 22;
 
 // Kind 21.
 pub fn unsigned_leb(found: Found, last: LastOrder, slot: u8, role: u8) -> Seen
@@ -22,7 +19,7 @@ pub fn unsigned_leb(found: Found, last: LastOrder, slot: u8, role: u8) -> Seen
         Found::Refused(why) => Seen::Stops(why),
         Found::At { place, bits, value } => {
             let entry = Entry {
-                kind: UNSIGNED_LEB,
+                kind: entries::LEB128_UNSIGNED,
                 place,
                 bits,
                 value,
@@ -33,7 +30,7 @@ pub fn unsigned_leb(found: Found, last: LastOrder, slot: u8, role: u8) -> Seen
                 slot,
                 content: Content::Unsigned(value),
                 role,
-                width: 7 * (bits / 8),
+                width: places::stamp_bits(bits),
             })
         }
     }
@@ -47,7 +44,7 @@ pub fn signed_leb(found: Found, last: LastOrder, slot: u8) -> Seen
         Found::Refused(why) => Seen::Stops(why),
         Found::At { place, bits, value } => {
             let entry = Entry {
-                kind: SIGNED_LEB,
+                kind: entries::LEB128_SIGNED,
                 place,
                 bits,
                 value,
@@ -58,7 +55,7 @@ pub fn signed_leb(found: Found, last: LastOrder, slot: u8) -> Seen
                 slot,
                 content: Content::Signed(value),
                 role: NO_ROLE,
-                width: 7 * (bits / 8),
+                width: places::stamp_bits(bits),
             })
         }
     }

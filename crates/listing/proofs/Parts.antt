@@ -1,4 +1,15 @@
 -- A lent list that is written from the front, part by part: what stands listed, and what is still to be done.
+--
+-- Part                     of an outcome so many words stand, and a step is still to be done
+-- part-start               in front of the first word
+-- lent, merged, lent-room  the part of a list that is lent on; the list with it back in its place; how long it is
+-- Listed, none-listed,     entries stand in a list: none yet; one more; and it is as long as it was
+--   one-more, listed-length
+-- part-length, part-room   the list is as long as it was; what is left of it
+-- back-room                what came back and what stood before have room together
+-- part-step, part-stop     a call went on, and the next step is left; or it stopped, and that is the outcome
+-- part-last-on, -stopped   the same of the last call
+-- part-end                 nothing is left
 use mathlib.Core.Path.{_≡_, refl, ap, sym, _∙_}
 use mathlib.Core.List.{List, [], _∷_, _++_, append-assoc, append-nil}
 use Prim.Native.Nat.{ℕ, _+_, _-_, _*_, _≤_}
@@ -11,30 +22,21 @@ use Rattle.rules.specs.Slots.{Slots}
 use Rattle.rules.specs.Entry.{words}
 use Rattle.rules.specs.Step.{Out, stop, go, Step, onto, after, _⨾_}
 use Rattle.facts.proofs.Steps.{onto-nil, onto-onto}
-use Rattle.listing.specs.declared.State.{State}
+use Rattle.facts.proofs.Lists.{length-words, words-append}
+use Rattle.listing.specs.declared.Progress.{Progress}
 use Rattle.listing.specs.declared.Went.{Went}
 use Rattle.listing.specs.declared.Went.the-variants.{On, Stopped}
 use Rattle.listing.specs.Did.{Did, full, outOf}
 
-words-append : (a b : List Entry) → words (a ++ b) ≡ words a ++ words b
-unfolding words
-words-append [] b = refl
-words-append (e ∷ a) b = ap (λ l. e .kind ∷ e .place .0 ∷ e .bits ∷ e .value ∷ l) (words-append a b)
-
-words-length : (a : List Entry) → length (words a) ≡ 4 * length a
-unfolding words
-words-length [] = refl
-words-length (e ∷ a) = omega (arith, words-length a)
-
 -- of the outcome o, `used` words stand in ws, which was ws₀, and m is to be done at st and l
-pub record Part (o : Out) (m : Step) (ws₀ ws : List ℕ) (used : ℕ) (st : State) (l : Slots) : Type 0 where
+pub record Part (o : Out) (m : Step) (ws₀ ws : List ℕ) (used : ℕ) (st : Progress) (l : Slots) : Type 0 where
   pub listed : List Entry
   pub list : ws ≡ words listed ++ drop used ws₀
   pub counted : used ≡ 4 * length listed
   pub room : used ≤ length ws₀
   pub rest : o ≡ onto listed (m (full st l (length ws₀ - used)))
 
-pub part-start : (m : Step) (ws : List ℕ) (st : State) (l : Slots) → Part (m (full st l (length ws))) m ws ws 0 st l
+pub part-start : (m : Step) (ws : List ℕ) (st : Progress) (l : Slots) → Part (m (full st l (length ws))) m ws ws 0 st l
 unfolding words
 part-start m ws st l =
     let all : length ws - 0 ≡ length ws = omega arith in
@@ -76,23 +78,23 @@ module _ {es : List Entry} {ws₀ ws : List ℕ} {used : ℕ} (h : Listed es ws�
   pub listed-length : length ws ≡ length ws₀
   listed-length =
       let long = length-append (words es) (drop used ws₀) in
-      omega (arith, ap length (h .list), long, length-drop used ws₀, words-length es, h .counted, h .room)
+      omega (arith, ap length (h .list), long, length-drop used ws₀, length-words es, h .counted, h .room)
 
   -- one more was written into what is lent behind them
   pub one-more : (e : Entry) {ys : List ℕ} → used + 4 ≤ length ws₀ → ys ≡ words (e ∷ []) ++ drop 4 (lent used ws)
       → Listed (es ++ (e ∷ [])) ws₀ (merged used ws ys) (used + 4)
   one-more e room is = record {
     list =
-        let size = h .counted ∙ sym (words-length es) in
+        let size = h .counted ∙ sym (length-words es) in
         let here = rw (lent-is used ws) at is in
         rw (words-append) (back (words es) (words (e ∷ [])) ws₀ ws _ used 4 (length ws - used) (h .list) size here (omega arith));
     counted = omega (arith, h .counted, length-append es (e ∷ []));
     room = room;
   }
 
-module _ {o : Out} {m : Step} {ws₀ ws : List ℕ} {used : ℕ} {st : State} {l : Slots} (p : Part o m ws₀ ws used st l) where
+module _ {o : Out} {m : Step} {ws₀ ws : List ℕ} {used : ℕ} {st : Progress} {l : Slots} (p : Part o m ws₀ ws used st l) where
   size : used ≡ length (words (p .listed))
-  size = p .counted ∙ sym (words-length (p .listed))
+  size = p .counted ∙ sym (length-words (p .listed))
 
   pub part-length : length ws ≡ length ws₀
   part-length = listed-length record { list = p .list; counted = p .counted; room = p .room }
@@ -100,19 +102,19 @@ module _ {o : Out} {m : Step} {ws₀ ws : List ℕ} {used : ℕ} {st : State} {l
   pub part-room : length (drop used ws) ≡ length ws₀ - used
   part-room = omega (arith, length-drop used ws, part-length)
 
-outcome-on : (es : List Entry) (went : Went) (st : State) (l : Slots) (room left : ℕ) → went ≡ On → room ≡ left
+outcome-on : (es : List Entry) (went : Went) (st : Progress) (l : Slots) (room left : ℕ) → went ≡ On → room ≡ left
     → outOf es went st l room ≡ go es (full st l left)
 unfolding outOf
 outcome-on es went st l room left e h = rw (e, h) refl
 
-outcome-stopped : (es : List Entry) (went : Went) (st : State) (l : Slots) (room : ℕ) (v : Stop) → went ≡ Stopped v
+outcome-stopped : (es : List Entry) (went : Went) (st : Progress) (l : Slots) (room : ℕ) (v : Stop) → went ≡ Stopped v
     → outOf es went st l room ≡ stop es v
 unfolding outOf
 outcome-stopped es went st l room v e = rw (e) refl
 
 -- a call of f was lent the list from `used` on, and the part came back as ys
-module _ (f : Step) {o : Out} {g : Step} {ws₀ ws : List ℕ} {used : ℕ} {st : State} {l : Slots} (p : Part o g ws₀ ws used st l)
-    {went : Went} {n : ℕ} {st′ : State} {l′ : Slots} {ys : List ℕ}
+module _ (f : Step) {o : Out} {g : Step} {ws₀ ws : List ℕ} {used : ℕ} {st : Progress} {l : Slots} (p : Part o g ws₀ ws used st l)
+    {went : Went} {n : ℕ} {st′ : Progress} {l′ : Slots} {ys : List ℕ}
     (d : Did (f (full st l (length (lent used ws)))) st went n st′ l′ (lent used ws) ys) where
   at-room : Did (f (full st l (length ws₀ - used))) st went n st′ l′ (drop used ws) ys
   at-room = rw (lent-is used ws, part-room p) at d
@@ -133,8 +135,8 @@ module _ (f : Step) {o : Out} {g : Step} {ws₀ ws : List ℕ} {used : ℕ} {st 
   out-stopped : (v : Stop) → went ≡ Stopped v → f (full st l (length ws₀ - used)) ≡ stop (at-room .listed) v
   out-stopped v e = at-room .out ∙ outcome-stopped (at-room .listed) went st′ l′ _ v e
 
-module _ (f g : Step) {o : Out} {ws₀ ws : List ℕ} {used : ℕ} {st : State} {l : Slots} (p : Part o (f ⨾ g) ws₀ ws used st l)
-    {went : Went} {n : ℕ} {st′ : State} {l′ : Slots} {ys : List ℕ}
+module _ (f g : Step) {o : Out} {ws₀ ws : List ℕ} {used : ℕ} {st : Progress} {l : Slots} (p : Part o (f ⨾ g) ws₀ ws used st l)
+    {went : Went} {n : ℕ} {st′ : Progress} {l′ : Slots} {ys : List ℕ}
     (d : Did (f (full st l (length (lent used ws)))) st went n st′ l′ (lent used ws) ys) where
   -- f went on, and g is left
   pub part-step : went ≡ On → Part o g ws₀ (merged used ws ys) (used + n) st′ l′
@@ -148,7 +150,7 @@ module _ (f g : Step) {o : Out} {ws₀ ws : List ℕ} {used : ℕ} {st : State} 
   }
 
   -- f stopped, and that is the outcome
-  pub part-stop : (v : Stop) (came : State) (l″ : Slots) → went ≡ Stopped v → Did o came (Stopped v) (used + n) came l″ ws₀ (merged used ws ys)
+  pub part-stop : (v : Stop) (came : Progress) (l″ : Slots) → went ≡ Stopped v → Did o came (Stopped v) (used + n) came l″ ws₀ (merged used ws ys)
   unfolding _⨾_ after onto outOf
   part-stop v came l″ e = record {
     listed = p .listed ++ at-room f p d .listed;
@@ -160,10 +162,10 @@ module _ (f g : Step) {o : Out} {ws₀ ws : List ℕ} {used : ℕ} {st : State} 
   }
 
 -- f is all that is left
-module _ (f : Step) {o : Out} {ws₀ ws : List ℕ} {used : ℕ} {st : State} {l : Slots} (p : Part o f ws₀ ws used st l)
-    {went : Went} {n : ℕ} {st′ : State} {l′ : Slots} {ys : List ℕ}
+module _ (f : Step) {o : Out} {ws₀ ws : List ℕ} {used : ℕ} {st : Progress} {l : Slots} (p : Part o f ws₀ ws used st l)
+    {went : Went} {n : ℕ} {st′ : Progress} {l′ : Slots} {ys : List ℕ}
     (d : Did (f (full st l (length (lent used ws)))) st went n st′ l′ (lent used ws) ys) where
-  pub part-last-on : (came : State) → went ≡ On → Did o came On (used + n) st′ l′ ws₀ (merged used ws ys)
+  pub part-last-on : (came : Progress) → went ≡ On → Did o came On (used + n) st′ l′ ws₀ (merged used ws ys)
   unfolding onto outOf
   part-last-on came e = record {
     listed = p .listed ++ at-room f p d .listed;
@@ -174,7 +176,7 @@ module _ (f : Step) {o : Out} {ws₀ ws : List ℕ} {used : ℕ} {st : State} {l
     kept = λ w h. let z : _≡_ {A = ℕ} 0 1 = cc in absurd (omega arith);
   }
 
-  pub part-last-stopped : (v : Stop) (came : State) (l″ : Slots) → went ≡ Stopped v
+  pub part-last-stopped : (v : Stop) (came : Progress) (l″ : Slots) → went ≡ Stopped v
       → Did o came (Stopped v) (used + n) came l″ ws₀ (merged used ws ys)
   unfolding onto outOf
   part-last-stopped v came l″ e = record {
@@ -187,7 +189,7 @@ module _ (f : Step) {o : Out} {ws₀ ws : List ℕ} {used : ℕ} {st : State} {l
   }
 
 -- nothing is left
-pub part-end : {o : Out} {m : Step} {ws₀ ws : List ℕ} {used : ℕ} {st : State} {l : Slots} (p : Part o m ws₀ ws used st l) (came : State)
+pub part-end : {o : Out} {m : Step} {ws₀ ws : List ℕ} {used : ℕ} {st : Progress} {l : Slots} (p : Part o m ws₀ ws used st l) (came : Progress)
     → ((s : _) → m s ≡ go [] s) → Did o came On used st l ws₀ ws
 unfolding onto outOf
 part-end p came e = record {

@@ -25,7 +25,7 @@ use Rattle.facts.proofs.Cases.{_▷_, below}
 use Rattle.clock.specs.declared.Clock.{Clock}
 use Rattle.clock.specs.declared.Ticked.the-variants.{To, TooLarge}
 use Rattle.clock.specs.Ticked.{tickedOf}
-use Rattle.listing.specs.declared.State.{State}
+use Rattle.listing.specs.declared.Progress.{Progress}
 use Rattle.listing.specs.declared.Went.the-variants.{On, Stopped}
 use Rattle.listing.specs.declared.role.Advanced.{Advanced}
 use Rattle.listing.specs.Did.{Did, full, outOf, RoleDid}
@@ -57,25 +57,25 @@ stepped-on (some n) c next e = let same : record { value = n } ≡ next = cc in 
 -- Three ways of a step
 
 -- it goes on and lists nothing
-pub went-on : (o : Out) (came st : State) (l : Slots) (ws : List ℕ) → o ≡ go [] (full st l (length ws)) → Did o came On 0 st l ws ws
+pub went-on : (o : Out) (came st : Progress) (l : Slots) (ws : List ℕ) → o ≡ go [] (full st l (length ws)) → Did o came On 0 st l ws ws
 unfolding outOf words
 went-on o came st l ws e =
     let all : length ws - 0 ≡ length ws = omega arith in
     record { listed = []; out = rw (all) e; counted = refl; list = refl; room = omega arith; kept = λ v h. let z : _≡_ {A = ℕ} 0 1 = cc in absurd (omega arith) }
 
 -- it stops and lists nothing
-pub went-no-further : (o : Out) (came : State) (l : Slots) (v : Stop) (ws : List ℕ) → o ≡ stop [] v → Did o came (Stopped v) 0 came l ws ws
+pub went-no-further : (o : Out) (came : Progress) (l : Slots) (v : Stop) (ws : List ℕ) → o ≡ stop [] v → Did o came (Stopped v) 0 came l ws ws
 unfolding outOf words
 went-no-further o came l v ws e = record { listed = []; out = e; counted = refl; list = refl; room = omega arith; kept = λ w h. refl }
 
 -- it lists one entry and goes on
-pub went-listing : (o : Out) (came st : State) (l : Slots) (x : Entry) (ws ws′ : List ℕ) →
+pub went-listing : (o : Out) (came st : Progress) (l : Slots) (x : Entry) (ws ws′ : List ℕ) →
     o ≡ go (x ∷ []) (full st l (length ws - 4)) → ws′ ≡ words (x ∷ []) ++ drop 4 ws → 4 ≤ length ws → Did o came On 4 st l ws ws′
 unfolding outOf
 went-listing o came st l x ws ws′ e w h =
     record { listed = x ∷ []; out = e; counted = refl; list = w; room = h; kept = λ v h. let z : _≡_ {A = ℕ} 0 1 = cc in absurd (omega arith) }
 
-module _ (w v : ℕ) (st : State) (ws : List ℕ) where
+module _ (w v : ℕ) (st : Progress) (ws : List ℕ) where
   pub magic-did : RoleDid (role magic w v) st (magicDone v st) ws ws
   unfolding role magicDone refuse
   magic-did = by (eqb v magicNumber) refl

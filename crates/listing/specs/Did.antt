@@ -8,14 +8,14 @@ use Rattle.rules.specs.declared.Entry.{Entry}
 use Rattle.rules.specs.declared.Stop.{Stop}
 use Rattle.rules.specs.Slots.{Slots}
 use Rattle.rules.specs.Entry.{words}
-use Rattle.rules.specs.Step.{State as Whole, Out, stop, go, Step}
-use Rattle.listing.specs.declared.State.{State}
+use Rattle.rules.specs.Step.{State, Out, stop, go, Step}
+use Rattle.listing.specs.declared.Progress.{Progress}
 use Rattle.listing.specs.declared.role.Roled.{Roled}
 use Rattle.listing.specs.declared.Went.{Went}
 use Rattle.listing.specs.declared.Went.the-variants.{On, Stopped}
 
 -- the rules' state that a state, the slots and the words left in the list stand for
-abbrev pub full : State → Slots → ℕ → Whole
+abbrev pub full : Progress → Slots → ℕ → State
 full st l room = record {
   place = st .place;
   room = room;
@@ -27,16 +27,16 @@ full st l room = record {
 }
 
 -- the same state at a place
-abbrev pub atPlace : BitPlace → State → State
+abbrev pub atPlace : BitPlace → Progress → Progress
 atPlace p st = record { place = p; order = st .order; clock = st .clock; last = st .last; said = st .said }
 
-unfoldable pub outOf : List Entry → Went → State → Slots → ℕ → Out
+unfoldable pub outOf : List Entry → Went → Progress → Slots → ℕ → Out
 outOf es On st l room = go es (full st l room)
 outOf es (Stopped v) st l room = stop es v
 
 -- o is the rules' outcome, `came` the state before, ws the list before and ws′ behind. Nothing is left open: entries, words, state and
 -- list are those of o, and a step that stopped hands back the state as it came
-pub record Did (o : Out) (came : State) (went : Went) (used : ℕ) (st : State) (l : Slots) (ws ws′ : List ℕ) : Type 0 where
+pub record Did (o : Out) (came : Progress) (went : Went) (used : ℕ) (st : Progress) (l : Slots) (ws ws′ : List ℕ) : Type 0 where
   pub listed : List Entry
   pub out : o ≡ outOf listed went st l (length ws - used)
   pub counted : used ≡ 4 * length listed
@@ -45,5 +45,5 @@ pub record Did (o : Out) (came : State) (went : Went) (used : ℕ) (st : State) 
   pub kept : (v : Stop) → went ≡ Stopped v → st ≡ came
 
 -- what a role did: it sets no slot
-pub record RoleDid (m : Step) (st : State) (r : Roled) (ws ws′ : List ℕ) : Type 0 where
+pub record RoleDid (m : Step) (st : Progress) (r : Roled) (ws ws′ : List ℕ) : Type 0 where
   pub at : (l : Slots) → Did (m (full st l (length ws))) st (r .went) (r .used) (r .state) l ws ws′

@@ -15,24 +15,24 @@ use Rattle.rules.specs.Clock.{clockAfter}
 use Rattle.rules.specs.Entry.{entry, words, clockAdvanced}
 use Rattle.rules.specs.Limits.{magicNumber}
 use Rattle.clock.specs.declared.Clock.{Clock}
-use Rattle.listing.specs.declared.State.{State}
+use Rattle.listing.specs.declared.Progress.{Progress}
 use Rattle.listing.specs.declared.Went.the-variants.{On, Stopped}
 use Rattle.listing.specs.declared.role.Roled.{Roled}
 use Rattle.listing.specs.declared.role.Advanced.{Advanced}
 
-abbrev pub onDone : State → Roled
+abbrev pub onDone : Progress → Roled
 onDone st = record { went = On; used = 0; state = st }
 
-abbrev pub stoppedDone : Refusal → State → Roled
+abbrev pub stoppedDone : Refusal → Progress → Roled
 stoppedDone r st = record { went = Stopped (record { why = r; place = st .place }); used = 0; state = st }
 
-abbrev pub saidDone : State → Said → Roled
+abbrev pub saidDone : Progress → Said → Roled
 saidDone st d = onDone (record { place = st .place; order = st .order; clock = st .clock; last = st .last; said = d })
 
-unfoldable pub magicDone : ℕ → State → Roled
+unfoldable pub magicDone : ℕ → Progress → Roled
 magicDone v st = elim (eqb v magicNumber) [ true ↦ onDone st | false ↦ stoppedDone WrongMagic st ]
 
-abbrev pub tickedState : State → Clock → State
+abbrev pub tickedState : Progress → Clock → Progress
 tickedState st c = record { place = st .place; order = st .order; clock = c; last = st .last; said = st .said }
 
 -- the clock by numbers: no room (40), then a clock above 64 bits (36), which both leave it as it was; else the new one
@@ -51,7 +51,7 @@ unfoldable pub listAdvanced : BitPlace → ℕ → Advanced → List ℕ → Lis
 listAdvanced p w a ws = elim (a .on) [ true ↦ words (entry clockAdvanced p w (a .clock .value) ∷ []) ++ drop 4 ws | false ↦ ws ]
 
 -- the same with a state
-unfoldable pub advancedRole : State → Advanced → Roled
+unfoldable pub advancedRole : Progress → Advanced → Roled
 advancedRole st a =
     elim (a .on) [ true ↦ record { went = On; used = 4; state = tickedState st (a .clock) } | false ↦ stoppedDone (a .why) st ]
 

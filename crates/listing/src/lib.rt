@@ -12,7 +12,7 @@ pub mod entry;
 pub mod role;
 
 // What a reading of fields hands on from step to step, beside the slots and the list.
-pub struct State {
+pub struct Progress {
     pub place: BitPlace,
     pub order: LastOrder,
     pub clock: Clock,
@@ -27,13 +27,13 @@ pub enum Went {
 }
 
 // The same state at a place.
-pub fn at_place(place: BitPlace, st: State) -> State
+pub fn at_place(place: BitPlace, st: Progress) -> Progress
     ensures { λ r. ⌜ r ≡ atPlace place st ⌝ }
 {
     let order = st.order;
     let clock = st.clock;
     let said = st.said;
-    State {
+    Progress {
         place,
         order,
         clock,

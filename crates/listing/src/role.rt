@@ -1,9 +1,12 @@
 // What a role does with the number of its field, once that is listed. The place is behind the field.
-use crate::State;
+use crate::Progress;
 use crate::Went;
 use crate::entry;
 use clock::Clock;
 use clock::Ticked;
+use numbers::entries;
+use numbers::limits;
+use numbers::roles;
 use rules::BitPlace;
 use rules::Entry;
 use rules::Refusal;
@@ -20,30 +23,11 @@ ghost use Rattle.listing.specs.Did.{RoleDid};
 ghost use Rattle.listing.specs.Roled.{onDone, saidDone, stoppedDone, magicDone, tickedState, heldAt, advancedBy, listAdvanced};
 ghost use Rattle.listing.specs.Roled.{Stamp, withStream, withTotal, withContent, withEnding, withEvent};
 
-const MAGIC: u8 = 1;
-
-const STREAM_CLASS_ID: u8 = 2;
-
-const TOTAL_LENGTH: u8 = 5;
-
-const CONTENT_LENGTH: u8 = 6;
-
-const CLOCK: u8 = 7;
-
-const END_CLOCK: u8 = 8;
-
-const EVENT_CLASS_ID: u8 = 11;
-
-// "validate that V is 0xc1fc1fc1" (000 6.1)
-const MAGIC_NUMBER: u64 = 0xC1FC_1FC1;
-
-const CLOCK_ADVANCED: u64 = 6;
-
 // What a role did: how it went, the words that it listed, and the state behind it.
 pub struct Roled {
     pub went: Went,
     pub used: usize,
-    pub state: State,
+    pub state: Progress,
 }
 
 // A clock that a stamp advances: whether it does, if not why not, and the clock behind it.
@@ -54,27 +38,27 @@ pub struct Advanced {
 }
 
 // The role of a number, which has `width` bits as a timestamp.
-pub fn apply(role: u8, width: u64, value: u64, st: State, list: &mut [u64]) -> Roled
+pub fn apply(role: u8, width: u64, value: u64, st: Progress, list: &mut [u64]) -> Roled
     requires { ⌜ Stamp role width value ⌝ }
     ensures { λ r. ⌜ RoleDid (roleStep (roleOf role) width value) st r (now (list .entry)) (now (list .exit)) ⌝ }
 {
     match role {
-        MAGIC => check_magic(value, st),
-        STREAM_CLASS_ID => say(st, with_stream(st.said, value)),
-        TOTAL_LENGTH => say(st, with_total(st.said, value)),
-        CONTENT_LENGTH => say(st, with_content(st.said, value)),
-        CLOCK => tick(width, value, st, list),
-        END_CLOCK => say(st, with_ending(st.said, value)),
-        EVENT_CLASS_ID => say(st, with_event(st.said, value)),
+        roles::MAGIC => check_magic(value, st),
+        roles::STREAM_CLASS_ID => say(st, with_stream(st.said, value)),
+        roles::TOTAL_LENGTH => say(st, with_total(st.said, value)),
+        roles::CONTENT_LENGTH => say(st, with_content(st.said, value)),
+        roles::CLOCK => tick(width, value, st, list),
+        roles::END_CLOCK => say(st, with_ending(st.said, value)),
+        roles::EVENT_CLASS_ID => say(st, with_event(st.said, value)),
         _ => on(st),
     }
 }
 
 // "validate that V is 0xc1fc1fc1" (000 6.1)
-fn check_magic(value: u64, st: State) -> Roled
+fn check_magic(value: u64, st: Progress) -> Roled
     ensures { λ r. ⌜ r ≡ magicDone value st ⌝ }
 {
-    if value == MAGIC_NUMBER {
+    if value == limits::MAGIC_NUMBER {
         return on(st);
     }
     stopped(Refusal::WrongMagic, st)
@@ -96,7 +80,7 @@ pub fn advance(place: BitPlace, width: u64, value: u64, clock: Clock, list: &mut
             entry::write(
                 list,
                 Entry {
-                    kind: CLOCK_ADVANCED,
+                    kind: entries::CLOCK_ADVANCED,
                     place,
                     bits: width,
                     value: next.value,
@@ -123,7 +107,7 @@ fn held(why: Refusal, clock: Clock) -> Advanced
 }
 
 // The clock's role, with a state.
-fn tick(width: u64, value: u64, st: State, list: &mut [u64]) -> Roled
+fn tick(width: u64, value: u64, st: Progress, list: &mut [u64]) -> Roled
     requires { ⌜ value < 2 ^ width ⌝ }
     ensures { λ r. ⌜ RoleDid (roleStep clock width value) st r (now (list .entry)) (now (list .exit)) ⌝ }
 {
@@ -140,13 +124,13 @@ fn tick(width: u64, value: u64, st: State, list: &mut [u64]) -> Roled
     }
 }
 
-fn with_clock(st: State, clock: Clock) -> State
+fn with_clock(st: Progress, clock: Clock) -> Progress
     ensures { λ r. ⌜ r ≡ tickedState st clock ⌝ }
 {
     let place = st.place;
     let order = st.order;
     let said = st.said;
-    State {
+    Progress {
         place,
         order,
         clock,
@@ -155,13 +139,13 @@ fn with_clock(st: State, clock: Clock) -> State
     }
 }
 
-fn say(st: State, said: Said) -> Roled
+fn say(st: Progress, said: Said) -> Roled
     ensures { λ r. ⌜ r ≡ saidDone st said ⌝ }
 {
     let place = st.place;
     let order = st.order;
     let clock = st.clock;
-    on(State {
+    on(Progress {
         place,
         order,
         clock,
@@ -242,7 +226,7 @@ fn with_event(said: Said, value: u64) -> Said
     }
 }
 
-fn on(st: State) -> Roled
+fn on(st: Progress) -> Roled
     ensures { λ r. ⌜ r ≡ onDone st ⌝ }
 {
     Roled {
@@ -252,7 +236,7 @@ fn on(st: State) -> Roled
     }
 }
 
-fn stopped(why: Refusal, st: State) -> Roled
+fn stopped(why: Refusal, st: Progress) -> Roled
     ensures { λ r. ⌜ r ≡ stoppedDone why st ⌝ }
 {
     let place = st.place;

@@ -8,28 +8,28 @@ use lib.ListN.{length}
 use Rattle.rules.specs.declared.Entry.{Entry}
 use Rattle.rules.specs.Slots.{Slots, packetSlots}
 use Rattle.rules.specs.Class.{Class}
-use Rattle.rules.specs.Step.{State as Full, go, Step, pass}
+use Rattle.rules.specs.Step.{State, go, Step, pass}
 use Rattle.rules.specs.Field.{Env}
 use Rattle.rules.specs.Packet.{readRoot}
 use Rattle.laws.specs.Kept.{LeavesUnset}
 use Rattle.laws.proofs.Between.{read-between}
-use Rattle.leaf_find_number.specs.declared.Frame.{Frame}
-use Rattle.listing.specs.declared.State.{State}
+use Rattle.frame.specs.declared.Frame.{Frame}
+use Rattle.listing.specs.declared.Progress.{Progress}
 use Rattle.listing.specs.declared.Went.{Went}
 use Rattle.listing.specs.declared.Went.the-variants.{On}
-use Rattle.leaf_find_number.specs.Framed.{Framed, envOf}
+use Rattle.frame.specs.Framed.{Framed, envOf}
 use Rattle.listing.specs.Did.{Did, full, outOf}
 use Rattle.listing.proofs.Parts.{Part}
 
 -- the place of a root that went on
-pub root-between : (e : Env) (c : Option Class) (s : Full) (es : List Entry) (s′ : Full)
+pub root-between : (e : Env) (c : Option Class) (s : State) (es : List Entry) (s′ : State)
     → e .start .0 ≤ s .place .0 → s .place .0 ≤ e .bound .0 → readRoot e c s ≡ go es s′ → (s .place .0 ≤ s′ .place .0) × (s′ .place .0 ≤ e .bound .0)
 unfolding readRoot pass
 root-between e none s es s′ h k q = let p : s ≡ s′ = cc in rw (← p) (omega arith, k)
 root-between e (some c) s es s′ h k q = read-between e c s es s′ h k q
 
 -- what stands behind a root that went on: the frame, and a packet's slots
-module _ (b u : List ℕ) (f : Frame) (c : Option Class) (l : Slots) {st st′ : State} {l′ : Slots} {n : ℕ} {ws ys : List ℕ} {went : Went}
+module _ (b u : List ℕ) (f : Frame) (c : Option Class) (l : Slots) {st st′ : Progress} {l′ : Slots} {n : ℕ} {ws ys : List ℕ} {went : Went}
     (on : went ≡ On) (did : Did (readRoot (envOf b u f) c (full st l (length ws))) st went n st′ l′ ws ys) where
   went-on : readRoot (envOf b u f) c (full st l (length ws)) ≡ go (did .listed) (full st′ l′ (length ws - n))
   unfolding outOf
@@ -44,7 +44,7 @@ module _ (b u : List ℕ) (f : Frame) (c : Option Class) (l : Slots) {st st′ :
   root-unset keeps h = keeps (envOf b u f) (full st l (length ws)) (did .listed) (full st′ l′ (length ws - n)) went-on h
 
 -- m is what is left of M from `came` and l₀ on
-pub record Parted (b : List ℕ) (f : Frame) (M m : Step) (came : State) (l₀ : Slots) (ws₀ ws : List ℕ) (used : ℕ) (st : State)
+pub record Parted (b : List ℕ) (f : Frame) (M m : Step) (came : Progress) (l₀ : Slots) (ws₀ ws : List ℕ) (used : ℕ) (st : Progress)
     (l : Slots) : Type 0 where
   pub framed : Framed b f (st .place)
   pub kept : packetSlots l ≡ packetSlots l₀

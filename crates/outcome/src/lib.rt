@@ -1,5 +1,5 @@
 // Parts of a reading that hand no slots on: what each did.
-use listing::State;
+use listing::Progress;
 use listing::Went;
 use rules::BitPlace;
 use rules::Refusal;
@@ -13,11 +13,11 @@ ghost use Rattle.outcome.specs.Ran.{stoppedRan, lastRan};
 pub struct Ran {
     pub went: Went,
     pub used: usize,
-    pub state: State,
+    pub state: Progress,
 }
 
 // What stopped hands back the state as it came.
-pub fn stopped(stop: Stop, used: usize, st: State) -> Ran
+pub fn stopped(stop: Stop, used: usize, st: Progress) -> Ran
     ensures { λ r. ⌜ r ≡ stoppedRan stop used st ⌝ }
 {
     Ran {
@@ -28,14 +28,14 @@ pub fn stopped(stop: Stop, used: usize, st: State) -> Ran
 }
 
 // What stopped at a place.
-pub fn refused(why: Refusal, place: BitPlace, used: usize, st: State) -> Ran
+pub fn refused(why: Refusal, place: BitPlace, used: usize, st: Progress) -> Ran
     ensures { λ r. ⌜ r ≡ stoppedRan (stopAt why place) used st ⌝ }
 {
     stopped(Stop { why, place }, used, st)
 }
 
 // What a whole did that began in a state and listed some words before its last part.
-pub fn with_last(used: usize, last: Ran, st: State) -> Ran
+pub fn with_last(used: usize, last: Ran, st: Progress) -> Ran
     requires { ⌜ used + last .used < 2 ^ 64 ⌝ }
     ensures { λ r. ⌜ r ≡ lastRan used last st ⌝ }
 {

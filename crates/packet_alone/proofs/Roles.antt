@@ -49,8 +49,8 @@ use Rattle.rules.specs.Table.{StreamClass, EventClass, Table, asked, findStream
 use Rattle.rules.specs.Parse.{Parsed, bad, good, Parser, then, sound, missing, one, Ranges, countOf, parseRanges, parseMembers}
 use Rattle.rules.specs.Parse.{parseOptions, selected, parseShape, parseBody, parseClass, isRoot, anyRoot, parseRoots, noTable, rootOf}
 use Rattle.rules.specs.Parse.{rootNumbers, isTimed, hasUuid, add, parseFragment, parseOpened, parseFragments, parse}
-use Rattle.rules.specs.Faults.{pick, Seen, recordFault, Spot, top, inside, memberSpot, Under, roleOf, roles, numberRole, blobRole, badRole}
-use Rattle.rules.specs.Faults.{badSlot, badNumber, classFault, isTop, optionFault, rootFault, openFault, seen, firstFault, noneSeen}
+use Rattle.rules.specs.Faults.{pick, Ids, recordFault, Spot, top, inside, memberSpot, Under, roleOf, roles, numberRole, blobRole, badRole}
+use Rattle.rules.specs.Faults.{badSlot, badNumber, classFault, isTop, optionFault, rootFault, openFault, seen, firstFault, noIds}
 use Rattle.facts.proofs.Truth.{and-left}
 use Rattle.facts.proofs.Faults.{pick-zero, pick-false}
 use Rattle.laws.proofs.Sound.{no-fault}
@@ -149,7 +149,7 @@ unfolding then
 yields-then P Q (bad n x) F h k = tt
 yields-then P Q (good a x) F h k = k a x h
 
-yields-one : {A : Type 0} (Q : A → Type 0) (q : Seen) (more : Record → ℕ) (f : Record → Parser A) (x : List ℕ)
+yields-one : {A : Type 0} (Q : A → Type 0) (q : Ids) (more : Record → ℕ) (f : Record → Parser A) (x : List ℕ)
     → ((r : Record) → more r ≡ 0 → Yields Q (f r (behind x))) → Yields Q (one q more f x)
 unfolding one
 yields-one Q q more f x h = by (pick (missing x) 3 (recordFault (ltb (length x) (size x)) q (recordOf x) (more (recordOf x)))) refl
@@ -174,7 +174,7 @@ module _ (f : Spot → Parser Class) (h : (z : Spot) (x : List ℕ) → Yields O
       yields-then Others _ (f z x) _ (h z x) (λ c y p.
       yields-then OtherMembers _ (parseMembers f inside n y) _ (yields-members n inside y) (λ cs v q. (p, q)))
 
-  yields-options : (q : Seen) (n : ℕ) (p : Ranges) (x : List ℕ) → Yields (λ os. OtherOptions (os .1)) (parseOptions q f n p x)
+  yields-options : (q : Ids) (n : ℕ) (p : Ranges) (x : List ℕ) → Yields (λ os. OtherOptions (os .1)) (parseOptions q f n p x)
   unfolding parseOptions
   yields-options q zero p x = tt
   yields-options q (suc n) p x =
@@ -193,7 +193,7 @@ module _ (f : Spot → Parser Class) (h : (z : Spot) (x : List ℕ) → Yields O
       by none = g
       by (some s) = g
 
-  yields-shape : (q : Seen) (z : Spot) (y : Says) (s : Shape) (x : List ℕ) → Other (roleOf (y .role))
+  yields-shape : (q : Ids) (z : Spot) (y : Says) (s : Shape) (x : List ℕ) → Other (roleOf (y .role))
       → Yields Others (parseShape q f z y s x)
   unfolding parseShape
   yields-shape q z y (bitField k) x r = r
@@ -215,7 +215,7 @@ module _ (f : Spot → Parser Class) (h : (z : Spot) (x : List ℕ) → Yields O
       yields-then (λ os. OtherOptions (os .1)) _ (parseOptions q f (y .count) (none, []) x) _ (yields-options q (y .count) (none, []) x)
       (λ os x p. p)
 
-yields-class : (q : Seen) (u : Under) → 1 ≤ u .root → (left : ℕ) (z : Spot) (x : List ℕ) → Yields Others (parseClass q u left z x)
+yields-class : (q : Ids) (u : Under) → 1 ≤ u .root → (left : ℕ) (z : Spot) (x : List ℕ) → Yields Others (parseClass q u left z x)
 unfolding parseClass
 yields-class q u g zero z x = yields-one _ q _ _ x (λ r c. tt)
 yields-class q u g (suc left) z x = yields-one _ q _ _ x (λ r c. body (λ z x. yields-class q u g left z x) r c)
@@ -241,7 +241,7 @@ yields-header : (n : ℕ) (o : Parsed Class) → (1 ≤ n → Yields Others o) �
 yields-header n (bad m x) h = tt
 yields-header n (good c x) h = h
 
-yields-roots : (q : Seen) (timed u? : Bool) (ns : List ℕ) (x : List ℕ) → Yields (OtherRoots ns) (parseRoots q timed u? ns x)
+yields-roots : (q : Ids) (timed u? : Bool) (ns : List ℕ) (x : List ℕ) → Yields (OtherRoots ns) (parseRoots q timed u? ns x)
 unfolding parseRoots
 yields-roots q timed u? [] x = by (not (missing x) && anyRoot (recordOf x))
   where
@@ -301,12 +301,12 @@ add-others (eventClass i j) cs t h k =
     let ns : List ℕ = 4 ∷ 5 ∷ [] in
     (k .0, ((root-others ns cs 0 h (omega arith), root-others ns cs 1 h (omega arith)), k .1))
 
-yields-fragments : (left : ℕ) (q : Seen) (x : List ℕ) → Yields OtherTable (parseFragments left q x)
+yields-fragments : (left : ℕ) (q : Ids) (x : List ℕ) → Yields OtherTable (parseFragments left q x)
 unfolding parseFragments
 yields-fragments zero q x = unfold noTable in (tt, tt)
 yields-fragments (suc left) q x = by (missing x) (λ q x. yields-fragments left q x)
   where
-    opened : ((q : Seen) (x : List ℕ) → Yields OtherTable (parseFragments left q x)) → (r : Record)
+    opened : ((q : Ids) (x : List ℕ) → Yields OtherTable (parseFragments left q x)) → (r : Record)
         → Yields OtherTable (parseOpened q (parseFragments left) r (behind x))
     opened rec unknown = unfold parseOpened in tt
     opened rec (fragment h) =
@@ -319,7 +319,7 @@ yields-fragments (suc left) q x = by (missing x) (λ q x. yields-fragments left 
     opened rec (range s l h) = unfold parseOpened in tt
     opened rec (option n) = unfold parseOpened in tt
 
-    by : (b : Bool) → ((q : Seen) (x : List ℕ) → Yields OtherTable (parseFragments left q x))
+    by : (b : Bool) → ((q : Ids) (x : List ℕ) → Yields OtherTable (parseFragments left q x))
         → Yields OtherTable (elim b
         [ true ↦ good noTable x | false ↦ one q (openFault q) (λ r x. parseOpened q (parseFragments left) r x) x ])
     by true rec = unfold noTable in (tt, tt)
@@ -330,12 +330,12 @@ unfolding parse
 yields-parse x = by (missing x || ltb 65536 (length x))
   where
     rest : Parser Table
-    rest x = then (parseRoots noneSeen false false [] x) λ cs x. parseFragments (length x) noneSeen x
+    rest x = then (parseRoots noIds false false [] x) λ cs x. parseFragments (length x) noIds x
 
     first : (v : ℕ) → Yields OtherTable (sound v x rest)
     first zero = unfold sound in
-        yields-then (OtherRoots []) _ (parseRoots noneSeen false false [] (behind x)) _ (yields-roots noneSeen false false [] (behind x))
-        (λ cs y p. yields-fragments (length y) noneSeen y)
+        yields-then (OtherRoots []) _ (parseRoots noIds false false [] (behind x)) _ (yields-roots noIds false false [] (behind x))
+        (λ cs y p. yields-fragments (length y) noIds y)
     first (suc v) = unfold sound in tt
 
     by : (b : Bool) → Yields OtherTable

@@ -9,7 +9,7 @@ use Rattle.rules.specs.declared.Refusal.the-variants.{ListFull, LengthsContradi
 use Rattle.rules.specs.Verdict.{stopAt}
 use Rattle.rules.specs.Place.{further}
 use Rattle.rules.specs.Entry.{entry, lengthsSettled}
-use Rattle.rules.specs.Step.{State as Whole, stop, Step, onto}
+use Rattle.rules.specs.Step.{State, stop, Step, onto}
 use Rattle.rules.specs.Table.{StreamClass, Asked}
 use Rattle.rules.specs.Packet.{readEvents, readContent, above}
 use Rattle.contradictions.specs.Lengths.{contradicts}
@@ -31,11 +31,18 @@ lengths b p q total content h =
     let x = or-false _ _ h in
     let y = or-false _ _ (x .0) in
     let z = or-false _ _ (y .0) in
-    record { whole = eqb-true _ 0 (not-false _ (z .0)); order = ltb-false _ _ (z .1); inStream = ltb-false _ _ (y .1); reach = ltb-false _ _ (x .1) }
+    record {
+      whole = eqb-true _ 0 (not-false _ (z .0));
+      order = ltb-false _ _ (z .1);
+      inStream = ltb-false _ _ (y .1);
+      reach = ltb-false _ _ (x .1);
+    }
 
-module _ (t : Asked) (c : StreamClass) (b : List ℕ) (p : BitPlace) (total content : ℕ) (s : Whole) where
+module _ (t : Asked) (c : StreamClass) (b : List ℕ) (p : BitPlace) (total content : ℕ) (s : State) where
   abbrev pub eventsOf : Step
-  eventsOf = readEvents t c (record { bytes = b; start = p; bound = further p content; uuid = t .uuid }) (further p total) 0 (p .0 + content - s .place .0)
+  eventsOf =
+      readEvents t c (record { bytes = b; start = p; bound = further p content; uuid = t .uuid }) (further p total) 0
+      (p .0 + content - s .place .0)
 
   pub content-full : s .room < 4 → readContent t c b p total content s ≡ stop [] (stopAt ListFull (s .place))
   unfolding readContent
@@ -57,4 +64,5 @@ module _ (t : Asked) (c : StreamClass) (b : List ℕ) (p : BitPlace) (total cont
           → readContent t c b p total content s ≡ onto (entry lengthsSettled (s .place) total content ∷ []) (eventsOf (less s))
       unfolding readContent
       content-marked h =
-          room-first _ s room ∙ check-on _ LengthsContradict _ s fine ∙ check-on _ ClocksContradict _ s h ∙ mark-on lengthsSettled total content _ s
+          room-first _ s room ∙ check-on _ LengthsContradict _ s fine ∙ check-on _ ClocksContradict _ s h
+          ∙ mark-on lengthsSettled total content _ s

@@ -14,13 +14,13 @@ use Rattle.rules.specs.Slots.{Slots, packetSlots}
 use Rattle.rules.specs.Entry.{entry, words, lengthsSettled}
 use Rattle.rules.specs.Step.{Out}
 use Rattle.rules.specs.Packet.{readRoot, readEvents, readContent, above, orElse}
-use Rattle.listing.specs.declared.State.{State}
-use Rattle.leaf_find_number.specs.declared.Frame.{Frame}
+use Rattle.listing.specs.declared.Progress.{Progress}
+use Rattle.frame.specs.declared.Frame.{Frame}
 use Rattle.listing.specs.declared.Went.the-variants.{On, Stopped}
 use Rattle.listing.specs.Did.{Did, full}
-use Rattle.leaf_find_number.specs.Framed.{Framed, envOf}
+use Rattle.frame.specs.Framed.{Framed, envOf}
 use Rattle.listing.proofs.Parts.{Part}
-use Rattle.class_layout.specs.declared.Found.{Found}
+use Rattle.class_layout.specs.declared.TablePlace.{TablePlace}
 use Rattle.class_layout.specs.Fragments.{askedAt, streamClassAt}
 use Rattle.laws.specs.Kept.{LeavesUnset}
 use Rattle.field_read.specs.declared.Field.{Field}
@@ -35,12 +35,20 @@ use Rattle.packet_content.proofs.Lengths.{Lengths, lengths, content-ful
 
 -- Content
 
-module _ (t b : List ℕ) (class : ℕ) (p : BitPlace) (total content : ℕ) (st : State) (l : Slots) (ws : List ℕ) where
+module _ (t b : List ℕ) (class : ℕ) (p : BitPlace) (total content : ℕ) (st : Progress) (l : Slots) (ws : List ℕ) where
   abbrev Contents : Out
   Contents = readContent (askedAt t) (streamClassAt t class) b p total content (full st l (length ws))
 
+  -- behind entry 3, with ws₁ on the list: the events, by the UUID and the stream class as the code has them
+  abbrev pub EventsLeft : (u : List ℕ) (k : ℕ) (ws₁ : List ℕ) (bound to : BitPlace) → Type 0
+  EventsLeft u k ws₁ bound to =
+      Part Contents
+      (readEvents (askedAt t) (streamClassAt t k) (envOf b u (record { start = p; bound = bound })) to 0 (bound .0 - st .place .0))
+      ws ws₁ 4 st l
+
   pub content-ran-full : length ws < 4 → RanDid Contents st (stoppedRan (stopAt ListFull (st .place)) 0 st) ws ws
-  content-ran-full h = refused-ran Contents st l ws _ (content-full (askedAt t) (streamClassAt t class) b p total content (full st l (length ws)) h)
+  content-ran-full h =
+      refused-ran Contents st l ws _ (content-full (askedAt t) (streamClassAt t class) b p total content (full st l (length ws)) h)
 
   -- the stream's end as the code has it, and how its tests went
   module _ (room : 4 ≤ length ws) (f : Frame) (e : f ≡ wholeFrame b p) (x : Bool)
@@ -50,7 +58,8 @@ module _ (t b : List ℕ) (class : ℕ) (p : BitPlace) (total content : ℕ) (st
 
     pub content-ran-lengths : x ≡ true → RanDid Contents st (stoppedRan (stopAt LengthsContradict (st .place)) 0 st) ws ws
     content-ran-lengths h =
-        refused-ran Contents st l ws _ (content-lengths (askedAt t) (streamClassAt t class) b p total content (full st l (length ws)) room (told true h))
+        refused-ran Contents st l ws _
+        (content-lengths (askedAt t) (streamClassAt t class) b p total content (full st l (length ws)) room (told true h))
 
     module _ (ok : x ≡ false) where
       pub content-lengths-fine : Lengths b (p .0) total content (st .place .0)
@@ -60,7 +69,8 @@ module _ (t b : List ℕ) (class : ℕ) (p : BitPlace) (total content : ℕ) (st
           → Framed b (record { start = p; bound = further p content }) (st .place) × (p .0 + content ≤ p .0 + total)
       events-framed w =
           let n = content-lengths-fine in
-          (record { whole = w .whole; begun = w .begun; within = n .reach; ends = omega (arith, n .order, n .inStream); small = w .small }, omega (arith, n .order))
+          let ends : p .0 + content ≤ 8 * length b = omega (arith, n .order, n .inStream) in
+          (record { whole = w .whole; begun = w .begun; within = n .reach; ends = ends; small = w .small }, omega (arith, n .order))
 
       module _ (y : Bool) (j : y ≡ above (st .clock .value) (st .said .ending)) where
         pub content-ran-clocks : y ≡ true → RanDid Contents st (stoppedRan (stopAt ClocksContradict (st .place)) 0 st) ws ws
@@ -70,30 +80,39 @@ module _ (t b : List ℕ) (class : ℕ) (p : BitPlace) (total content : ℕ) (st
 
         pub content-part : y ≡ false → {ws₁ : List ℕ} → ws₁ ≡ words (entry lengthsSettled (st .place) total content ∷ []) ++ drop 4 ws
             → (u : List ℕ) → u ≡ (askedAt t) .uuid → (k : ℕ) → k ≡ class
-            → Part Contents
-            (readEvents (askedAt t) (streamClassAt t k) (envOf b u (record { start = p; bound = further p content })) (further p total) 0
-            (p .0 + content - st .place .0)) ws ws₁ 4 st l
-        content-part h w u v k q = rw (v, q)
+            → (bound to : BitPlace) → bound ≡ further p content → to ≡ further p total → EventsLeft u k ws₁ bound to
+        content-part h w u v k q bound to x y = rw (v, q, x, y)
             (marked-part Contents (entry lengthsSettled (st .place) total content) _ room w
             (content-marked (askedAt t) (streamClassAt t class) b p total content (full st l (length ws)) room (told false ok) (sym j ∙ h)))
 
 -- Behind the lookup: the context was lent the whole list
 
--- the lengths as they were stated
-abbrev pub totalOf : List ℕ → BitPlace → State → ℕ
-totalOf b p st = orElse (st .said .total) (st .said .content) (8 * length b - p .0)
+-- the lengths as they were stated, or what is left of the frame
+abbrev pub totalOf : Frame → BitPlace → Progress → ℕ
+totalOf f p st = orElse (st .said .total) (st .said .content) (f .bound .0 - p .0)
 
-abbrev pub contentOf : List ℕ → BitPlace → State → ℕ
-contentOf b p st = orElse (st .said .content) (st .said .total) (8 * length b - p .0)
+abbrev pub contentOf : Frame → BitPlace → Progress → ℕ
+contentOf f p st = orElse (st .said .content) (st .said .total) (f .bound .0 - p .0)
+
+pub start-in-frame : (b : List ℕ) (p q : BitPlace) (f : Frame) → f ≡ wholeFrame b p → Framed b (wholeFrame b p) q → p .0 ≤ f .bound .0
+start-in-frame b p q f e h = rw (e) (omega (arith, h .begun, h .within))
+
+-- behind a context that was read as r says, with ys on the list: content of these lengths
+abbrev pub ContentLeft : (t b : List ℕ) (p : BitPlace) (class : ℕ) (st : Progress) (l : Slots) (ws : List ℕ) (r : Field) (ys : List ℕ)
+    (total content : ℕ) → Type 0
+ContentLeft t b p class st l ws r ys total content =
+    Part (behindFound (askedAt t) b p (streamClassAt t class) (full st l (length ws)))
+    (readContent (askedAt t) (streamClassAt t class) b p total content) ws ys (r .used) (r .state) (r .slots)
 
 -- the context's root as the code has it
-module _ (t b : List ℕ) (p : BitPlace) (class : ℕ) (st : State) (l : Slots) (ws : List ℕ) (u : List ℕ) (v : u ≡ (askedAt t) .uuid)
-    (f : Frame) (e : f ≡ wholeFrame b p)
-    (x : Found) (k : classOf t x ≡ (streamClassAt t class) .context) {r : Field} {ys : List ℕ} (d : FieldReads (readRoot (envOf b u f) (classOf t x)) st l r ws ys) where
+module _ (t b : List ℕ) (p : BitPlace) (class : ℕ) (st : Progress) (l : Slots) (ws : List ℕ) (u : List ℕ) (v : u ≡ (askedAt t) .uuid)
+    (f : Frame) (e : f ≡ wholeFrame b p) (x : TablePlace) (k : classOf t x ≡ (streamClassAt t class) .context) {r : Field} {ys : List ℕ}
+    (d : FieldReads (readRoot (envOf b u f) (classOf t x)) st l r ws ys) where
   abbrev Founded : Out
   Founded = behindFound (askedAt t) b p (streamClassAt t class) (full st l (length ws))
 
-  context : Did (readRoot (packetEnv (askedAt t) b p) ((streamClassAt t class) .context) (full st l (length ws))) st (r .went) (r .used) (r .state) (r .slots) ws ys
+  context : Did (readRoot (packetEnv (askedAt t) b p) ((streamClassAt t class) .context) (full st l (length ws))) st (r .went) (r .used)
+      (r .state) (r .slots) ws ys
   context = rw (v, e, k) at (d .did)
 
   pub context-framed : Framed b (wholeFrame b p) (st .place) → r .went ≡ On → Framed b (wholeFrame b p) (r .state .place)
@@ -106,7 +125,7 @@ module _ (t b : List ℕ) (p : BitPlace) (class : ℕ) (st : State) (l : Slots) 
   unfolding behindFound
   context-stopped w off = first-stopped _ _ refl context w off
 
-  pub context-part : r .went ≡ On → (total content : ℕ) → total ≡ totalOf b p (r .state) → content ≡ contentOf b p (r .state)
-      → Part Founded (readContent (askedAt t) (streamClassAt t class) b p total content) ws ys (r .used) (r .state) (r .slots)
+  pub context-part : r .went ≡ On → (total content : ℕ) → total ≡ totalOf f p (r .state) → content ≡ contentOf f p (r .state)
+      → ContentLeft t b p class st l ws r ys total content
   unfolding behindFound
-  context-part on total content h j = part-same _ _ (rw (h, j) refl) (part-first _ _ refl context on)
+  context-part on total content h j = part-same _ _ (rw (h, j, e) refl) (part-first _ _ refl context on)

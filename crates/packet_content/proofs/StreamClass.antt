@@ -10,8 +10,8 @@ use borrow.Author.Tests.{eqb-true}
 use Rattle.rules.specs.Limits.{noClock}
 use Rattle.rules.specs.Record.{u8, u64}
 use Rattle.facts.proofs.Truth.{and-left, and-right}
-use Rattle.class_layout.specs.declared.Found.{Found}
-use Rattle.class_layout.specs.declared.Found.the-variants.{At}
+use Rattle.class_layout.specs.declared.TablePlace.{TablePlace}
+use Rattle.class_layout.specs.declared.TablePlace.the-variants.{At}
 use Rattle.class_layout.specs.Fragments.{askedAt, streamClassAt, findStreamAt, fragmentsOf, mapOption, rootPlace, openingSize, isStream}
 use Rattle.class_layout.specs.Sizes.{foundOf, Sized, SizedFragment}
 use Rattle.class_layout.proofs.Lookups.{found-some, first-holds}
@@ -19,7 +19,7 @@ use Rattle.event_turns.specs.Roots.{classOf}
 use Rattle.event_turns.specs.Ready.{OfStream}
 use Rattle.event_turns.proofs.Looked.{root-class, root-stands}
 
-pub context-class : (t : List ℕ) (o : ℕ) (x : Found) → x ≡ foundOf (rootPlace t o 0) → classOf t x ≡ (streamClassAt t o) .context
+pub context-class : (t : List ℕ) (o : ℕ) (x : TablePlace) → x ≡ foundOf (rootPlace t o 0) → classOf t x ≡ (streamClassAt t o) .context
 unfolding streamClassAt
 context-class t o x e = root-class t o 0 x e
 
@@ -35,7 +35,9 @@ module _ (t s : List ℕ) (id class : ℕ) (h : Sized t s) (e : foundOf (findStr
   unfolding isStream
   is-stream =
       let x = first-holds (SizedFragment t s) (isStream t id) (fragmentsOf t) class found-at (h .each) .0 in
-      (eqb-true _ _ (and-left (eqb (u8 t class) 4) (eqb (u64 t (class + 1)) id) x), eqb-true _ _ (and-right (eqb (u8 t class) 4) (eqb (u64 t (class + 1)) id) x))
+      let kind = and-left (eqb (u8 t class) 4) (eqb (u64 t (class + 1)) id) x in
+      let same = and-right (eqb (u8 t class) 4) (eqb (u64 t (class + 1)) id) x in
+      (eqb-true _ _ kind, eqb-true _ _ same)
 
   pub stream-found : (askedAt t) .stream id ≡ some (streamClassAt t class)
   unfolding askedAt mapOption
@@ -45,7 +47,7 @@ module _ (t s : List ℕ) (id class : ℕ) (h : Sized t s) (e : foundOf (findStr
   unfolding openingSize
   stream-there = rw (is-stream .0, openingSize) at (stream-sized .stands .there)
 
-  pub of-stream : (x y : Found) (timed : Bool) → timed ≡ not (eqb (u8 t (class + 9)) noClock) → x ≡ foundOf (rootPlace t class 1)
+  pub of-stream : (x y : TablePlace) (timed : Bool) → timed ≡ not (eqb (u8 t (class + 9)) noClock) → x ≡ foundOf (rootPlace t class 1)
       → y ≡ foundOf (rootPlace t class 2)
       → OfStream t (record { class = class; id = id; timed = timed; header = x; common = y })
   unfolding streamClassAt

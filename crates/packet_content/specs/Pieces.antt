@@ -10,7 +10,7 @@ use Rattle.rules.specs.Step.{Step, _⨾_}
 use Rattle.rules.specs.Field.{Env}
 use Rattle.rules.specs.Table.{StreamClass, Asked}
 use Rattle.rules.specs.Packet.{readRoot, orElse, readContent}
-use Rattle.leaf_find_number.specs.declared.Frame.{Frame}
+use Rattle.frame.specs.declared.Frame.{Frame}
 use Rattle.class_layout.specs.Fragments.{askedAt}
 use Rattle.class_layout.specs.Notes.{Notes}
 use Rattle.event_turns.specs.Ready.{Ready}
@@ -30,7 +30,7 @@ behindFound t b p c =
     readContent t c b p (orElse (s .said .total) (s .said .content) rest) (orElse (s .said .content) (s .said .total) rest) s
 
 -- an accepted table, the UUID that it states, and a stream that is not too long
-pub record Within (t : List ℕ) (x : Notes) (u : List ℕ) (b : List ℕ) : Type 0 where
+pub record Readable (t : List ℕ) (x : Notes) (u : List ℕ) (b : List ℕ) : Type 0 where
   pub ready : Ready t x
   pub uuid : u ≡ (askedAt t) .uuid
   pub small : length b ≤ streamLimit

@@ -15,14 +15,14 @@ use Rattle.rules.specs.Verdict.{stopAt}
 use Rattle.rules.specs.Slots.{Slots, packetSlots}
 use Rattle.rules.specs.Entry.{entry, words, packetEnds}
 use Rattle.rules.specs.Field.{Env}
-use Rattle.rules.specs.Step.{State as Full, Out, stop, go, Step, onto, after, _⨾_, refuse, listed}
+use Rattle.rules.specs.Step.{State, Out, stop, go, Step, onto, after, _⨾_, refuse, listed}
 use Rattle.rules.specs.Table.{StreamClass, Asked}
 use Rattle.rules.specs.Packet.{mark, startEvent, readEvent, readEvents, endPacket}
-use Rattle.leaf_find_number.specs.declared.Frame.{Frame}
-use Rattle.listing.specs.declared.State.{State}
+use Rattle.frame.specs.declared.Frame.{Frame}
+use Rattle.listing.specs.declared.Progress.{Progress}
 use Rattle.listing.specs.declared.Went.{Went}
 use Rattle.listing.specs.declared.Went.the-variants.{On, Stopped}
-use Rattle.leaf_find_number.specs.Framed.{Framed, envOf}
+use Rattle.frame.specs.Framed.{Framed, envOf}
 use Rattle.listing.specs.Did.{Did, full, outOf, atPlace}
 use Rattle.listing.proofs.Checks.{room-first, no-room-first}
 use Rattle.listing.proofs.Roles.{went-listing}
@@ -37,7 +37,7 @@ use Rattle.packet_events.proofs.Moving.{event-moves, onward-out, MovedO
 
 module _ (a : Asked) (c : StreamClass) (b u : List ℕ) (f : Frame) (to : BitPlace) (o : Out) (given : Slots) where
   -- n events are read, and as many rounds are left as there are bits, or more
-  pub record Rounding (ws₀ ws : List ℕ) (used : ℕ) (st : State) (n : ℕ) : Type 0 where
+  pub record Rounding (ws₀ ws : List ℕ) (used : ℕ) (st : Progress) (n : ℕ) : Type 0 where
     pub framed : Framed b f (st .place)
     pub slots : Slots
     pub kept : packetSlots slots ≡ packetSlots given
@@ -46,13 +46,13 @@ module _ (a : Asked) (c : StreamClass) (b u : List ℕ) (f : Frame) (to : BitPla
     pub few : n ≤ st .place .0
     pub part : Part o (readEvents a c (envOf b u f) to n left) ws₀ ws used st slots
 
-went-on : (o : Out) (es : List Entry) (went : Went) (st : State) (l : Slots) (room : ℕ) → o ≡ outOf es went st l room → went ≡ On
+went-on : (o : Out) (es : List Entry) (went : Went) (st : Progress) (l : Slots) (room : ℕ) → o ≡ outOf es went st l room → went ≡ On
     → o ≡ go es (full st l room)
 unfolding outOf
 went-on o es went st l room e on = e ∙ rw (on) refl
 
 -- a round where the place is below the bound, and one where it is not
-module _ (a : Asked) (c : StreamClass) (e : Env) (to : BitPlace) (n : ℕ) (s : Full) where
+module _ (a : Asked) (c : StreamClass) (e : Env) (to : BitPlace) (n : ℕ) (s : State) where
   round-on : (left : ℕ) → s .place .0 < e .bound .0 → readEvents a c e to n (suc left) s ≡ (readEvent a c e n ⨾ readEvents a c e to (n + 1) left) s
   unfolding readEvents
   round-on left h = by (ltb (s .place .0) (e .bound .0)) (lt-ltb _ _ h)
@@ -73,7 +73,7 @@ module _ (a : Asked) (c : StreamClass) (e : Env) (to : BitPlace) (n : ℕ) (s : 
       by false k = refl
 
 module _ (a : Asked) (c : StreamClass) (b u : List ℕ) (f : Frame) (to : BitPlace) where
-  pub rounds-start : (st : State) (l : Slots) (ws : List ℕ) → Framed b f (st .place)
+  pub rounds-start : (st : Progress) (l : Slots) (ws : List ℕ) → Framed b f (st .place)
       → Rounding a c b u f to (readEvents a c (envOf b u f) to 0 (f .bound .0 - st .place .0) (full st l (length ws))) l ws ws 0 st 0
   rounds-start st l ws h = record {
     framed = h;
@@ -86,7 +86,7 @@ module _ (a : Asked) (c : StreamClass) (b u : List ℕ) (f : Frame) (to : BitPla
   }
 
   -- an event does not depend on what slots 16 to 63 held
-  event-same : (n : ℕ) (st : State) (l l′ : Slots) (room : ℕ) → packetSlots l ≡ packetSlots l′
+  event-same : (n : ℕ) (st : Progress) (l l′ : Slots) (room : ℕ) → packetSlots l ≡ packetSlots l′
       → readEvent a c (envOf b u f) n (full st l room) ≡ readEvent a c (envOf b u f) n (full st l′ room)
   event-same n st l l′ room h = by (ltb room 4) refl
     where
@@ -105,7 +105,7 @@ module _ (a : Asked) (c : StreamClass) (b u : List ℕ) (f : Frame) (to : BitPla
           ∙ ap (λ s. onto (entry 4 (st .place) 0 n ∷ []) (behindStart a c e st (full (startState st) s (room - 4)))) h
           ∙ sym (behind l′ (ltb-false room 4 k))
 
-  module _ (o : Out) (given : Slots) {ws₀ ws : List ℕ} {used : ℕ} {st : State} {n : ℕ} (w : Rounding a c b u f to o given ws₀ ws used st n) where
+  module _ (o : Out) (given : Slots) {ws₀ ws : List ℕ} {used : ℕ} {st : Progress} {n : ℕ} (w : Rounding a c b u f to o given ws₀ ws used st n) where
     -- one more event
     module _ (below : st .place .0 < f .bound .0) {r : Ran} {ys : List ℕ}
         (did : EventDid (readEvent a c (envOf b u f) n) st given r (lent used ws) ys) where
@@ -129,7 +129,7 @@ module _ (a : Asked) (c : StreamClass) (b u : List ℕ) (f : Frame) (to : BitPla
       pub round-room : used + r .used ≤ length ws₀
       round-room = back-room (readEvent a c (envOf b u f) n) turn did-here
 
-      pub round-stops : (v : Stop) (came : State) → r .went ≡ Stopped v → RanDid o came (stoppedRan v (used + r .used) came) ws₀ (merged used ws ys)
+      pub round-stops : (v : Stop) (came : Progress) → r .went ≡ Stopped v → RanDid o came (stoppedRan v (used + r .used) came) ws₀ (merged used ws ys)
       round-stops v came off = record { slots = given; did = part-stop (readEvent a c (envOf b u f) n) Rest turn did-here v came given off }
 
       pub round-moved : r .went ≡ On → (st .place .0 < r .state .place .0) × (r .state .place .0 ≤ f .bound .0)
@@ -157,7 +157,7 @@ module _ (a : Asked) (c : StreamClass) (b u : List ℕ) (f : Frame) (to : BitPla
       last : Part o (endPacket to n) ws₀ ws used st (w .slots)
       last = part-same _ (endPacket to n) (round-off a c (envOf b u f) to n (full st (w .slots) (length ws₀ - used)) (w .left) reached) (w .part)
 
-      pub end-full : (came : State) → length ws - used < 4 → RanDid o came (stoppedRan (stopAt ListFull (st .place)) used came) ws₀ ws
+      pub end-full : (came : Progress) → length ws - used < 4 → RanDid o came (stoppedRan (stopAt ListFull (st .place)) used came) ws₀ ws
       unfolding endPacket refuse onto outOf
       end-full came h = record {
         slots = w .slots;
@@ -172,7 +172,7 @@ module _ (a : Asked) (c : StreamClass) (b u : List ℕ) (f : Frame) (to : BitPla
         };
       }
 
-      pub end-listed : (came : State) (ys : List ℕ) → 4 ≤ length ws - used
+      pub end-listed : (came : Progress) (ys : List ℕ) → 4 ≤ length ws - used
           → ys ≡ words (entry packetEnds to (to .0 - st .place .0) n ∷ []) ++ drop 4 (lent used ws)
           → RanDid o came (record { went = On; used = used + 4; state = atPlace to st }) ws₀ (merged used ws ys)
       unfolding endPacket listed

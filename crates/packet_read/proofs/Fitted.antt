@@ -6,13 +6,16 @@ use Prim.Native.Nat.{ℕ, zero, suc, _+_, _≤_}
 use native.Mathlib.Omega.{arith}
 use Rattle.rules.specs.Limits.{depthLimit}
 use Rattle.rules.specs.Class.{Class, Sign, Range, bitArray, boolean, unsignedInt, signedInt, float}
-use Rattle.rules.specs.Record.{Shape, bitField, lebField, signedLebField, zeroString, text, blob, textOf, blobOf, members, elements, elementsOf, option?, options, u8}
+use Rattle.rules.specs.Record.{Shape, bitField, lebField, signedLebField, zeroString, text, blob, textOf, blobOf, members, elements}
+use Rattle.rules.specs.Record.{elementsOf, option?, options, u8}
 use Rattle.rules.specs.Table.{StreamClass, Asked}
 use Rattle.laws.proofs.Law.{Any, Fits, FitMembers, FitOptions, FitRoot}
-use Rattle.class_layout.specs.declared.Found.{Found}
-use Rattle.class_layout.specs.declared.Found.the-variants.{At, Nothing}
-use Rattle.class_layout.specs.Trees.{Stood, shapeOf, optionalOf, membersAt, optionsAt, optionClass, classIn, stoodAt, classAt, wholeMembers, wholeOptions, wholeIn, whole}
-use Rattle.class_layout.specs.Fragments.{askedAt, streamClassAt, findStreamAt, fragmentsOf, mapOption, rootClass, rootPlace, isStream, Fragment}
+use Rattle.class_layout.specs.declared.TablePlace.{TablePlace}
+use Rattle.class_layout.specs.declared.TablePlace.the-variants.{At, Nothing}
+use Rattle.class_layout.specs.Trees.{Stood, shapeOf, optionalOf, membersAt, optionsAt, optionClass, classIn, stoodAt, classAt}
+use Rattle.class_layout.specs.Trees.{wholeMembers, wholeOptions, wholeIn, whole}
+use Rattle.class_layout.specs.Fragments.{askedAt, streamClassAt, findStreamAt, fragmentsOf, mapOption, rootClass, rootPlace}
+use Rattle.class_layout.specs.Fragments.{isStream, Fragment}
 use Rattle.class_layout.specs.Sizes.{Sized, SizedFragment}
 use Rattle.class_layout.specs.Notes.{Notes}
 use Rattle.class_layout.proofs.Lookups.{first-holds}
@@ -63,7 +66,7 @@ unfolding whole stoodAt
 whole-fits t zero p w = absurd w
 whole-fits t (suc d) p w = shape-fits t (whole d t) (stoodAt d t) (λ q v. whole-fits t d q v) p (shapeOf (u8 t p)) (w .parts)
 
-found-fits : (t : List ℕ) (x : Found) → RootStands t x → FitRoot Positive Any Any (classOf t x)
+found-fits : (t : List ℕ) (x : TablePlace) → RootStands t x → FitRoot Positive Any Any (classOf t x)
 unfolding RootStands classOf
 found-fits t Nothing w = tt
 found-fits t (At p) w = whole-fits t depthLimit p w
@@ -76,11 +79,13 @@ root-fits t o i h = by (rootPlace t o i) refl
     by none e = unfold mapOption in tt
     by (some p) e = unfold mapOption in whole-fits t depthLimit p (h .roots i p e)
 
-context-fits : (t s : List ℕ) → Sized t s → (i : ℕ) (c : StreamClass) → (askedAt t) .stream i ≡ some c → FitRoot Positive Any Any (c .context)
+context-fits : (t s : List ℕ) → Sized t s → (i : ℕ) (c : StreamClass) → (askedAt t) .stream i ≡ some c
+    → FitRoot Positive Any Any (c .context)
 unfolding askedAt
 context-fits t s h i c e = by (findStreamAt t (fragmentsOf t) i) refl e
   where
-    by : (o : Option ℕ) → findStreamAt t (fragmentsOf t) i ≡ o → mapOption (streamClassAt t) o ≡ some c → FitRoot Positive Any Any (c .context)
+    by : (o : Option ℕ) → findStreamAt t (fragmentsOf t) i ≡ o → mapOption (streamClassAt t) o ≡ some c
+        → FitRoot Positive Any Any (c .context)
     by none q e = let z : _≡_ {A = ℕ} 0 1 = unfold mapOption in cc in absurd (omega arith)
     by (some o) q e =
         let j : streamClassAt t o ≡ c = unfold mapOption in cc in
@@ -92,7 +97,7 @@ pub record Fit (t : Asked) : Type 0 where
   pub header : FitRoot Positive Any Any (t .header)
   pub context : (i : ℕ) (c : StreamClass) → t .stream i ≡ some c → FitRoot Positive Any Any (c .context)
 
-pub lent-fits : (t : List ℕ) (x : Notes) (u : List ℕ) (h : Found) (b : List ℕ) → Lent t x u h b → Fit (askedAt t)
+pub lent-fits : (t : List ℕ) (x : Notes) (u : List ℕ) (h : TablePlace) (b : List ℕ) → Lent t x u h b → Fit (askedAt t)
 lent-fits t x u h b g = record {
   header = subst (FitRoot Positive Any Any) (g .header) (found-fits t h (g .stands));
   context = context-fits t (x .sizes) (g .ready .noted .sized);

@@ -19,7 +19,8 @@ use Rattle.rules.specs.Entry.{entry, packetStarts, streamClassFound, lengthsSet
 use Rattle.rules.specs.Step.{State, Out, stop, go, after, _⨾_, listed}
 use Rattle.rules.specs.Field.{Env}
 use Rattle.rules.specs.Table.{StreamClass, Asked}
-use Rattle.rules.specs.Packet.{readRoot, readEvent, readEvents, endPacket, readContent, readPacket, above, differs, orElse, startPacket, nothingSaid}
+use Rattle.rules.specs.Packet.{readRoot, readEvent, readEvents, endPacket, readContent, readPacket}
+use Rattle.rules.specs.Packet.{above, differs, orElse, startPacket, nothingSaid}
 use Rattle.laws.specs.Between.{Moved}
 use Rattle.laws.proofs.Law.{Any, FitRoot, law-root}
 use Rattle.laws.proofs.Triple.{Ok}
@@ -32,7 +33,8 @@ use Rattle.packet_events.proofs.Moving.{Onward, onward-onto, onward-after}
 use Rattle.listing.proofs.Checks.{room-first}
 use Rattle.listing.proofs.Marks.{due-stop, less}
 use Rattle.packet_content.proofs.Lengths.{eventsOf, content-full, content-lengths, content-clocks, content-marked}
-use Rattle.packet_read.proofs.Packeted.{behindStart, header-differs, header-full, header-unknown, header-marked, packet-full, packet-marked}
+use Rattle.packet_read.proofs.Packeted.{behindStart, header-differs, header-full, header-unknown, header-marked}
+use Rattle.packet_read.proofs.Packeted.{packet-full, packet-marked}
 use Rattle.packet_content.proofs.Lengths.{Lengths, lengths}
 use Rattle.packet_read.proofs.Fitted.{Positive, Fit}
 
@@ -66,10 +68,11 @@ unfolding readEvents _⨾_
 events-at t c e to zero n s = end-at to n s
 events-at t c e to (suc left) n s = by (ltb (s .place .0) (e .bound .0)) (λ s. events-at t c e to left (n + 1) s)
   where
-    by : (x : Bool) → ((s : State) → Onward (λ s. s .place ≡ to) (readEvents t c e to (n + 1) left s)) → Onward (λ s. s .place ≡ to) (elim x [
-      | true ↦ after (readEvent t c e n s) (readEvents t c e to (n + 1) left)
-      | false ↦ endPacket to n s
-    ])
+    by : (x : Bool) → ((s : State) → Onward (λ s. s .place ≡ to) (readEvents t c e to (n + 1) left s))
+        → Onward (λ s. s .place ≡ to) (elim x [
+          | true ↦ after (readEvent t c e n s) (readEvents t c e to (n + 1) left)
+          | false ↦ endPacket to n s
+        ])
     by true r = onward-after (λ s. Unit {0}) _ (readEvent t c e n s) _ (any (readEvent t c e n s)) (λ s h. r s)
     by false r = end-at to n s
 
@@ -123,7 +126,8 @@ module _ (t : Asked) (w : Fit t) (b : List ℕ) (p : BitPlace) (l : p .0 < 8 * l
           → (x : Bool) → above (s .clock) (s .said .ending) ≡ x → Ends (readContent t c b p (totalAt s) (contentAt s) s)
       fine r f true h = subst Ends (sym (content-clocks t c b p (totalAt s) (contentAt s) s r f h)) tt
       fine r f false h = subst Ends (sym (content-marked t c b p (totalAt s) (contentAt s) s r f h))
-          (onward-onto (Behind b (p .0)) (entry lengthsSettled (s .place) (totalAt s) (contentAt s) ∷ []) (eventsOf t c b p (totalAt s) (contentAt s) s (less s))
+          (onward-onto (Behind b (p .0)) (entry lengthsSettled (s .place) (totalAt s) (contentAt s) ∷ [])
+          (eventsOf t c b p (totalAt s) (contentAt s) s (less s))
           (onward-map (λ s′. s′ .place ≡ further p (totalAt s)) (Behind b (p .0)) (eventsOf t c b p (totalAt s) (contentAt s) s (less s))
           (λ s′ q. behind s s′ a (lengths b p (s .place) (totalAt s) (contentAt s) f) q)
           (events-at t c (record { bytes = b; start = p; bound = further p (contentAt s); uuid = t .uuid }) (further p (totalAt s))
@@ -140,7 +144,8 @@ module _ (t : Asked) (w : Fit t) (b : List ℕ) (p : BitPlace) (l : p .0 < 8 * l
 
   found-onward : (c : StreamClass) → FitRoot Positive Any Any (c .context) → (s : State) → Inside e s → Ends (behindFound t b p c s)
   unfolding behindFound _⨾_
-  found-onward c f s a = onward-after (Inside e) _ (readRoot e (c .context) s) _ (root-inside e (c .context) f s a) (λ s a. content-onward c s a)
+  found-onward c f s a =
+      onward-after (Inside e) _ (readRoot e (c .context) s) _ (root-inside e (c .context) f s a) (λ s a. content-onward c s a)
 
   header-onward : (i : Stated) (s : State) → Inside e s → Ends (behindHeader t b p i s)
   header-onward i s a = same (differs (s .said .stream) i) refl
@@ -169,6 +174,8 @@ packet-onward t w b k i s l z = room (ltb (s .room) 4) refl
     room false h = subst (Onward (Behind b (s .place .0))) (sym (packet-marked t b k i s (ltb-false (s .room) 4 h)))
         (onward-onto (Behind b (s .place .0)) (entry packetStarts (s .place) 0 k ∷ []) (behindStart t b k i s (startPacket (less s)))
         (unfold _⨾_ startPacket nothingSaid in
-        (onward-after (Inside (packetEnv t b (s .place))) (Behind b (s .place .0)) (readRoot (packetEnv t b (s .place)) (t .header) (startPacket (less s))) (behindHeader t b (s .place) i)
-        (root-inside (packetEnv t b (s .place)) (t .header) (w .header) (startPacket (less s)) (record { from = omega arith; to = omega arith; kept = inl (refl, refl) }))
+        (onward-after (Inside (packetEnv t b (s .place))) (Behind b (s .place .0))
+        (readRoot (packetEnv t b (s .place)) (t .header) (startPacket (less s))) (behindHeader t b (s .place) i)
+        (root-inside (packetEnv t b (s .place)) (t .header) (w .header) (startPacket (less s))
+        (record { from = omega arith; to = omega arith; kept = inl (refl, refl) }))
         (λ s′ a. header-onward t w b (s .place) l z i s′ a))))

@@ -9,15 +9,20 @@ use Rattle.rules.specs.declared.Stated.{Stated}
 use Rattle.rules.specs.declared.Refusal.the-variants.{ListFull, StreamClassChanged, StreamClassUnknown}
 use Rattle.rules.specs.Verdict.{stopAt}
 use Rattle.rules.specs.Entry.{entry, packetStarts, streamClassFound}
-use Rattle.rules.specs.Step.{State as Whole, stop, Step, onto, _⨾_, refuse}
+use Rattle.rules.specs.Step.{State, stop, Step, onto, _⨾_, refuse}
 use Rattle.rules.specs.Table.{StreamClass, Asked}
+use Rattle.clock.specs.declared.Clock.{Clock}
 use Rattle.rules.specs.Packet.{mark, readRoot, readPacket, differs, withStream, startPacket}
 use Rattle.packet_content.specs.Pieces.{packetEnv, behindFound}
 use Rattle.packet_read.specs.Pieces.{behindHeader}
 use Rattle.listing.proofs.Checks.{room-first}
 use Rattle.listing.proofs.Marks.{check-stop, check-on, due-stop, mark-on, change-on, less}
 
-module _ (t : Asked) (b : List ℕ) (p : BitPlace) (i : Stated) (s : Whole) where
+-- "Clock, from 0 at each packet" (Reading)
+pub started : (c : Clock) → c .value ≡ 0 → c ≡ record { value = 0 }
+started c e = ap (λ v. record { value = v }) e
+
+module _ (t : Asked) (b : List ℕ) (p : BitPlace) (i : Stated) (s : State) where
   pub header-differs : differs (s .said .stream) i ≡ true → behindHeader t b p i s ≡ stop [] (stopAt StreamClassChanged (s .place))
   unfolding behindHeader
   header-differs h = check-stop _ StreamClassChanged _ s h
@@ -41,7 +46,7 @@ module _ (t : Asked) (b : List ℕ) (p : BitPlace) (i : Stated) (s : Whole) wher
           ∙ ap (λ x. withStream (s .said .stream) x (λ c. mark streamClassFound 0 (s .said .stream) ⨾ behindFound t b p c) s) h
           ∙ mark-on streamClassFound 0 (s .said .stream) _ s
 
-module _ (t : Asked) (b : List ℕ) (k : ℕ) (i : Stated) (s : Whole) where
+module _ (t : Asked) (b : List ℕ) (k : ℕ) (i : Stated) (s : State) where
   abbrev pub behindStart : Step
   behindStart = readRoot (packetEnv t b (s .place)) (t .header) ⨾ behindHeader t b (s .place) i
 
@@ -49,6 +54,8 @@ module _ (t : Asked) (b : List ℕ) (k : ℕ) (i : Stated) (s : Whole) where
   unfolding readPacket
   packet-full h = due-stop _ s h
 
-  pub packet-marked : 4 ≤ s .room → readPacket t b k i s ≡ onto (entry packetStarts (s .place) 0 k ∷ []) (behindStart (startPacket (less s)))
+  pub packet-marked : 4 ≤ s .room
+      → readPacket t b k i s ≡ onto (entry packetStarts (s .place) 0 k ∷ []) (behindStart (startPacket (less s)))
   unfolding readPacket behindHeader behindFound
-  packet-marked h = room-first _ s h ∙ mark-on packetStarts 0 k _ s ∙ ap (onto (entry packetStarts (s .place) 0 k ∷ [])) (change-on startPacket _ (less s))
+  packet-marked h = room-first _ s h ∙ mark-on packetStarts 0 k _ s
+      ∙ ap (onto (entry packetStarts (s .place) 0 k ∷ [])) (change-on startPacket _ (less s))

@@ -16,14 +16,14 @@ use Rattle.rules.specs.Slots.{Slots, noSlots, packetSlots}
 use Rattle.rules.specs.Entry.{entry, words, packetStarts, streamClassFound}
 use Rattle.rules.specs.Step.{Out, _⨾_}
 use Rattle.rules.specs.Packet.{readRoot, readPacket, differs, startPacket}
-use Rattle.listing.specs.declared.State.{State}
-use Rattle.leaf_find_number.specs.declared.Frame.{Frame}
+use Rattle.listing.specs.declared.Progress.{Progress}
+use Rattle.frame.specs.declared.Frame.{Frame}
 use Rattle.listing.specs.declared.Went.the-variants.{On, Stopped}
 use Rattle.listing.specs.Did.{full}
-use Rattle.leaf_find_number.specs.Framed.{Framed, envOf}
+use Rattle.frame.specs.Framed.{Framed, envOf}
 use Rattle.listing.proofs.Parts.{Part, part-step, part-stop, back-room, lent, merged}
-use Rattle.class_layout.specs.declared.Found.{Found}
-use Rattle.class_layout.specs.declared.Found.the-variants.{At, Nothing}
+use Rattle.class_layout.specs.declared.TablePlace.{TablePlace}
+use Rattle.class_layout.specs.declared.TablePlace.the-variants.{At, Nothing}
 use Rattle.class_layout.specs.Fragments.{askedAt, streamClassAt, findStreamAt, fragmentsOf, mapOption}
 use Rattle.class_layout.specs.Sizes.{foundOf}
 use Rattle.class_layout.specs.Notes.{Notes}
@@ -45,7 +45,8 @@ start-framed b p h s = record { whole = s .whole; begun = omega arith; within = 
 
 -- Behind the header
 
-module _ (t b : List ℕ) (p : BitPlace) (i : Stated) (st : State) (l : Slots) (ws : List ℕ) (x : Bool) (k : x ≡ differs (st .said .stream) i) where
+module _ (t b : List ℕ) (p : BitPlace) (i : Stated) (st : Progress) (l : Slots) (ws : List ℕ) (x : Bool)
+    (k : x ≡ differs (st .said .stream) i) where
   abbrev Headed : Out
   Headed = behindHeader (askedAt t) b p i (full st l (length ws))
 
@@ -56,12 +57,14 @@ module _ (t b : List ℕ) (p : BitPlace) (i : Stated) (st : State) (l : Slots) (
     pub header-ran-full : length ws < 4 → RanDid Headed st (stoppedRan (stopAt ListFull (st .place)) 0 st) ws ws
     header-ran-full h = refused-ran Headed st l ws _ (header-full (askedAt t) b p i (full st l (length ws)) (sym k ∙ same) h)
 
-    module _ (room : 4 ≤ length ws) (y : Found) (j : y ≡ foundOf (findStreamAt t (fragmentsOf t) (st .said .stream))) where
-      pub header-ran-unknown : y ≡ Nothing → RanDid Headed st (stoppedRan (stopAt (StreamClassUnknown (st .said .stream)) (st .place)) 0 st) ws ws
+    module _ (room : 4 ≤ length ws) (y : TablePlace) (j : y ≡ foundOf (findStreamAt t (fragmentsOf t) (st .said .stream))) where
+      pub header-ran-unknown : y ≡ Nothing
+          → RanDid Headed st (stoppedRan (stopAt (StreamClassUnknown (st .said .stream)) (st .place)) 0 st) ws ws
       unfolding mapOption askedAt
       header-ran-unknown h =
           refused-ran Headed st l ws _
-          (header-unknown (askedAt t) b p i (full st l (length ws)) (sym k ∙ same) room (ap (mapOption (streamClassAt t)) (found-none _ (sym h ∙ j))))
+          (header-unknown (askedAt t) b p i (full st l (length ws)) (sym k ∙ same) room
+          (ap (mapOption (streamClassAt t)) (found-none _ (sym h ∙ j))))
 
       pub header-part : (class : ℕ) → y ≡ At class → {ws₁ : List ℕ}
           → ws₁ ≡ words (entry streamClassFound (st .place) 0 (st .said .stream) ∷ []) ++ drop 4 ws
@@ -78,14 +81,22 @@ none-unset : packetSlots noSlots ≡ noSlots
 unfolding packetSlots noSlots
 none-unset = refl
 
-module _ (t : List ℕ) (x : Notes) (u b : List ℕ) (h : Found) (given : Lent t x u h b) (k : ℕ) (i : Stated) (st : State) (ws : List ℕ) where
+-- behind a header that was read as r says, with ws₁ on the list and ys in what was lent of it: the rest of the packet
+abbrev pub RestLeft : (t b : List ℕ) (k : ℕ) (i : Stated) (st : Progress) (ws ws₁ : List ℕ) (r : Field) (ys : List ℕ) (l : Slots) → Type 0
+RestLeft t b k i st ws ws₁ r ys l =
+    Part (readPacket (askedAt t) b k i (full st l (length ws))) (behindHeader (askedAt t) b (st .place) i) ws (merged 4 ws₁ ys)
+    (4 + r .used) (r .state) (r .slots)
+
+module _ (t : List ℕ) (x : Notes) (u b : List ℕ) (h : TablePlace) (given : Lent t x u h b) (k : ℕ) (i : Stated) (st : Progress) (ws : List ℕ) where
   pub packet-ran-full : (l : Slots) → length ws < 4
       → RanDid (readPacket (askedAt t) b k i (full st l (length ws))) st (stoppedRan (stopAt ListFull (st .place)) 0 st) ws ws
   packet-ran-full l h = refused-ran _ st l ws _ (packet-full (askedAt t) b k i (full st l (length ws)) h)
 
   module _ (room : 4 ≤ length ws) {ws₁ : List ℕ} (w : ws₁ ≡ words (entry packetStarts (st .place) 0 k ∷ []) ++ drop 4 ws)
-      (f : Frame) (e : f ≡ wholeFrame b (st .place)) (begun : State) (j : begun ≡ freshState st) (none : Slots) (n : none ≡ noSlots) where
-    packet-part : (l : Slots) → Part (readPacket (askedAt t) b k i (full st l (length ws))) (readRoot (envOf b u f) (classOf t h) ⨾ behindHeader (askedAt t) b (st .place) i) ws ws₁ 4 begun none
+      (f : Frame) (e : f ≡ wholeFrame b (st .place)) (begun : Progress) (j : begun ≡ freshState st) (none : Slots) (n : none ≡ noSlots) where
+    packet-part : (l : Slots)
+        → Part (readPacket (askedAt t) b k i (full st l (length ws)))
+        (readRoot (envOf b u f) (classOf t h) ⨾ behindHeader (askedAt t) b (st .place) i) ws ws₁ 4 begun none
     unfolding startPacket freshState
     packet-part l = rw (given .uuid, e, given .header, j, n)
         (marked-part _ (entry packetStarts (st .place) 0 k) _ room w (packet-marked (askedAt t) b k i (full st l (length ws)) room))
@@ -93,7 +104,8 @@ module _ (t : List ℕ) (x : Notes) (u b : List ℕ) (h : Found) (given : Lent t
     module _ {r : Field} {ys : List ℕ} (d : FieldReads (readRoot (envOf b u f) (classOf t h)) begun none r (lent 4 ws₁) ys) where
       pub header-framed : Starts b (st .place) → r .went ≡ On → Framed b (wholeFrame b (st .place)) (r .state .place)
       unfolding freshState
-      header-framed q on = rw (e) at (root-framed b u f (classOf t h) none on (d .did) (rw (e, j) (start-framed b (st .place) (given .small) q)))
+      header-framed q on =
+          rw (e) at (root-framed b u f (classOf t h) none on (d .did) (rw (e, j) (start-framed b (st .place) (given .small) q)))
 
       pub header-unset : r .went ≡ On → packetSlots (r .slots) ≡ r .slots
       header-unset on =
@@ -104,8 +116,7 @@ module _ (t : List ℕ) (x : Notes) (u b : List ℕ) (h : Found) (given : Lent t
           → RanDid (readPacket (askedAt t) b k i (full st l (length ws))) st (stoppedRan v (4 + r .used) st) ws (merged 4 ws₁ ys)
       header-stopped l v off = record { slots = l; did = part-stop _ _ (packet-part l) (d .did) v st l off }
 
-      pub behind-part : (l : Slots) → r .went ≡ On
-          → Part (readPacket (askedAt t) b k i (full st l (length ws))) (behindHeader (askedAt t) b (st .place) i) ws (merged 4 ws₁ ys) (4 + r .used) (r .state) (r .slots)
+      pub behind-part : (l : Slots) → r .went ≡ On → RestLeft t b k i st ws ws₁ r ys l
       behind-part l on = part-step _ _ (packet-part l) (d .did) on
 
       pub header-room : 4 + r .used ≤ length ws

@@ -14,9 +14,9 @@ use Rattle.rules.specs.Slots.{Slots}
 use Rattle.rules.specs.Step.{Step, _⨾_, check, due}
 use Rattle.rules.specs.Table.{Asked}
 use Rattle.rules.specs.Packet.{mark, differs, withStream, nothingSaid}
-use Rattle.listing.specs.declared.State.{State}
+use Rattle.listing.specs.declared.Progress.{Progress}
 use Rattle.listing.specs.Did.{full}
-use Rattle.class_layout.specs.declared.Found.{Found}
+use Rattle.class_layout.specs.declared.TablePlace.{TablePlace}
 use Rattle.class_layout.specs.Fragments.{askedAt}
 use Rattle.class_layout.specs.Notes.{Notes}
 use Rattle.outcome.specs.declared.Ran.{Ran}
@@ -33,15 +33,15 @@ behindHeader t b p i =
     ⨾ λ s. withStream (s .said .stream) (t .stream (s .said .stream)) (λ c. mark streamClassFound 0 (s .said .stream) ⨾ behindFound t b p c) s
 
 -- the state of a packet that starts
-unfoldable pub freshState : State → State
+unfoldable pub freshState : Progress → Progress
 freshState st = record { place = st .place; order = Nothing; clock = record { value = 0 }; last = st .last; said = nothingSaid }
 
 -- the state in which a reading begins
-unfoldable pub firstState : State
+unfoldable pub firstState : Progress
 firstState = record { place = bitPlace 0; order = Nothing; clock = record { value = 0 }; last = 0; said = nothingSaid }
 
 -- the trace class's header and UUID, and a stream that is not too long
-pub record Lent (t : List ℕ) (x : Notes) (u : List ℕ) (h : Found) (b : List ℕ) : Type 0 where
+pub record Lent (t : List ℕ) (x : Notes) (u : List ℕ) (h : TablePlace) (b : List ℕ) : Type 0 where
   pub ready : Ready t x
   pub stands : RootStands t h
   pub header : classOf t h ≡ (askedAt t) .header
@@ -54,5 +54,5 @@ pub record Starts (b : List ℕ) (p : BitPlace) : Type 0 where
   pub within : p .0 ≤ 8 * length b
 
 -- whatever the slots hold: all are unset when a packet starts
-pub record PacketDid (m : Step) (came : State) (r : Ran) (ws ws′ : List ℕ) : Type 0 where
+pub record PacketDid (m : Step) (came : Progress) (r : Ran) (ws ws′ : List ℕ) : Type 0 where
   pub at : (l : Slots) → RanDid (m (full came l (length ws))) came r ws ws′

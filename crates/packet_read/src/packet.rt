@@ -1,12 +1,13 @@
 // One packet, step by step as the paper lists them: "entry 1; header if any; stream class id must equal the first packet's (32); entry 2
 // and the lookup (33)"; then what its stream class says.
-use class_layout::Found;
+use class_layout::TablePlace;
 use class_lookup::find_stream_class;
 use clock::Clock;
 use contradictions::differs;
-use listing::State;
+use listing::Progress;
 use listing::Went;
 use listing::entry::write;
+use numbers::entries;
 use outcome::Ran;
 use outcome::refused;
 use outcome::stopped;
@@ -26,18 +27,14 @@ ghost use mathlib.Core.Path.{_≡_};
 ghost use lib.ListN.{length};
 ghost use Rattle.rules.specs.Slots.{noSlots, packetSlots};
 ghost use Rattle.rules.specs.Packet.{readPacket, nothingSaid};
-ghost use Rattle.leaf_find_number.specs.Framed.{Framed};
+ghost use Rattle.frame.specs.Framed.{Framed};
 ghost use Rattle.listing.specs.Did.{full};
 ghost use Rattle.class_layout.specs.Notes.{notes};
 ghost use Rattle.class_layout.specs.Fragments.{askedAt};
 ghost use Rattle.outcome.specs.Ran.{RanDid};
-ghost use Rattle.packet_content.specs.Pieces.{wholeFrame, Within};
+ghost use Rattle.packet_content.specs.Pieces.{wholeFrame, Readable};
 ghost use Rattle.class_lookup.specs.Index.{Hints};
 ghost use Rattle.packet_read.specs.Pieces.{behindHeader, freshState, Lent, Starts, PacketDid};
-
-const PACKET_STARTS: u64 = 1;
-
-const STREAM_CLASS_FOUND: u64 = 2;
 
 // The packet that begins at a state, the numberth; the first one's stream class id if it is not the first.
 pub fn read_packet(
@@ -46,11 +43,11 @@ pub fn read_packet(
     aligns: &[u8],
     index: &[u32],
     uuid: &[u8],
-    header: Found,
+    header: TablePlace,
     stream: &[u8],
     number: u64,
     first: Stated,
-    begun: State,
+    begun: Progress,
     list: &mut [u64],
 ) -> Ran
     requires { ⌜ Lent (now table) (notes (now sizes) (now aligns)) (now uuid) header (now stream) ⌝ }
@@ -67,7 +64,7 @@ pub fn read_packet(
     write(
         list,
         Entry {
-            kind: PACKET_STARTS,
+            kind: entries::PACKET_STARTS,
             place,
             bits: 0,
             value: number,
@@ -122,11 +119,11 @@ fn read_behind_header(
     stream: &[u8],
     start: BitPlace,
     first: Stated,
-    st: State,
+    st: Progress,
     slots: [Slot; 64],
     list: &mut [u64],
 ) -> Ran
-    requires { ⌜ Within (now table) (notes (now sizes) (now aligns)) (now uuid) (now stream) ⌝ }
+    requires { ⌜ Readable (now table) (notes (now sizes) (now aligns)) (now uuid) (now stream) ⌝ }
     requires { ⌜ Framed (now stream) (wholeFrame (now stream) start) (st .place) ⌝ }
     requires { ⌜ Hints (now table) (now index) ⌝ }
     requires { ⌜ packetSlots slots ≡ slots ⌝ }
@@ -144,12 +141,12 @@ fn read_behind_header(
         return refused(Refusal::ListFull, place, 0, st);
     }
     match find_stream_class(table, sizes, id) {
-        Found::Nothing => refused(Refusal::StreamClassUnknown(id), place, 0, st),
-        Found::At(class) => {
+        TablePlace::Nothing => refused(Refusal::StreamClassUnknown(id), place, 0, st),
+        TablePlace::At(class) => {
             write(
                 list,
                 Entry {
-                    kind: STREAM_CLASS_FOUND,
+                    kind: entries::STREAM_CLASS_FOUND,
                     place,
                     bits: 0,
                     value: id,
@@ -175,14 +172,14 @@ fn read_behind_header(
 }
 
 // "Clock, from 0 at each packet"; no role has said anything, and no field has an order yet.
-fn fresh(st: State) -> State
+fn fresh(st: Progress) -> Progress
     ensures { λ r. ⌜ r ≡ freshState st ⌝ }
 {
     let place = st.place;
-    State {
+    Progress {
         place,
         order: LastOrder::Nothing,
-        clock: Clock { value: 0 },
+        clock: Clock::start(),
         last: st.last,
         said: nothing_said(),
     }

@@ -11,17 +11,17 @@ use Rattle.rules.specs.Step.{_⨾_, pass}
 use Rattle.rules.specs.Field.{Env, readMembers}
 use Rattle.rules.specs.Packet.{readRoot}
 use Rattle.facts.proofs.Steps.{after-pass}
-use Rattle.listing.specs.declared.State.{State}
+use Rattle.listing.specs.declared.Progress.{Progress}
 use Rattle.listing.specs.declared.Went.the-variants.{On}
 use Rattle.listing.specs.Did.{full, outOf}
-use Rattle.class_layout.specs.declared.Found.{Found}
-use Rattle.class_layout.specs.declared.Found.the-variants.{At, Nothing}
+use Rattle.class_layout.specs.declared.TablePlace.{TablePlace}
+use Rattle.class_layout.specs.declared.TablePlace.the-variants.{At, Nothing}
 use Rattle.class_layout.specs.Trees.{stoodAt, membersAt}
 use Rattle.field_read.specs.declared.Field.{Field}
 use Rattle.field_read.specs.Reads.{FieldReads}
 use Rattle.event_turns.specs.Roots.{classOf}
 
-module _ (t : List ℕ) (root : Found) (e : Env) (st : State) (l : Slots) where
+module _ (t : List ℕ) (root : TablePlace) (e : Env) (st : Progress) (l : Slots) where
   pub no-root : (ws : List ℕ) → length l ≡ slotCount → root ≡ Nothing
       → FieldReads (readRoot e (classOf t root)) st l (record { went = On; used = 0; state = st; slots = l }) ws ws
   unfolding classOf readRoot pass outOf words
@@ -44,6 +44,8 @@ module _ (t : List ℕ) (root : Found) (e : Env) (st : State) (l : Slots) where
   unfolding classOf readRoot readMembers membersAt _⨾_
   root-reads p h s = rw (h) (after-pass _)
 
-  pub a-root : (p : ℕ) {r : Field} {ws ws′ : List ℕ} → root ≡ At p → FieldReads (readMembers e (membersAt (stoodAt depthLimit t) p 1)) st l r ws ws′
+  pub a-root : (p : ℕ) {r : Field} {ws ws′ : List ℕ} → root ≡ At p
+      → FieldReads (readMembers e (membersAt (stoodAt depthLimit t) p 1)) st l r ws ws′
       → FieldReads (readRoot e (classOf t root)) st l r ws ws′
-  a-root p {r} {ws} {ws′} h did = record { did = rw (root-reads p h (full st l (length ws))) at (did .did); kept = did .kept; many = did .many }
+  a-root p {r} {ws} {ws′} h did =
+      record { did = rw (root-reads p h (full st l (length ws))) at (did .did); kept = did .kept; many = did .many }

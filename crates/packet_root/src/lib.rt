@@ -1,14 +1,14 @@
 // A root that is there is read; the packet has its roots read so, an event opens its own.
-use class_layout::Found;
+use class_layout::TablePlace;
 use field_read::Field;
 use field_read::walk::walk_members;
-use leaf_find_number::Frame;
-use listing::State;
+use frame::Frame;
+use listing::Progress;
 use listing::Went;
+use numbers::limits::DEPTH_LIMIT;
 use rules::Slot;
-use table_records::limits::DEPTH_LIMIT;
 ghost use Rattle.rules.specs.Packet.{readRoot};
-ghost use Rattle.leaf_find_number.specs.Framed.{Framed, envOf};
+ghost use Rattle.frame.specs.Framed.{Framed, envOf};
 ghost use Rattle.class_layout.specs.Notes.{notes, Prepared};
 ghost use Rattle.field_read.specs.Reads.{FieldReads};
 ghost use Rattle.event_turns.specs.Roots.{classOf, RootStands};
@@ -21,8 +21,8 @@ pub fn read_root(
     uuid: &[u8],
     stream: &[u8],
     frame: Frame,
-    root: Found,
-    st: State,
+    root: TablePlace,
+    st: Progress,
     slots: [Slot; 64],
     list: &mut [u64],
 ) -> Field
@@ -35,13 +35,13 @@ pub fn read_root(
         ⌝ }
 {
     match root {
-        Found::Nothing => Field {
+        TablePlace::Nothing => Field {
             went: Went::On,
             used: 0,
             state: st,
             slots,
         },
-        Found::At(at) => walk_members(
+        TablePlace::At(at) => walk_members(
             table,
             sizes,
             aligns,

@@ -46,6 +46,13 @@ pub fn place_behind(bytes: ByteLength) -> BitPlace
     BitPlace(8 * (bytes.0 as u64))
 }
 
+// "L the field's bits (7 times its bytes for LEB128)" (Reading): of the bits of whole bytes, seven a byte.
+pub fn stamp_bits(bits: u64) -> u64
+    ensures { λ r. ⌜ r ≡ 7 * (bits / 8) ⌝ }
+{
+    7 * (bits / 8)
+}
+
 // The whole bytes before a place.
 pub fn bytes_before(place: BitPlace) -> ByteLength
     ensures { λ r. ⌜ r ≡ byteLength (place .0 / 8) ⌝ }

@@ -9,7 +9,10 @@ use lib.Dec.{ltb, eqb}
 use lib.ListN.{length, take, drop, length-append, length-drop}
 use lib.Seq.{take-all, take-at, drop-at, take-length}
 use Rattle.rules.specs.declared.Refusal.{Refusal}
-use Rattle.rules.specs.declared.Refusal.the-variants.{StreamSize, PastBound, OrderChanged, LebTooLarge, NoZeroByte, SlotUnset, SlotOfWrongSort, LengthTooLarge, SelectorInNoOption, WrongMagic, WrongUuid, StreamClassChanged, StreamClassUnknown, LengthsContradict, ClocksContradict, ClockTooLarge, EventClassUnknown, EventTookNoBits, ClockWentBack, ListFull}
+use Rattle.rules.specs.declared.Refusal.the-variants.{StreamSize, PastBound, OrderChanged, LebTooLarge, NoZeroByte, SlotUnset}
+use Rattle.rules.specs.declared.Refusal.the-variants.{SlotOfWrongSort, LengthTooLarge, SelectorInNoOption, WrongMagic, WrongUuid}
+use Rattle.rules.specs.declared.Refusal.the-variants.{StreamClassChanged, StreamClassUnknown, LengthsContradict, ClocksContradict}
+use Rattle.rules.specs.declared.Refusal.the-variants.{ClockTooLarge, EventClassUnknown, EventTookNoBits, ClockWentBack, ListFull}
 use Rattle.rules.specs.declared.Verdict.{Verdict}
 use Rattle.rules.specs.declared.Verdict.the-variants.{Accepted, TableRefused, Refused}
 use Rattle.rules.specs.declared.Checked.the-variants.{Refused as CheckRefused}
@@ -116,7 +119,13 @@ stream-not-20 : (t : Asked) (b : List ℕ) (room : ℕ) → numberOf ((readStrea
 unfolding readStream
 stream-not-20 t b room = by (eqb (length b) 0 || ltb streamLimit (length b))
   where
-    by : (c : Bool) → numberOf ((elim c as (λ z. Reading) [ true ↦ record { entries = []; verdict = Refused (stopAt StreamSize (bitPlace 0)) } | false ↦ ended (readPackets t b 0 Missing (length b) (begin room)) ]) .verdict) ≡ 20 → ⊥
+    of : Bool → Reading
+    of c = elim c [
+      | true ↦ record { entries = []; verdict = Refused (stopAt StreamSize (bitPlace 0)) }
+      | false ↦ ended (readPackets t b 0 Missing (length b) (begin room))
+    ]
+
+    by : (c : Bool) → numberOf ((of c) .verdict) ≡ 20 → ⊥
     by true h = unfold numberOf refusalNumber in omega arith
     by false h = ended-not-20 _ h
 
@@ -134,7 +143,8 @@ placed x b room = by (parse x) refl
   where
     by : (p : Parsed Table) → parse x ≡ p → Placed x b (readAll x b room)
     by (bad n y) e =
-        let q : readAll x b room ≡ record { entries = []; verdict = TableRefused n (byteOf x y) } = unfold readAll readParsed in rw (e, readAll) refl in
+        let q : readAll x b room ≡ record { entries = []; verdict = TableRefused n (byteOf x y) } =
+        unfold readAll readParsed in rw (e, readAll) refl in
         let k : checked x ≡ CheckRefused n (byteOf x y) = unfold checked checkedOf in rw (e, checked) refl in
         subst (Placed x b) (sym q) (placed-bad x b n y k (refused-number x n y e))
     by (good t y) e =
@@ -164,7 +174,9 @@ enough x b ws = reading-spent x b (length ws) .within
 after-length : (r : Reading) (ws : List ℕ) → wordsPerEntry * length (r .entries) ≤ length ws → length (listAfter r ws) ≡ length ws
 unfolding listAfter
 after-length r ws h =
-    length-append (words (r .entries)) _ ∙ (let a = length-words (r .entries) in let b = length-drop (wordsPerEntry * length (r .entries)) ws in omega arith)
+    let a = length-words (r .entries) in
+    let b = length-drop (wordsPerEntry * length (r .entries)) ws in
+    length-append (words (r .entries)) _ ∙ omega arith
 
 answer-demand-1 : (x b ws : List ℕ) → Demand1 x b (answer x b ws)
 unfolding resultOf listAfter
@@ -219,26 +231,32 @@ shorter x b room d = by (room-more x b room d)
     by (inr q) =
         let l : wordsPerEntry * length (r .entries) ≤ room = spent .within in
         let m : room < wordsPerEntry * length (r .entries) + wordsPerEntry = spent .full (q .number) in
-        let f : r .entries ≡ take (length (r .entries)) (r′ .entries) = sym (ap (take (length (r .entries))) (q .entries) ∙ take-at (r .entries) (q .others) _ refl) in
+        let f : r .entries ≡ take (length (r .entries)) (r′ .entries) =
+        sym (ap (take (length (r .entries))) (q .entries) ∙ take-at (r .entries) (q .others) _ refl) in
         let n : length (r .entries) ≡ room / wordsPerEntry = omega arith in
-        let k : length (r′ .entries) ≡ length (r .entries) + length (q .others) = ap length (q .entries) ∙ length-append (r .entries) (q .others) in
+        let k : length (r′ .entries) ≡ length (r .entries) + length (q .others) =
+        ap length (q .entries) ∙ length-append (r .entries) (q .others) in
         record { front = f; cut = f ∙ ap (λ z. take z (r′ .entries)) n; few = omega arith; verdict = inr (q .number) }
 
 less-list : (x b ws vs : List ℕ) → Shorter (readAll x b (length vs)) (readAll x b (length ws)) (length vs)
-    → (answer x b vs) .after ≡ wordsOf ((answer x b vs) .result .entries) (answer x b ws) ++ cameBehind ((answer x b vs) .result .entries) (answer x b vs)
+    → (answer x b vs) .after
+    ≡ wordsOf ((answer x b vs) .result .entries) (answer x b ws) ++ cameBehind ((answer x b vs) .result .entries) (answer x b vs)
 unfolding resultOf listAfter
 less-list x b ws vs s =
     let r = readAll x b (length vs) in
     ap (λ z. z ++ drop (wordsPerEntry * length (r .entries)) vs)
     (ap words (s .front) ∙ sym (lists-words x b (answer x b ws) (answers x b ws) (length (r .entries)) (s .few)))
 
-less-room : (x b ws vs : List ℕ) → Shorter (readAll x b (length vs)) (readAll x b (length ws)) (length vs) → LessRoom (answer x b ws) (answer x b vs)
+less-room : (x b ws vs : List ℕ) → Shorter (readAll x b (length vs)) (readAll x b (length ws)) (length vs)
+    → LessRoom (answer x b ws) (answer x b vs)
 less-room x b ws vs s =
     let c = answer x b ws in
     let d = answer x b vs in
+    let p = lists-entries x b c (answers x b ws) in
+    let q = lists-entries x b d (answers x b vs) in
     record {
       list = less-list x b ws vs s;
-      entries = lists-entries x b d (answers x b vs) ∙ s .cut ∙ ap (take (length vs / wordsPerEntry)) (sym (lists-entries x b c (answers x b ws)));
+      entries = q ∙ s .cut ∙ ap (take (length vs / wordsPerEntry)) (sym p);
       result = by (s .verdict);
     }
   where
@@ -253,4 +271,5 @@ less-room-calls x x′ b c d h k e l =
     let n : length (d .before) + (length (c .before) - length (d .before)) ≡ length (c .before) = omega arith in
     let s : Shorter (readAll x b (length (d .before))) (readAll x b (length (c .before))) (length (d .before)) =
     subst (λ z. Shorter (readAll x b (length (d .before))) (readAll x b z) (length (d .before))) n (shorter x b (length (d .before)) _) in
-    subst (LessRoom c) (is-answer x b d k′) (subst (λ z. LessRoom z (answer x b (d .before))) (is-answer x b c h) (less-room x b (c .before) (d .before) s))
+    let r = less-room x b (c .before) (d .before) s in
+    subst (LessRoom c) (is-answer x b d k′) (subst (λ z. LessRoom z (answer x b (d .before))) (is-answer x b c h) r)

@@ -162,7 +162,7 @@ module _ (t : Asked) (w : Fitting Positive (λ r. Any) Any t) (only : HeaderOnly
 
   -- A packet that the list shows
 
-  record Found (n : ℕ) (s : State) (es : List Entry) : Type 0 where
+  record PacketShown (n : ℕ) (s : State) (es : List Entry) : Type 0 where
     from : s .place .0 ≤ placeIn (fromPacket n es)
     whole : placeIn (fromPacket n es) % 8 ≡ 0
     whole-total : totalIn (fromPacket n es) % 8 ≡ 0
@@ -172,7 +172,7 @@ module _ (t : Asked) (w : Fitting Positive (λ r. Any) Any t) (only : HeaderOnly
     leaves : s .place .0 + totalIn (fromPacket n es) + 8 * packetsIn es ≤ 8 * length b + 8
 
   found-here : (k : ℕ) (i : Stated) (left : ℕ) (s : State) (es : List Entry) (u : State) → s .place .0 % 8 ≡ 0 → Round k i left s es u
-      → Found k s es
+      → PacketShown k s es
   found-here k i left s es u z r =
       let p : placeIn (fromPacket k es) ≡ s .place .0 = place-here k i left s es u r in
       let q : s .place .0 + totalIn (fromPacket k es) ≡ r .middle .place .0 = total-here k i left s es u r in
@@ -193,7 +193,7 @@ module _ (t : Asked) (w : Fitting Positive (λ r. Any) Any t) (only : HeaderOnly
       }
 
   found-later : (n k : ℕ) (i : Stated) (left : ℕ) (s : State) (es : List Entry) (u : State) → (k ≡ n → ⊥) → (r : Round k i left s es u)
-      → Found n (r .middle) (r .second) → Found n s es
+      → PacketShown n (r .middle) (r .second) → PacketShown n s es
   found-later n k i left s es u d r f =
       let g : fromPacket n es ≡ fromPacket n (r .second) = from-later k i left s es u r n d in
       let p : placeIn (fromPacket n es) ≡ placeIn (fromPacket n (r .second)) = ap placeIn g in
@@ -218,7 +218,7 @@ module _ (t : Asked) (w : Fitting Positive (λ r. Any) Any t) (only : HeaderOnly
 
   found : (left n k : ℕ) (i : Stated) (s : State) (es : List Entry) (u : State) → s .place .0 % 8 ≡ 0
       → readPackets t b k i left s ≡ go es u → k ≤ n
-      → n < k + packetsIn es → Found n s es
+      → n < k + packetsIn es → PacketShown n s es
   found zero n k i s es u z q l h =
       let e : packetsIn es ≡ 0 = ap packetsIn (none-left k i s es u q) ∙ (unfold packetsIn in refl) in
       absurd (omega arith)
@@ -228,14 +228,14 @@ module _ (t : Asked) (w : Fitting Positive (λ r. Any) Any t) (only : HeaderOnly
       by : (es ≡ []) ⊎ Round k i left s es u
           → ((m : State) (fs : List Entry) → m .place .0 % 8 ≡ 0 → readPackets t b (k + 1) (As (m .said .stream)) left m ≡ go fs u
           → k + 1 ≤ n
-          → n < k + 1 + packetsIn fs → Found n m fs) → Found n s es
+          → n < k + 1 + packetsIn fs → PacketShown n m fs) → PacketShown n s es
       by (inl e) rec =
           let c : packetsIn es ≡ 0 = ap packetsIn e ∙ (unfold packetsIn in refl) in
           absurd (omega arith)
       by (inr r) rec = ⊎-elim
           (λ (g : k < n). found-later n k i left s es u (λ e. omega arith) r
           (rec (r .middle) (r .second) (r .packet .whole) (r .goes-on) (omega arith) (omega (arith, counted k i left s es u r))))
-          (λ (g : n ≤ k). let e : k ≡ n = omega arith in subst (λ m. Found m s es) e (found-here k i left s es u z r))
+          (λ (g : n ≤ k). let e : k ≡ n = omega arith in subst (λ m. PacketShown m s es) e (found-here k i left s es u z r))
           (lt-or-ge k n)
 
   -- The stream without a packet
@@ -395,7 +395,7 @@ module _ (t : Asked) (w : Fitting Positive (λ r. Any) Any t) (only : HeaderOnly
                 let m : n < k + 1 + packetsIn (r .second) = omega (arith, counted k i left s es u r) in
                 let v : fromPacket n es ≡ fromPacket n (r .second) = from-later k i left s es u r n (λ d. omega arith) in
                 let a : placeIn (fromPacket n (r .second)) ≡ place = ap placeIn (sym v) ∙ p in
-                let y : Found n (r .middle) (r .second) =
+                let y : PacketShown n (r .middle) (r .second) =
                 found left n (k + 1) (As (r .middle .said .stream)) (r .middle) (r .second) u (r .packet .whole) (r .goes-on)
                 (omega arith) m in
                 let d : r .middle .place .0 ≤ placeIn (fromPacket n (r .second)) = y .from in
@@ -437,7 +437,7 @@ module _ (t : Asked) (w : Fitting Positive (λ r. Any) Any t) (only : HeaderOnly
       unfolding begin
       whole-start = refl
 
-      f : Found n (begin room) es
+      f : PacketShown n (begin room) es
       f = found (length b) n 0 Missing (begin room) es u whole-start q (omega arith) (omega arith)
 
       abbrev left : List ℕ

@@ -24,8 +24,10 @@ use Rattle.rules.specs.declared.Ended.{Ended}
 use Rattle.rules.specs.declared.Ended.the-variants.{After, Never}
 use Rattle.rules.specs.declared.Entry.{Entry}
 use Rattle.rules.specs.declared.Refusal.{Refusal}
-use Rattle.rules.specs.declared.Refusal.the-variants.{StreamSize, PastBound, OrderChanged, LebTooLarge, NoZeroByte, SlotUnset, SlotOfWrongSort, LengthTooLarge, SelectorInNoOption, WrongMagic, WrongUuid}
-use Rattle.rules.specs.declared.Refusal.the-variants.{StreamClassChanged, StreamClassUnknown, LengthsContradict, ClocksContradict, EventClassUnknown, EventTookNoBits, ClockWentBack, ListFull}
+use Rattle.rules.specs.declared.Refusal.the-variants.{StreamSize, PastBound, OrderChanged, LebTooLarge, NoZeroByte, SlotUnset}
+use Rattle.rules.specs.declared.Refusal.the-variants.{SlotOfWrongSort, LengthTooLarge, SelectorInNoOption, WrongMagic, WrongUuid}
+use Rattle.rules.specs.declared.Refusal.the-variants.{StreamClassChanged, StreamClassUnknown, LengthsContradict, ClocksContradict}
+use Rattle.rules.specs.declared.Refusal.the-variants.{EventClassUnknown, EventTookNoBits, ClockWentBack, ListFull}
 use Rattle.rules.specs.declared.Verdict.the-variants.{Refused}
 use Rattle.rules.specs.Limits.{streamLimit}
 use Rattle.rules.specs.Bits.{bits}
@@ -36,12 +38,16 @@ use Rattle.rules.specs.Place.{bitPlace, further}
 use Rattle.rules.specs.Slots.{slotAt}
 use Rattle.rules.specs.Verdict.{stopAt, refusalNumber, numberOf, placeOf}
 use Rattle.rules.specs.Entry.{entry, packetStarts, streamClassFound, lengthsSettled, eventStarts, eventClassFound, clockAdvanced}
-use Rattle.rules.specs.Step.{State, Out, stop, go, Step, onto, after, _⨾_, refuse, check, due, listed, change, pass, withSlots, withOrder, withClock, withLast, withSaid}
-use Rattle.rules.specs.Class.{Role, noRole, magic, streamClassId, streamId, uuid, totalLength, contentLength, clock, endClock, discarded, sequence, eventClassId}
+use Rattle.rules.specs.Step.{State, Out, stop, go, Step, onto, after, _⨾_, refuse, check, due, listed}
+use Rattle.rules.specs.Step.{change, pass, withSlots, withOrder, withClock, withLast, withSaid}
+use Rattle.rules.specs.Class.{Role, noRole, magic, streamClassId, streamId, uuid, totalLength}
+use Rattle.rules.specs.Class.{contentLength, clock, endClock, discarded, sequence, eventClassId}
 use Rattle.rules.specs.Class.{Class, Sort, bitArray, boolean, unsignedInt, signedInt, float, kindOf}
 use Rattle.rules.specs.Table.{StreamClass, EventClass, Table, Asked, asked}
-use Rattle.rules.specs.Field.{Env, aligned, fit, field, store, newClock, say, role, blobRole, fromSlot, valueOf, ahead, bytesAt, readFixed, readLeb, readZero, readText, readBlob}
-use Rattle.rules.specs.Packet.{mark, readRoot, withEvent, withStream, startEvent, startPacket, endPacket, readEvent, readEvents, readContent, readPacket, readPackets}
+use Rattle.rules.specs.Field.{Env, aligned, fit, field, store, newClock, say, role, blobRole, fromSlot}
+use Rattle.rules.specs.Field.{valueOf, ahead, bytesAt, readFixed, readLeb, readZero, readText, readBlob}
+use Rattle.rules.specs.Packet.{mark, readRoot, withEvent, withStream, startEvent, startPacket}
+use Rattle.rules.specs.Packet.{endPacket, readEvent, readEvents, readContent, readPacket, readPackets}
 use Rattle.rules.specs.Parse.{Parsed, bad, good, parse}
 use Rattle.rules.specs.Read.{Reading, ended, begin, readStream, readParsed, readAll}
 use Rattle.facts.proofs.Steps.{onto-nil}
@@ -64,15 +70,21 @@ advance-low c l v =
 some-some : (a b : ℕ) → some a ≡ some b → a ≡ b
 some-some a b h = cc
 
+-- what a stamp adds gives the least value
+advance-least : (c l v : ℕ) → Least c l (v % 2 ^ l) (c + advance c l v)
+advance-least c l v =
+    subst (Least c l (v % 2 ^ l)) (ap (λ z. c + z) (advance-low c l v)) (new-clock .is-least c l (v % 2 ^ l) (mod-lt v (pow-pos l)))
+
 pub after-least : (c l v n : ℕ) → clockAfter c l v ≡ some n → Least c l (v % 2 ^ l) n × (n < 2 ^ 64)
 unfolding clockAfter
 after-least c l v n h = by (ltb (c + advance c l v) (2 ^ 64)) refl h
   where
-    by : (b : Bool) → ltb (c + advance c l v) (2 ^ 64) ≡ b → elim b [ true ↦ some (c + advance c l v) | false ↦ none ] ≡ some n → Least c l (v % 2 ^ l) n × (n < 2 ^ 64)
+    by : (b : Bool) → ltb (c + advance c l v) (2 ^ 64) ≡ b → elim b [ true ↦ some (c + advance c l v) | false ↦ none ] ≡ some n
+        → Least c l (v % 2 ^ l) n × (n < 2 ^ 64)
     by true e k =
         let p : c + advance c l v ≡ n = some-some _ _ k in
         let q : c + advance c l v < 2 ^ 64 = ltb-true _ _ e in
-        (subst (Least c l (v % 2 ^ l)) (ap (λ z. c + z) (advance-low c l v) ∙ p) (new-clock .is-least c l (v % 2 ^ l) (mod-lt v (pow-pos l))), omega arith)
+        (subst (Least c l (v % 2 ^ l)) p (advance-least c l v), omega arith)
     by false e k = let z : _≡_ {A = ℕ} 0 1 = cc in absurd (omega arith)
 
 -- and where there is none, the least value does not fit
@@ -84,10 +96,7 @@ after-none c l v h = by (ltb (c + advance c l v) (2 ^ 64)) refl h
         → _≡_ {A = Option ℕ} (elim b [ true ↦ some (c + advance c l v) | false ↦ none ]) none
         → Least c l (v % 2 ^ l) (c + advance c l v) × (2 ^ 64 ≤ c + advance c l v)
     by true e k = let z : _≡_ {A = ℕ} 0 1 = cc in absurd (omega arith)
-    by false e k = (
-      subst (Least c l (v % 2 ^ l)) (ap (λ z. c + z) (advance-low c l v)) (new-clock .is-least c l (v % 2 ^ l) (mod-lt v (pow-pos l))),
-      ltb-false _ _ e,
-    )
+    by false e k = (advance-least c l v, ltb-false _ _ e)
 
 -- Refusals
 
@@ -109,7 +118,8 @@ lastOf : Entry → List Entry → Entry
 lastOf p [] = p
 lastOf p (e ∷ es) = lastOf e es
 
-ticking-append : (es fs : List Entry) (c : ℕ) (p : Entry) → Ticking c p es → Ticking (clocksBehind c es) (lastOf p es) fs → Ticking c p (es ++ fs)
+ticking-append : (es fs : List Entry) (c : ℕ) (p : Entry) → Ticking c p es → Ticking (clocksBehind c es) (lastOf p es) fs
+    → Ticking c p (es ++ fs)
 unfolding clocksBehind lastOf
 ticking-append [] fs c p h k = k
 ticking-append (e ∷ es) fs c p h k = (h .0, ticking-append es fs (clockBehind c e) e (h .1) k)
@@ -147,7 +157,8 @@ record TickAt (p : Entry) (m : Step) : Type 0 where
 record Tick (m : Step) : Type 0 where
   at : (p : Entry) (s : State) → TickOut (s .clock) p (m s)
 
-tick-onto : (c : ℕ) (p : Entry) (es : List Entry) (o : Out) → Ticking c p es → TickOut (clocksBehind c es) (lastOf p es) o → TickOut c p (onto es o)
+tick-onto : (c : ℕ) (p : Entry) (es : List Entry) (o : Out) → Ticking c p es → TickOut (clocksBehind c es) (lastOf p es) o
+    → TickOut c p (onto es o)
 unfolding onto
 tick-onto c p es (stop fs w) h k = (
   ticking-append es fs c p h (k .0),
@@ -158,7 +169,8 @@ tick-onto c p es (go fs s) h k = (ticking-append es fs c p h (k .0), behind-appe
 tick-after : (c : ℕ) (p : Entry) (o : Out) (n : Step) → TickOut c p o → Tick n → TickOut c p (after o n)
 unfolding after
 tick-after c p (stop es w) n h k = h
-tick-after c p (go es s) n h k = tick-onto c p es (n s) (h .0) (subst (λ z. TickOut z (lastOf p es) (n s)) (sym (h .1)) (k .at (lastOf p es) s))
+tick-after c p (go es s) n h k =
+    tick-onto c p es (n s) (h .0) (subst (λ z. TickOut z (lastOf p es) (n s)) (sym (h .1)) (k .at (lastOf p es) s))
 
 infixr 20 _⨾ᵗ_
 _⨾ᵗ_ : {m n : Step} → Tick m → Tick n → Tick (m ⨾ n)
@@ -212,7 +224,8 @@ tick-field e k a n v h = record { at = λ u s. tick-listed u _ _ s (field-still 
 -- an entry that is neither, and what comes behind it
 tick-behind : (c : ℕ) (p x : Entry) (o : Out) → Still (x .kind) → TickOut c x o → TickOut c p (onto (x ∷ []) o)
 unfolding clocksBehind lastOf
-tick-behind c p x o h k = tick-onto c p (x ∷ []) o ((λ q. absurd (h .not-clock q)), tt) (subst (λ z. TickOut z x o) (sym (still-behind c x h)) k)
+tick-behind c p x o h k =
+    tick-onto c p (x ∷ []) o ((λ q. absurd (h .not-clock q)), tt) (subst (λ z. TickOut z x o) (sym (still-behind c x h)) k)
 
 tick-valued : (e : Env) (k a n v : ℕ) → FieldKind k → {m : Step} → ((q : BitPlace) → TickAt (entry k q n v) m) → Tick (field e k a n v ⨾ m)
 unfolding field listed _⨾_ after
@@ -221,7 +234,8 @@ tick-valued e k a n v h {m} g = record { at = λ p s. tick-behind (s .clock) p _
 at-any : (p : Entry) {m : Step} → Tick m → TickAt p m
 at-any p h = record { at = λ s l. h .at p s }
 
-at-change : (p : Entry) (f : State → State) → ((s : State) → (f s) .clock ≡ s .clock) → ((s : State) → (f s) .place ≡ s .place) → {m : Step} → TickAt p m → TickAt p (change f ⨾ m)
+at-change : (p : Entry) (f : State → State) → ((s : State) → (f s) .clock ≡ s .clock) → ((s : State) → (f s) .place ≡ s .place)
+    → {m : Step} → TickAt p m → TickAt p (change f ⨾ m)
 unfolding change _⨾_ after
 at-change p f h k {m} g = record {
   at = λ s l. rw (onto-nil (m (f s))) (subst (λ z. TickOut z p (m (f s))) (h s) (g .at (f s) (ap (λ q. q .0) (k s) ∙ l)));
@@ -233,7 +247,11 @@ at-clock : (l : ℕ) (p : Entry) → FieldKind (p .kind) → l ≡ stampBits p
 unfolding due check _⨾_ pass refuse after refusalNumber
 at-clock l p f k = record { at = λ s g. by s g (ltb (s .room) 4) }
   where
-    new : (s : State) → s .place .0 ≡ p .place .0 + p .bits → (o : Option ℕ) → clockAfter (s .clock) l (p .value) ≡ o → TickOut (s .clock) p (newClock l o s)
+    stamped : Step
+    stamped s = newClock l (clockAfter (s .clock) l (p .value)) s
+
+    new : (s : State) → s .place .0 ≡ p .place .0 + p .bits → (o : Option ℕ) → clockAfter (s .clock) l (p .value) ≡ o
+        → TickOut (s .clock) p (newClock l o s)
     new s g none e = unfold newClock refuse lastOf clocksBehind in
         let x = after-none (s .clock) l (p .value) e in (
           tt,
@@ -250,9 +268,9 @@ at-clock l p f k = record { at = λ s g. by s g (ltb (s .room) 4) }
         (((λ q. record { place = g; bits = k; least = x .0; fits = x .1 }), tt), refl)
 
     by : (s : State) → s .place .0 ≡ p .place .0 + p .bits → (b : Bool)
-        → TickOut (s .clock) p (after (elim b [ true ↦ refuse ListFull s | false ↦ pass s ]) (λ s. newClock l (clockAfter (s .clock) l (p .value)) s))
+        → TickOut (s .clock) p (after (elim b [ true ↦ refuse ListFull s | false ↦ pass s ]) stamped)
     by s g true = unfold refuse after in (tt, λ q. absurd (omega arith))
-    by s g false = unfold pass after in rw (onto-nil (newClock l (clockAfter (s .clock) l (p .value)) s)) (new s g (clockAfter (s .clock) l (p .value)) refl)
+    by s g false = unfold pass after in rw (onto-nil (stamped s)) (new s g (clockAfter (s .clock) l (p .value)) refl)
 
 at-role : (r : Role) (l : ℕ) (p : Entry) → FieldKind (p .kind) → (r ≡ clock → l ≡ stampBits p) → TickAt p (role r l (p .value))
 unfolding role say withSaid refusalNumber
@@ -327,8 +345,8 @@ module _ (e : Env) where
             (at-change _ _ (λ s. refl) (λ s. refl) (at-role r n x (kind-field k) (λ h. fixed-bits k q n _)))) .at u s;
       }
 
-  tick-leb : (k : ℕ) (c : ℕ → Content) (i : ℕ) (r : Role) (x : Leb) → FieldKind k → ((q : BitPlace) (n v : ℕ) → r ≡ clock → 7 * n ≡ stampBits (entry k q (8 * n) v))
-      → Tick (readLeb e k c i r x)
+  tick-leb : (k : ℕ) (c : ℕ → Content) (i : ℕ) (r : Role) (x : Leb) → FieldKind k
+      → ((q : BitPlace) (n v : ℕ) → r ≡ clock → 7 * n ≡ stampBits (entry k q (8 * n) v)) → Tick (readLeb e k c i r x)
   unfolding readLeb store withSlots refusalNumber
   tick-leb k c i r (Value v n) h l =
       tick-valued e k 8 (8 * n .0) v h
@@ -355,13 +373,23 @@ module _ (e : Env) where
     within = λ n h. tick-check _ LengthTooLarge (λ q. omega arith) ⨾ᵗ h;
     slot = λ i f h. record { at = λ v s. h (slotAt (s .slots) i) (any-slot (slotAt (s .slots) i)) .at v s };
     fixes = λ k n o a i r w z. tick-fixed k n o (2 ^ a) i r;
-    lebs = λ i r z. tick-fit 8 0 ⨾ᵗ record { at = λ v s. tick-leb 21 Unsigned i r (lebUnsigned (ahead e (aligned e 8 s))) (omega arith) (λ q n v h. leb-bits q n v) .at v s };
-    signedLebs = λ i z. tick-fit 8 0 ⨾ᵗ record { at = λ v s. tick-leb 22 Signed i noRole (lebSigned (ahead e (aligned e 8 s))) (omega arith) (λ q n v h. no-clock h) .at v s };
+    lebs = λ i r z. tick-fit 8 0 ⨾ᵗ record {
+      at = λ v s.
+          let x = lebUnsigned (ahead e (aligned e 8 s)) in
+          tick-leb 21 Unsigned i r x (omega arith) (λ q n v h. leb-bits q n v) .at v s;
+    };
+    signedLebs = λ i z. tick-fit 8 0 ⨾ᵗ record {
+      at = λ v s.
+          let x = lebSigned (ahead e (aligned e 8 s)) in
+          tick-leb 22 Signed i noRole x (omega arith) (λ q n v h. no-clock h) .at v s;
+    };
     zeros = tick-fit 8 0 ⨾ᵗ record { at = λ v s. tick-zero (zeroAt (ahead e (aligned e 8 s))) .at v s };
     texts = λ k n h. unfold readText in
-        tick-fit 8 0 ⨾ᵗ tick-fit 8 (8 * n) ⨾ᵗ record { at = λ v s. tick-field e k 8 (8 * n) (textLength (bytesAt e (aligned e 8 s) n)) h .at v s };
+        tick-fit 8 0 ⨾ᵗ tick-fit 8 (8 * n)
+        ⨾ᵗ record { at = λ v s. tick-field e k 8 (8 * n) (textLength (bytesAt e (aligned e 8 s) n)) h .at v s };
     blobs = λ k n r h. unfold readBlob in
-        tick-fit 8 0 ⨾ᵗ tick-fit 8 (8 * n) ⨾ᵗ record { at = λ v s. (tick-field e k 8 (8 * n) n h ⨾ᵗ tick-blobRole e r (bytesAt e (aligned e 8 s) n)) .at v s };
+        tick-fit 8 0 ⨾ᵗ tick-fit 8 (8 * n)
+        ⨾ᵗ record { at = λ v s. (tick-field e k 8 (8 * n) n h ⨾ᵗ tick-blobRole e r (bytesAt e (aligned e 8 s) n)) .at v s };
     heads = λ k a v h l w x. tick-fit a 0 ⨾ᵗ tick-field e k a 0 v h ⨾ᵗ x;
     tags = λ k v h w x. tick-field e k 1 0 v h ⨾ᵗ x;
     tag = λ k v h w. tick-field e k 1 0 v h;
@@ -387,7 +415,8 @@ module _ (t : Asked) where
         ⨾ᵗ tick-change _ (λ s. refl) ⨾ᵗ tick-due
         ⨾ᵗ record {
           at = λ v s. tick-found (c .id) (s .said .event) (t .event (c .id) (s .said .event)) _
-              (λ d. tick-mark eventClassFound 0 (s .said .event) (still 5 (λ q. omega arith) (λ q. omega arith)) ⨾ᵗ tick-root e (c .common) ⨾ᵗ tick-root e (d .specific) ⨾ᵗ tick-root e (d .payload)) .at v s;
+              (λ d. tick-mark eventClassFound 0 (s .said .event) (still 5 (λ q. omega arith) (λ q. omega arith))
+              ⨾ᵗ tick-root e (c .common) ⨾ᵗ tick-root e (d .specific) ⨾ᵗ tick-root e (d .payload)) .at v s;
         }
         ⨾ᵗ tick-check (λ s. eqb (s .place .0) (s₀ .place .0)) EventTookNoBits (λ q. omega arith)) .at v s₀;
   }
@@ -400,7 +429,9 @@ module _ (t : Asked) where
   unfolding readEvents
   tick-events c e to n zero = tick-end to n
   tick-events c e to n (suc left) = record {
-    at = λ v s. tick-if (s .clock) v (ltb (s .place .0) (e .bound .0)) _ _ ((tick-event c e n ⨾ᵗ tick-events c e to (n + 1) left) .at v s) (tick-end to n .at v s);
+    at = λ v s.
+        tick-if (s .clock) v (ltb (s .place .0) (e .bound .0)) _ _
+        ((tick-event c e n ⨾ᵗ tick-events c e to (n + 1) left) .at v s) (tick-end to n .at v s);
   }
 
   tick-content : (c : StreamClass) (b : List ℕ) (p : BitPlace) (total content : ℕ) → Tick (readContent t c b p total content)
@@ -431,7 +462,8 @@ module _ (t : Asked) where
         (tick-due ⨾ᵗ tick-start k (tick-root _ (t .header) ⨾ᵗ tick-check _ StreamClassChanged (λ q. omega arith) ⨾ᵗ tick-due
         ⨾ᵗ record {
           at = λ v s. tick-stream (s .said .stream) (t .stream (s .said .stream)) _
-              (λ c. tick-mark streamClassFound 0 (s .said .stream) (still 2 (λ q. omega arith) (λ q. omega arith)) ⨾ᵗ tick-root _ (c .context)
+              (λ c. tick-mark streamClassFound 0 (s .said .stream) (still 2 (λ q. omega arith) (λ q. omega arith))
+              ⨾ᵗ tick-root _ (c .context)
               ⨾ᵗ record { at = λ v s. tick-content c b (s₀ .place) _ _ .at v s }) .at v s;
         })) .at v s₀;
   }
@@ -442,7 +474,8 @@ module _ (t : Asked) where
   tick-packets b k i (suc left) = record {
     at = λ v s.
         tick-if (s .clock) v (ltb (s .place .0) (8 * length b)) _ _
-        ((tick-packet b k i ⨾ᵗ record { at = λ v s. tick-packets b (k + 1) (As (s .said .stream)) left .at v s }) .at v s) (tick-pass .at v s);
+        ((tick-packet b k i ⨾ᵗ record { at = λ v s. tick-packets b (k + 1) (As (s .said .stream)) left .at v s }) .at v s)
+        (tick-pass .at v s);
   }
 
 -- Readings

@@ -10,15 +10,18 @@ use lib.Seq.{take-at}
 use lib.Dec.{ltb, eqb}
 use borrow.Author.Tests.{ltb-false, le-ltb, eqb-true, eq-eqb}
 use Rattle.rules.specs.Class.{Class}
-use Rattle.rules.specs.Record.{Record, unknown, fragment, root, class, range, option, Fragment, preamble, traceClass, clockClass, streamClass, eventClass, recordOf, size, behind}
+use Rattle.rules.specs.Record.{Record, unknown, fragment, root, class, range, option, Fragment, preamble}
+use Rattle.rules.specs.Record.{traceClass, clockClass, streamClass, eventClass, recordOf, size, behind}
 use Rattle.rules.specs.Table.{Table}
-use Rattle.rules.specs.Parse.{Parsed, bad, good, Parser, then, sound, missing, one, anyRoot, parseRoots, parseFragment, parseOpened, parseFragments, add, isTimed, hasUuid, rootNumbers, noTable, parse}
-use Rattle.rules.specs.Faults.{pick, Seen, recordFault, fragmentFault, among, pairAmong, many, openFault, seen, firstFault, noneSeen}
+use Rattle.rules.specs.Parse.{Parsed, bad, good, Parser, then, sound, missing, one, anyRoot, parseRoots, parseFragment}
+use Rattle.rules.specs.Parse.{parseOpened, parseFragments, add, isTimed, hasUuid, rootNumbers, noTable, parse}
+use Rattle.rules.specs.Faults.{pick, Ids, recordFault, fragmentFault, among, pairAmong, many, openFault, seen, firstFault, noIds}
 use Rattle.facts.proofs.Truth.{or-false, and-left}
 use Rattle.facts.proofs.Faults.{pick-zero, pick-false}
 use Rattle.laws.proofs.Sound.{Sound, no-fault}
 use Rattle.promises.proofs.TableRounds.{behind-less}
-use Rattle.promises.proofs.Local.{Whole, Plain, nothing, after, isFragment, whole-size, whole-record, whole-behind, whole-missing, first-whole, first-split, first-record, bad-good, one-whole}
+use Rattle.promises.proofs.Local.{Whole, Plain, nothing, after, isFragment, whole-size, whole-record, whole-behind}
+use Rattle.promises.proofs.Local.{whole-missing, first-whole, first-split, first-record, bad-good, one-whole}
 use Rattle.promises.proofs.Roots.{Stops, Rooted, roots-local}
 use Rattle.promises.specs.Edition.{keep, keepStreams, keepEvents, both, stays, part, leaveRecords, leave, Editions}
 
@@ -43,19 +46,29 @@ unfolding then
 through (bad n x) F b y h = absurd (bad-good n x b y h)
 through (good a x) F b y h = record { a = a; x = x; first = refl; second = h }
 
-record Opens (n : ℕ) (q : Seen) (x : List ℕ) (t : Table) (y : List ℕ) : Type 0 where
+-- a fragment's first record that has no fault behind what was seen
+abbrev Clean : Ids → Fragment → Type 0
+Clean q g = recordFault false q (fragment g) (openFault q (fragment g)) ≡ 0
+
+-- the roots of a fragment, from x to y
+abbrev RootsOf : Fragment → List ℕ → List (Option Class) → List ℕ → Type 0
+RootsOf g x cs y = Rooted (isTimed g) (hasUuid g) (rootNumbers g) x cs y
+
+record ParsedFragment (n : ℕ) (q : Ids) (x : List ℕ) (t : Table) (y : List ℕ) : Type 0 where
   g : Fragment
   fits : size x ≤ length x
   is : recordOf x ≡ fragment g
-  clean : recordFault false q (fragment g) (openFault q (fragment g)) ≡ 0
+  clean : Clean q g
   goes : parseFragment q (parseFragments n) g (behind x) ≡ good t y
 
-opens : (n : ℕ) (q : Seen) (x : List ℕ) (t : Table) (y : List ℕ) → missing x ≡ false → parseFragments (suc n) q x ≡ good t y → Opens n q x t y
+opens : (n : ℕ) (q : Ids) (x : List ℕ) (t : Table) (y : List ℕ)
+    → missing x ≡ false → parseFragments (suc n) q x ≡ good t y → ParsedFragment n q x t y
 unfolding parseFragments one sound parseOpened openFault
-opens n q x t y m h = by (pick (missing x) 3 (recordFault (ltb (length x) (size x)) q (recordOf x) (openFault q (recordOf x)))) refl (rw (m, parseFragments) at h)
+opens n q x t y m h = by _ refl (rw (m, parseFragments) at h)
   where
-    nine : (r : Record) → recordOf x ≡ r → Sound (missing x) (ltb (length x) (size x)) (openFault q r) → recordFault (ltb (length x) (size x)) q r (openFault q r) ≡ 0
-        → parseOpened q (parseFragments n) r (behind x) ≡ good t y → Opens n q x t y
+    nine : (r : Record) → recordOf x ≡ r → Sound (missing x) (ltb (length x) (size x)) (openFault q r)
+        → recordFault (ltb (length x) (size x)) q r (openFault q r) ≡ 0
+        → parseOpened q (parseFragments n) r (behind x) ≡ good t y → ParsedFragment n q x t y
     nine unknown e s c h = absurd (omega (arith, s .later))
     nine (fragment g) e s c h = record { g = g; fits = ltb-false _ _ (s .fits); is = e; clean = rw (s .fits) at c; goes = h }
     nine (root r) e s c h = absurd (omega (arith, s .later))
@@ -64,11 +77,24 @@ opens n q x t y m h = by (pick (missing x) 3 (recordFault (ltb (length x) (size 
     nine (option k) e s c h = absurd (omega (arith, s .later))
 
     by : (v : ℕ) → pick (missing x) 3 (recordFault (ltb (length x) (size x)) q (recordOf x) (openFault q (recordOf x))) ≡ v
-        → sound v x (λ x′. parseOpened q (parseFragments n) (recordOf x) x′) ≡ good t y → Opens n q x t y
-    by zero e h = nine (recordOf x) refl (no-fault (missing x) (ltb (length x) (size x)) q (recordOf x) (openFault q (recordOf x)) e) (pick-zero (missing x) 2 _ e) h
+        → sound v x (λ x′. parseOpened q (parseFragments n) (recordOf x) x′) ≡ good t y → ParsedFragment n q x t y
+    by zero e h =
+        let s = no-fault (missing x) (ltb (length x) (size x)) q (recordOf x) (openFault q (recordOf x)) e in
+        nine (recordOf x) refl s (pick-zero (missing x) 2 _ e) h
     by (suc v) e h = absurd (bad-good (suc v) x t y h)
 
 module _ (ks : ℕ → Bool) (ke : ℕ → ℕ → Bool) where
+  -- what a round leaves of x, with n more behind it, by whether x is at its end
+  abbrev round : ℕ → Bool → List ℕ → Bool → List ℕ
+  round n now x b = elim b [
+    | true ↦ []
+    | false ↦ part ks ke (stays ks ke now (recordOf x)) x ++ leaveRecords ks ke n (stays ks ke now (recordOf x)) (behind x)
+  ]
+
+  -- n rounds and m rounds leave the same of x
+  abbrev Agree : ℕ → ℕ → List ℕ → Type 0
+  Agree n m x = (now : Bool) → length x ≤ n → length x ≤ m → leaveRecords ks ke n now x ≡ leaveRecords ks ke m now x
+
   enough : (n m : ℕ) (now : Bool) (x : List ℕ) → length x ≤ n → length x ≤ m → leaveRecords ks ke n now x ≡ leaveRecords ks ke m now x
   unfolding leaveRecords missing
   enough zero zero now x h k = refl
@@ -76,9 +102,7 @@ module _ (ks : ℕ → Bool) (ke : ℕ → ℕ → Bool) where
   enough (suc n) zero now x h k = rw (nil-of x k) refl
   enough (suc n) (suc m) now x h k = by (λ s a b. enough n m s (behind x) a b) (missing x) refl
     where
-      by : ((s : Bool) → length (behind x) ≤ n → length (behind x) ≤ m → leaveRecords ks ke n s (behind x) ≡ leaveRecords ks ke m s (behind x)) → (b : Bool) → missing x ≡ b
-          → _≡_ {A = List ℕ} (elim b [ true ↦ [] | false ↦ part ks ke (stays ks ke now (recordOf x)) x ++ leaveRecords ks ke n (stays ks ke now (recordOf x)) (behind x) ])
-          (elim b [ true ↦ [] | false ↦ part ks ke (stays ks ke now (recordOf x)) x ++ leaveRecords ks ke m (stays ks ke now (recordOf x)) (behind x) ])
+      by : Agree n m (behind x) → (b : Bool) → missing x ≡ b → round n now x b ≡ round m now x b
       by rec true e = refl
       by rec false e = ap (λ l. part ks ke (stays ks ke now (recordOf x)) x ++ l) (rec _ (behind-less x n e h) (behind-less x m e k))
 
@@ -90,12 +114,14 @@ module _ (ks : ℕ → Bool) (ke : ℕ → ℕ → Bool) where
   part-whole true w z h = rw (whole-size w z h) (take-at w z (size w) (h .whole))
   part-whole false w z h = refl
 
-  left-whole : (now : Bool) (w z : List ℕ) → Whole w → left now (w ++ z) ≡ keepIf (stays ks ke now (recordOf w)) w ++ left (stays ks ke now (recordOf w)) z
+  left-whole : (now : Bool) (w z : List ℕ) → Whole w
+      → left now (w ++ z) ≡ keepIf (stays ks ke now (recordOf w)) w ++ left (stays ks ke now (recordOf w)) z
   unfolding left leaveRecords missing
   left-whole now [] z h = let x : _≡_ {A = ℕ} 0 1 = cc (h .there) in absurd (omega arith)
   left-whole now (b ∷ w) z h =
-      rw (whole-record (b ∷ w) z h, part-whole (stays ks ke now (recordOf (b ∷ w))) (b ∷ w) z h, whole-behind (b ∷ w) z h)
-      (ap (λ l. keepIf (stays ks ke now (recordOf (b ∷ w))) (b ∷ w) ++ l) (enough (length (w ++ z)) (length z) (stays ks ke now (recordOf (b ∷ w))) z (rw (length-append w z) (omega arith)) (omega arith)))
+      let s = stays ks ke now (recordOf (b ∷ w)) in
+      let e = enough (length (w ++ z)) (length z) s z (rw (length-append w z) (omega arith)) (omega arith) in
+      rw (whole-record (b ∷ w) z h, part-whole s (b ∷ w) z h, whole-behind (b ∷ w) z h) (ap (λ l. keepIf s (b ∷ w) ++ l) e)
 
   stays-plain : (now : Bool) (r : Record) → isFragment r ≡ false → stays ks ke now r ≡ now
   unfolding stays isFragment
@@ -121,11 +147,12 @@ module _ (ks : ℕ → Bool) (ke : ℕ → ℕ → Bool) where
   left-plain now u z nothing = rw (if-nil now) refl
   left-plain now u z (after {u = v} w hw k p) =
       rw (append-assoc w v z)
-      (left-whole now w (v ++ z) hw ∙ rw (stays-plain now (recordOf w) k) (ap (λ l. keepIf now w ++ l) (left-plain now v z p) ∙ if-append now w v (left now z)))
+      (left-whole now w (v ++ z) hw
+      ∙ rw (stays-plain now (recordOf w) k) (ap (λ l. keepIf now w ++ l) (left-plain now v z p) ∙ if-append now w v (left now z)))
 
   -- what the short table has seen
 
-  record Fewer (q q′ : Seen) : Type 0 where
+  record Fewer (q q′ : Ids) : Type 0 where
     trace : q′ .trace ≡ q .trace
     clocks : q′ .clocks ≡ q .clocks
     streams : (i : ℕ) → ks i ≡ true → among i (q′ .streams) ≡ among i (q .streams)
@@ -133,15 +160,19 @@ module _ (ks : ℕ → Bool) (ke : ℕ → ℕ → Bool) where
     streams≤ : length (q′ .streams) ≤ length (q .streams)
     events≤ : length (q′ .events) ≤ length (q .events)
 
-  many-fewer : (q q′ : Seen) → Fewer q q′ → many q ≡ false → many q′ ≡ false
+  -- how many clock, stream and event classes were seen
+  abbrev classes : Ids → ℕ
+  classes q = length (q .clocks) + length (q .streams) + length (q .events)
+
+  many-fewer : (q q′ : Ids) → Fewer q q′ → many q ≡ false → many q′ ≡ false
   unfolding many
   many-fewer q q′ f h =
-      let a : length (q .clocks) + length (q .streams) + length (q .events) ≤ 511 = ltb-false 511 (length (q .clocks) + length (q .streams) + length (q .events)) h in
+      let a : classes q ≤ 511 = ltb-false 511 (classes q) h in
       let c : length (q′ .clocks) ≡ length (q .clocks) = ap length (f .clocks) in
       let s = f .streams≤ in
       let e = f .events≤ in
-      let b : length (q′ .clocks) + length (q′ .streams) + length (q′ .events) ≤ 511 = omega arith in
-      le-ltb 511 (length (q′ .clocks) + length (q′ .streams) + length (q′ .events)) b
+      let b : classes q′ ≤ 511 = omega arith in
+      le-ltb 511 (classes q′) b
 
   not-not : (a : Bool) → not a ≡ false → a ≡ true
   not-not true h = refl
@@ -152,25 +183,29 @@ module _ (ks : ℕ → Bool) (ke : ℕ → ℕ → Bool) where
   pick-clean true n m h k = let z : _≡_ {A = ℕ} 0 1 = cc in absurd (omega arith)
   pick-clean false n m h k = k
 
-  clean-kept : (q q′ : Seen) → Fewer q q′ → (now : Bool) (g : Fragment) → stays ks ke now (fragment g) ≡ true
-      → recordFault false q (fragment g) (openFault q (fragment g)) ≡ 0 → recordFault false q′ (fragment g) (openFault q′ (fragment g)) ≡ 0
+  -- no fault for too many, where fewer were seen
+  few-kept : (q q′ : Ids) → Fewer q q′ → pick (many q) 15 0 ≡ 0 → pick (many q′) 15 0 ≡ 0
+  few-kept q q′ f h = pick-clean (many q′) 15 0 (many-fewer q q′ f (pick-false (many q) 14 0 h)) refl
+
+  clean-kept : (q q′ : Ids) → Fewer q q′ → (now : Bool) (g : Fragment) → stays ks ke now (fragment g) ≡ true → Clean q g → Clean q′ g
   unfolding recordFault openFault fragmentFault stays both
   clean-kept q q′ f now (preamble v) s h = h
   clean-kept q q′ f now (traceClass u l) s h =
       let h₀ = pick-zero false 2 _ h in
       let t₁ = pick-false (q .trace || not (eqb (length (q .streams)) 0)) 5 _ h₀ in
-      let t₂ : length (q .streams) ≡ 0 = eqb-true (length (q .streams)) 0 (not-not (eqb (length (q .streams)) 0) (or-false (q .trace) (not (eqb (length (q .streams)) 0)) t₁ .1)) in
-      let t₃ : length (q′ .streams) ≡ 0 = omega (arith, f .streams≤) in
+      let t₂ = or-false (q .trace) (not (eqb (length (q .streams)) 0)) t₁ in
+      let t₃ : length (q .streams) ≡ 0 = eqb-true (length (q .streams)) 0 (not-not (eqb (length (q .streams)) 0) (t₂ .1)) in
+      let t₄ : length (q′ .streams) ≡ 0 = omega (arith, f .streams≤) in
       pick-clean false 3 _ refl
       (pick-clean (q′ .trace || not (eqb (length (q′ .streams)) 0)) 6 _
-      (rw (f .trace, or-false (q .trace) _ t₁ .0, eq-eqb _ 0 t₃) refl) (pick-zero (q .trace || not (eqb (length (q .streams)) 0)) 5 _ h₀))
+      (rw (f .trace, t₂ .0, eq-eqb _ 0 t₄) refl) (pick-zero (q .trace || not (eqb (length (q .streams)) 0)) 5 _ h₀))
   clean-kept q q′ f now (clockClass i k) s h =
       let h₀ = pick-zero false 2 _ h in
       let h₁ = pick-zero (among i (q .clocks)) 6 _ h₀ in
       let h₂ = pick-zero (eqb i 255 || eqb k 0) 9 _ h₁ in
       pick-clean false 3 _ refl
       (pick-clean (among i (q′ .clocks)) 7 _ (ap (among i) (f .clocks) ∙ pick-false (among i (q .clocks)) 6 _ h₀)
-      (pick-clean (eqb i 255 || eqb k 0) 10 _ (pick-false (eqb i 255 || eqb k 0) 9 _ h₁) (pick-clean (many q′) 15 0 (many-fewer q q′ f (pick-false (many q) 14 0 h₂)) refl)))
+      (pick-clean (eqb i 255 || eqb k 0) 10 _ (pick-false (eqb i 255 || eqb k 0) 9 _ h₁) (few-kept q q′ f h₂)))
   clean-kept q q′ f now (streamClass i c) s h =
       let h₀ = pick-zero false 2 _ h in
       let h₁ = pick-zero (among i (q .streams)) 6 _ h₀ in
@@ -179,7 +214,7 @@ module _ (ks : ℕ → Bool) (ke : ℕ → ℕ → Bool) where
       (pick-clean (among i (q′ .streams)) 7 _ (f .streams i s ∙ pick-false (among i (q .streams)) 6 _ h₀)
       (pick-clean (not (eqb c 255) && not (among c (q′ .clocks))) 8 _
       (ap (λ l. not (eqb c 255) && not (among c l)) (f .clocks) ∙ pick-false (not (eqb c 255) && not (among c (q .clocks))) 7 _ h₁)
-      (pick-clean (many q′) 15 0 (many-fewer q q′ f (pick-false (many q) 14 0 h₂)) refl)))
+      (few-kept q q′ f h₂)))
   clean-kept q q′ f now (eventClass i j) s h =
       let h₀ = pick-zero false 2 _ h in
       let h₁ = pick-zero (pairAmong i j (q .events)) 6 _ h₀ in
@@ -188,7 +223,7 @@ module _ (ks : ℕ → Bool) (ke : ℕ → ℕ → Bool) where
       (pick-clean (pairAmong i j (q′ .events)) 7 _ (f .events i j s ∙ pick-false (pairAmong i j (q .events)) 6 _ h₀)
       (pick-clean (not (among i (q′ .streams))) 8 _
       (ap not (f .streams i (and-left (ks i) (ke i j) s)) ∙ pick-false (not (among i (q .streams))) 7 _ h₁)
-      (pick-clean (many q′) 15 0 (many-fewer q q′ f (pick-false (many q) 14 0 h₂)) refl)))
+      (few-kept q q′ f h₂)))
 
   -- what was seen stays related
 
@@ -199,16 +234,44 @@ module _ (ks : ℕ → Bool) (ke : ℕ → ℕ → Bool) where
       by true e = sym h ∙ ap k (eqb-true i j e) ∙ g
       by false e = refl
 
-  fewer-kept : (q q′ : Seen) → Fewer q q′ → (now : Bool) (g : Fragment) → stays ks ke now (fragment g) ≡ true → Fewer (seen q g) (seen q′ g)
+  fewer-kept : (q q′ : Ids) → Fewer q q′ → (now : Bool) (g : Fragment) → stays ks ke now (fragment g) ≡ true → Fewer (seen q g) (seen q′ g)
   unfolding seen among pairAmong
   fewer-kept q q′ f now (preamble v) s = f
-  fewer-kept q q′ f now (traceClass u l) s = record { trace = refl; clocks = f .clocks; streams = f .streams; events = f .events; streams≤ = f .streams≤; events≤ = f .events≤ }
+  fewer-kept q q′ f now (traceClass u l) s = record {
+    trace = refl;
+    clocks = f .clocks;
+    streams = f .streams;
+    events = f .events;
+    streams≤ = f .streams≤;
+    events≤ = f .events≤;
+  }
   fewer-kept q q′ f now (clockClass i k) s =
-      record { trace = f .trace; clocks = ap (λ l. i ∷ l) (f .clocks); streams = f .streams; events = f .events; streams≤ = f .streams≤; events≤ = f .events≤ }
+      record {
+        trace = f .trace;
+        clocks = ap (λ l. i ∷ l) (f .clocks);
+        streams = f .streams;
+        events = f .events;
+        streams≤ = f .streams≤;
+        events≤ = f .events≤;
+      }
   fewer-kept q q′ f now (streamClass i c) s =
-      record { trace = f .trace; clocks = f .clocks; streams = λ j h. ap (λ b. eqb j i || b) (f .streams j h); events = f .events; streams≤ = omega (arith, f .streams≤); events≤ = f .events≤ }
+      record {
+        trace = f .trace;
+        clocks = f .clocks;
+        streams = λ j h. ap (λ b. eqb j i || b) (f .streams j h);
+        events = f .events;
+        streams≤ = omega (arith, f .streams≤);
+        events≤ = f .events≤;
+      }
   fewer-kept q q′ f now (eventClass i j) s =
-      record { trace = f .trace; clocks = f .clocks; streams = f .streams; events = λ k l h. ap (λ b. (eqb k i && eqb l j) || b) (f .events k l h); streams≤ = f .streams≤; events≤ = omega (arith, f .events≤) }
+      record {
+        trace = f .trace;
+        clocks = f .clocks;
+        streams = f .streams;
+        events = λ k l h. ap (λ b. (eqb k i && eqb l j) || b) (f .events k l h);
+        streams≤ = f .streams≤;
+        events≤ = omega (arith, f .events≤);
+      }
 
   pair-apart : (k l i j : ℕ) → both ks ke k l ≡ true → both ks ke i j ≡ false → (eqb k i && eqb l j) ≡ false
   pair-apart k l i j h g = by (eqb k i) (eqb l j) refl refl
@@ -219,22 +282,37 @@ module _ (ks : ℕ → Bool) (ke : ℕ → ℕ → Bool) where
       by false true p q = refl
       by false false p q = refl
 
-  fewer-left : (q q′ : Seen) → Fewer q q′ → (now : Bool) (g : Fragment) → stays ks ke now (fragment g) ≡ false → Fewer (seen q g) q′
+  fewer-left : (q q′ : Ids) → Fewer q q′ → (now : Bool) (g : Fragment) → stays ks ke now (fragment g) ≡ false → Fewer (seen q g) q′
   unfolding seen among pairAmong stays
   fewer-left q q′ f now (preamble v) s = let z : _≡_ {A = ℕ} 0 1 = cc in absurd (omega arith)
   fewer-left q q′ f now (traceClass u l) s = let z : _≡_ {A = ℕ} 0 1 = cc in absurd (omega arith)
   fewer-left q q′ f now (clockClass i k) s = let z : _≡_ {A = ℕ} 0 1 = cc in absurd (omega arith)
   fewer-left q q′ f now (streamClass i c) s =
-      record { trace = f .trace; clocks = f .clocks; streams = λ j h. f .streams j h ∙ ap (λ b. b || among j (q .streams)) (sym (apart ks j i h s)); events = f .events; streams≤ = omega (arith, f .streams≤); events≤ = f .events≤ }
+      record {
+        trace = f .trace;
+        clocks = f .clocks;
+        streams = λ j h. f .streams j h ∙ ap (λ b. b || among j (q .streams)) (sym (apart ks j i h s));
+        events = f .events;
+        streams≤ = omega (arith, f .streams≤);
+        events≤ = f .events≤;
+      }
   fewer-left q q′ f now (eventClass i j) s =
-      record { trace = f .trace; clocks = f .clocks; streams = f .streams; events = λ k l h. f .events k l h ∙ ap (λ b. b || pairAmong k l (q .events)) (sym (pair-apart k l i j h s)); streams≤ = f .streams≤; events≤ = omega (arith, f .events≤) }
+      record {
+        trace = f .trace;
+        clocks = f .clocks;
+        streams = f .streams;
+        events = λ k l h. f .events k l h ∙ ap (λ b. b || pairAmong k l (q .events)) (sym (pair-apart k l i j h s));
+        streams≤ = f .streams≤;
+        events≤ = omega (arith, f .events≤);
+      }
 
   -- the table without what is left out
 
   abbrev kept : Table → Table
   kept t = keep ks (both ks ke) t
 
-  add-kept : (now : Bool) (g : Fragment) (cs : List (Option Class)) (t : Table) → stays ks ke now (fragment g) ≡ true → kept (add g cs t) ≡ add g cs (kept t)
+  add-kept : (now : Bool) (g : Fragment) (cs : List (Option Class)) (t : Table) → stays ks ke now (fragment g) ≡ true
+      → kept (add g cs t) ≡ add g cs (kept t)
   unfolding keep add keepStreams keepEvents stays
   add-kept now (preamble v) cs t s = refl
   add-kept now (traceClass u l) cs t s = refl
@@ -242,7 +320,8 @@ module _ (ks : ℕ → Bool) (ke : ℕ → ℕ → Bool) where
   add-kept now (streamClass i c) cs t s = rw (s, keepStreams) refl
   add-kept now (eventClass i j) cs t s = rw (s, keepEvents) refl
 
-  add-left : (now : Bool) (g : Fragment) (cs : List (Option Class)) (t : Table) → stays ks ke now (fragment g) ≡ false → kept (add g cs t) ≡ kept t
+  add-left : (now : Bool) (g : Fragment) (cs : List (Option Class)) (t : Table) → stays ks ke now (fragment g) ≡ false
+      → kept (add g cs t) ≡ kept t
   unfolding keep add keepStreams keepEvents stays
   add-left now (preamble v) cs t s = let z : _≡_ {A = ℕ} 0 1 = cc in absurd (omega arith)
   add-left now (traceClass u l) cs t s = let z : _≡_ {A = ℕ} 0 1 = cc in absurd (omega arith)
@@ -252,11 +331,11 @@ module _ (ks : ℕ → Bool) (ke : ℕ → ℕ → Bool) where
 
   -- the whole walk
 
-  record Same (q′ : Seen) (x′ : List ℕ) (t : Table) : Type 0 where
+  record Same (q′ : Ids) (x′ : List ℕ) (t : Table) : Type 0 where
     parses : (m : ℕ) → length x′ ≤ m → parseFragments m q′ x′ ≡ good (kept t) []
     stops : Stops x′
 
-  same-nil : (q′ : Seen) → Same q′ [] noTable
+  same-nil : (q′ : Ids) → Same q′ [] noTable
   unfolding parseFragments missing keep noTable keepStreams keepEvents
   same-nil q′ = record { parses = λ m h. by m; stops = refl }
     where
@@ -264,7 +343,8 @@ module _ (ks : ℕ → Bool) (ke : ℕ → ℕ → Bool) where
       by zero = refl
       by (suc m) = refl
 
-  frag-step : (m : ℕ) (q : Seen) (x : List ℕ) → missing x ≡ false → parseFragments (suc m) q x ≡ one q (openFault q) (λ r x. parseOpened q (parseFragments m) r x) x
+  frag-step : (m : ℕ) (q : Ids) (x : List ℕ) → missing x ≡ false
+      → parseFragments (suc m) q x ≡ one q (openFault q) (λ r x. parseOpened q (parseFragments m) r x) x
   unfolding parseFragments
   frag-step m q x h = rw (h, parseFragments) refl
 
@@ -273,8 +353,8 @@ module _ (ks : ℕ → Bool) (ke : ℕ → ℕ → Bool) where
   whole-Large w h = rw (h .whole) (omega arith)
 
   -- a fragment that stays, in front of what stays behind it
-  module _ (q q′ : Seen) (f : Fewer q q′) (now : Bool) (w : List ℕ) (g : Fragment) (hw : Whole w) (e : recordOf w ≡ fragment g) (s : stays ks ke now (fragment g) ≡ true)
-      (c : recordFault false q (fragment g) (openFault q (fragment g)) ≡ 0) (x₁ x₂ : List ℕ) (cs : List (Option Class)) (r : Rooted (isTimed g) (hasUuid g) (rootNumbers g) x₁ cs x₂)
+  module _ (q q′ : Ids) (f : Fewer q q′) (now : Bool) (w : List ℕ) (g : Fragment) (hw : Whole w) (e : recordOf w ≡ fragment g)
+      (s : stays ks ke now (fragment g) ≡ true) (c : Clean q g) (x₁ x₂ : List ℕ) (cs : List (Option Class)) (r : RootsOf g x₁ cs x₂)
       (z : List ℕ) (t : Table) (h : Same (seen q′ g) z t) where
     kept-parses : (m : ℕ) → length (w ++ (r .u ++ z)) ≤ m → parseFragments m q′ (w ++ (r .u ++ z)) ≡ good (kept (add g cs t)) []
     unfolding parseOpened parseFragment then
@@ -292,7 +372,7 @@ module _ (ks : ℕ → Bool) (ke : ℕ → ℕ → Bool) where
     unfolding anyRoot
     step-kept = record { parses = kept-parses; stops = rw (whole-missing w (r .u ++ z) hw, whole-record w (r .u ++ z) hw, e) refl }
 
-  main-nil : (q′ : Seen) (now : Bool) (x : List ℕ) (t : Table) → x ≡ [] → t ≡ noTable → Same q′ (left now x) t
+  main-nil : (q′ : Ids) (now : Bool) (x : List ℕ) (t : Table) → x ≡ [] → t ≡ noTable → Same q′ (left now x) t
   unfolding left leaveRecords
   main-nil q′ now x t p k = rw (p, k) (same-nil q′)
 
@@ -301,39 +381,56 @@ module _ (ks : ℕ → Bool) (ke : ℕ → ℕ → Bool) where
   missing-nil [] h = refl
   missing-nil (b ∷ x) h = let z : _≡_ {A = ℕ} 0 1 = cc in absurd (omega arith)
 
-  same-left : (q′ : Seen) (x′ : List ℕ) (now : Bool) (g : Fragment) (cs : List (Option Class)) (t : Table) → stays ks ke now (fragment g) ≡ false → Same q′ x′ t → Same q′ x′ (add g cs t)
-  same-left q′ x′ now g cs t s h = record { parses = λ m l. h .parses m l ∙ ap (λ t. good t []) (sym (add-left now g cs t s)); stops = h .stops }
+  same-left : (q′ : Ids) (x′ : List ℕ) (now : Bool) (g : Fragment) (cs : List (Option Class)) (t : Table)
+      → stays ks ke now (fragment g) ≡ false → Same q′ x′ t → Same q′ x′ (add g cs t)
+  same-left q′ x′ now g cs t s h = record {
+    parses = λ m l. h .parses m l ∙ ap (λ t. good t []) (sym (add-left now g cs t s));
+    stops = h .stops;
+  }
 
   abbrev Walk : ℕ → Type 0
-  Walk n = (q q′ : Seen) → Fewer q q′ → (x : List ℕ) (t : Table) (y : List ℕ) → length x ≤ n → parseFragments n q x ≡ good t y → (now : Bool) → Same q′ (left now x) t
+  Walk n =
+      (q q′ : Ids) → Fewer q q′ → (x : List ℕ) (t : Table) (y : List ℕ) → length x ≤ n → parseFragments n q x ≡ good t y
+      → (now : Bool) → Same q′ (left now x) t
 
   -- one fragment, and what is behind it
-  module _ (n : ℕ) (rec : Walk n) (q q′ : Seen) (f : Fewer q q′) (now : Bool) (x w : List ℕ) (g : Fragment) (hw : Whole w) (hr : recordOf w ≡ fragment g)
-      (c : recordFault false q (fragment g) (openFault q (fragment g)) ≡ 0) (x₀ x₁ : List ℕ) (cs : List (Option Class)) (r : Rooted (isTimed g) (hasUuid g) (rootNumbers g) x₀ cs x₁)
+  module _ (n : ℕ) (rec : Walk n) (q q′ : Ids) (f : Fewer q q′) (now : Bool) (x w : List ℕ) (g : Fragment) (hw : Whole w)
+      (hr : recordOf w ≡ fragment g) (c : Clean q g) (x₀ x₁ : List ℕ) (cs : List (Option Class)) (r : RootsOf g x₀ cs x₁)
       (xe : x ≡ w ++ (r .u ++ x₁)) (len : length x₁ ≤ n) (t₁ : Table) (y₁ : List ℕ) (p : parseFragments n (seen q g) x₁ ≡ good t₁ y₁) where
     left-here : (s : Bool) → stays ks ke now (fragment g) ≡ s → left now x ≡ keepIf s w ++ (keepIf s (r .u) ++ left s x₁)
-    left-here s e = ap (left now) xe ∙ left-whole now w (r .u ++ x₁) hw ∙ rw (hr, e) (ap (λ l. keepIf s w ++ l) (left-plain s (r .u) x₁ (r .plain)))
+    left-here s e =
+        ap (left now) xe ∙ left-whole now w (r .u ++ x₁) hw
+        ∙ rw (hr, e) (ap (λ l. keepIf s w ++ l) (left-plain s (r .u) x₁ (r .plain)))
 
     walk-by : (s : Bool) → stays ks ke now (fragment g) ≡ s → Same q′ (left now x) (add g cs t₁)
     unfolding keepIf
-    walk-by true e = rw (left-here true e) (step-kept q q′ f now w g hw hr e c x₀ x₁ cs r (left true x₁) t₁ (rec (seen q g) (seen q′ g) (fewer-kept q q′ f now g e) x₁ t₁ y₁ len p true))
-    walk-by false e = rw (left-here false e) (same-left q′ (left false x₁) now g cs t₁ e (rec (seen q g) q′ (fewer-left q q′ f now g e) x₁ t₁ y₁ len p false))
+    walk-by true e =
+        let h = rec (seen q g) (seen q′ g) (fewer-kept q q′ f now g e) x₁ t₁ y₁ len p true in
+        rw (left-here true e) (step-kept q q′ f now w g hw hr e c x₀ x₁ cs r (left true x₁) t₁ h)
+    walk-by false e =
+        let h = rec (seen q g) q′ (fewer-left q q′ f now g e) x₁ t₁ y₁ len p false in
+        rw (left-here false e) (same-left q′ (left false x₁) now g cs t₁ e h)
 
-  walk-one : (n : ℕ) → Walk n → (q q′ : Seen) → Fewer q q′ → (x : List ℕ) (t : Table) (y : List ℕ) → length x ≤ suc n → missing x ≡ false → Opens n q x t y → (now : Bool)
-      → Same q′ (left now x) t
+  walk-one : (n : ℕ) → Walk n → (q q′ : Ids) → Fewer q q′ → (x : List ℕ) (t : Table) (y : List ℕ) → length x ≤ suc n → missing x ≡ false
+      → ParsedFragment n q x t y → (now : Bool) → Same q′ (left now x) t
   unfolding parseFragment
   walk-one n rec q q′ f x t y l m o now =
       let g = o .g in
-      let p₁ = through (parseRoots (seen q g) (isTimed g) (hasUuid g) (rootNumbers g) (behind x)) (λ cs x. then (parseFragments n (seen q g) x) (λ t x. good (add g cs t) x)) t y (o .goes) in
+      let roots = parseRoots (seen q g) (isTimed g) (hasUuid g) (rootNumbers g) (behind x) in
+      let p₁ = through roots (λ cs x. then (parseFragments n (seen q g) x) (λ t x. good (add g cs t) x)) t y (o .goes) in
       let r = roots-local (isTimed g) (hasUuid g) (rootNumbers g) (seen q g) (behind x) (p₁ .a) (p₁ .x) (p₁ .first) in
       let p₂ = through (parseFragments n (seen q g) (p₁ .x)) (λ t x. good (add g (p₁ .a) t) x) t y (p₁ .second) in
       let e₂ : _≡_ {A = Parsed Table} (good (add g (p₁ .a) (p₂ .a)) (p₂ .x)) (good t y) = p₂ .second in
       let te : add g (p₁ .a) (p₂ .a) ≡ t = cc in
       let bl : length (r .u ++ p₁ .x) ≤ n = rw (r .split) at (behind-less x n m l) in
       let len : length (p₁ .x) ≤ n = omega (arith, simp length-append at bl) in
+      let w = take (size x) x in
+      let hw = first-whole x m (o .fits) in
+      let hr = first-record x m (o .fits) ∙ o .is in
+      let xe : x ≡ w ++ (r .u ++ p₁ .x) = sym (first-split x) ∙ ap (λ l. w ++ l) (r .split) in
       subst (Same q′ (left now x)) te
-      (walk-by n rec q q′ f now x (take (size x) x) g (first-whole x m (o .fits)) (first-record x m (o .fits) ∙ o .is) (o .clean) (behind x) (p₁ .x) (p₁ .a) r
-      (sym (first-split x) ∙ ap (λ l. take (size x) x ++ l) (r .split)) len (p₂ .a) (p₂ .x) (p₂ .first) (stays ks ke now (fragment g)) refl)
+      (walk-by n rec q q′ f now x w g hw hr (o .clean) (behind x) (p₁ .x) (p₁ .a) r xe len (p₂ .a) (p₂ .x) (p₂ .first)
+      (stays ks ke now (fragment g)) refl)
 
   walk : (n : ℕ) → Walk n
   unfolding parseFragments
@@ -358,7 +455,7 @@ module _ (ks : ℕ → Bool) (ke : ℕ → ℕ → Bool) where
   left-short (suc n) now x = by (left-short n (stays ks ke now (recordOf x)) (behind x)) (missing x)
     where
       by : length (leaveRecords ks ke n (stays ks ke now (recordOf x)) (behind x)) ≤ length (behind x) → (b : Bool)
-          → length {A = ℕ} (elim b as (λ _. List ℕ) [ true ↦ [] | false ↦ part ks ke (stays ks ke now (recordOf x)) x ++ leaveRecords ks ke n (stays ks ke now (recordOf x)) (behind x) ]) ≤ length x
+          → length (round n now x b) ≤ length x
       by k true = omega arith
       by k false = simp length-append (omega (arith, part-short (stays ks ke now (recordOf x)) x))
 
@@ -388,20 +485,29 @@ module _ (ks : ℕ → Bool) (ke : ℕ → ℕ → Bool) where
   first-fits s (range g l k) h = pick-false s 2 _ h
   first-fits s (option n) h = pick-false s 2 _ h
 
-  none-fewer : Fewer noneSeen noneSeen
-  none-fewer = record { trace = refl; clocks = refl; streams = λ i h. refl; events = λ i j h. refl; streams≤ = omega arith; events≤ = omega arith }
+  none-fewer : Fewer noIds noIds
+  none-fewer = record {
+    trace = refl;
+    clocks = refl;
+    streams = λ i h. refl;
+    events = λ i j h. refl;
+    streams≤ = omega arith;
+    events≤ = omega arith;
+  }
 
   behind-first : Parser Table
-  behind-first x = then (parseRoots noneSeen false false [] x) (λ cs x. parseFragments (length x) noneSeen x)
+  behind-first x = then (parseRoots noIds false false [] x) (λ cs x. parseFragments (length x) noIds x)
 
   parse-first : (w z : List ℕ) → Whole w → length (w ++ z) ≤ 65536 → firstFault false (recordOf w) ≡ 0 → parse (w ++ z) ≡ behind-first z
   unfolding parse sound behind-first
   parse-first w z hw l c =
       let k : size (w ++ z) ≤ length (w ++ z) = rw (whole-size w z hw, length-append w z) (omega (arith, hw .whole)) in
-      rw (whole-missing w z hw, le-ltb 65536 (length (w ++ z)) l, le-ltb _ _ k, whole-record w z hw, c, parse) (ap behind-first (whole-behind w z hw))
+      rw (whole-missing w z hw, le-ltb 65536 (length (w ++ z)) l, le-ltb _ _ k, whole-record w z hw, c, parse)
+      (ap behind-first (whole-behind w z hw))
 
   -- the first record, and what is behind it
-  edit-first : (x : List ℕ) (t : Table) (y : List ℕ) → missing x ≡ false → length x ≤ 65536 → firstFault (ltb (length x) (size x)) (recordOf x) ≡ 0 → behind-first (behind x) ≡ good t y
+  edit-first : (x : List ℕ) (t : Table) (y : List ℕ) → missing x ≡ false → length x ≤ 65536
+      → firstFault (ltb (length x) (size x)) (recordOf x) ≡ 0 → behind-first (behind x) ≡ good t y
       → parse (left true x) ≡ good (kept t) []
   unfolding behind-first keepIf left then
   edit-first x t y m l c h =
@@ -411,29 +517,34 @@ module _ (ks : ℕ → Bool) (ke : ℕ → ℕ → Bool) where
       let hw = first-whole x m fits in
       let hr = first-record x m fits in
       let c′ : firstFault false (recordOf x) ≡ 0 = rw fs at c in
-      let p₁ = through (parseRoots noneSeen false false [] (behind x)) (λ cs x. parseFragments (length x) noneSeen x) t y h in
-      let r = roots-local false false [] noneSeen (behind x) (p₁ .a) (p₁ .x) (p₁ .first) in
-      let s = walk (length (p₁ .x)) noneSeen noneSeen none-fewer (p₁ .x) t y (omega arith) (p₁ .second) true in
+      let p₁ = through (parseRoots noIds false false [] (behind x)) (λ cs x. parseFragments (length x) noIds x) t y h in
+      let r = roots-local false false [] noIds (behind x) (p₁ .a) (p₁ .x) (p₁ .first) in
+      let s = walk (length (p₁ .x)) noIds noIds none-fewer (p₁ .x) t y (omega arith) (p₁ .second) true in
       let xe : x ≡ w ++ (r .u ++ p₁ .x) = sym (first-split x) ∙ ap (λ l. w ++ l) (r .split) in
       let le : left true x ≡ w ++ (r .u ++ left true (p₁ .x)) =
-      ap (left true) xe ∙ left-whole true w (r .u ++ p₁ .x) hw ∙ rw (hr, first-free (recordOf x) c′) (ap (λ l. w ++ l) (left-plain true (r .u) (p₁ .x) (r .plain))) in
+      ap (left true) xe ∙ left-whole true w (r .u ++ p₁ .x) hw
+      ∙ rw (hr, first-free (recordOf x) c′) (ap (λ l. w ++ l) (left-plain true (r .u) (p₁ .x) (r .plain))) in
       let ll : length (w ++ (r .u ++ left true (p₁ .x))) ≤ 65536 =
       omega (arith, l, subst (λ z. length z ≤ length x) le (left-short (length x) true x)) in
       rw le
       (parse-first w (r .u ++ left true (p₁ .x)) hw ll (rw hr c′)
-      ∙ ap (λ o. then o (λ cs x. parseFragments (length x) noneSeen x)) (r .again noneSeen (left true (p₁ .x)) (s .stops))
+      ∙ ap (λ o. then o (λ cs x. parseFragments (length x) noIds x)) (r .again noIds (left true (p₁ .x)) (s .stops))
       ∙ s .parses (length (left true (p₁ .x))) (omega arith))
 
   edited : (x : List ℕ) (t : Table) (y : List ℕ) → parse x ≡ good t y → parse (leave ks ke x) ≡ good (kept t) []
   unfolding parse sound leave left behind-first
   edited x t y h = by (missing x || ltb 65536 (length x)) refl h
     where
-      by2 : missing x ≡ false → length x ≤ 65536 → (v : ℕ) → firstFault (ltb (length x) (size x)) (recordOf x) ≡ v → sound v x behind-first ≡ good t y → parse (leave ks ke x) ≡ good (kept t) []
+      by2 : missing x ≡ false → length x ≤ 65536 → (v : ℕ) → firstFault (ltb (length x) (size x)) (recordOf x) ≡ v
+          → sound v x behind-first ≡ good t y → parse (leave ks ke x) ≡ good (kept t) []
       by2 m l zero e h = edit-first x t y m l e h
       by2 m l (suc v) e h = absurd (bad-good (suc v) x t y h)
 
       by : (b : Bool) → (missing x || ltb 65536 (length x)) ≡ b
-          → elim b as (λ _. Parsed Table) [ true ↦ bad 1 x | false ↦ sound (firstFault (ltb (length x) (size x)) (recordOf x)) x behind-first ] ≡ good t y
+          → elim b as (λ _. Parsed Table) [
+            | true ↦ bad 1 x
+            | false ↦ sound (firstFault (ltb (length x) (size x)) (recordOf x)) x behind-first
+          ] ≡ good t y
           → parse (leave ks ke x) ≡ good (kept t) []
       by true e h = absurd (bad-good 1 x t y h)
       by false e h = by2 (or-false (missing x) _ e .0) (ltb-false 65536 (length x) (or-false (missing x) _ e .1)) _ refl h

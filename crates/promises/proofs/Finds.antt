@@ -1,6 +1,6 @@
 -- A reading lists only findings of classes that its table has. And demand 3 computed of the figure.
 use mathlib.Core.Path.{_≡_, refl, sym, ap, _∙_}
-use mathlib.Core.Logic.{_⊎_, inl, inr}
+use mathlib.Core.Logic.{inl, inr}
 use Prim.Native.Nat.{ℕ, suc, _<_}
 use native.Mathlib.Omega.{arith}
 use mathlib.Core.List.{List, [], _∷_, _++_}
@@ -12,19 +12,22 @@ use Rattle.rules.specs.declared.Stop.{Stop}
 use Rattle.rules.specs.Table.{StreamClass, EventClass, Asked}
 use Rattle.rules.specs.Read.{readStream}
 use Rattle.rules.specs.Opened.{opened}
-use Rattle.promises.specs.Missing.{goneStream, goneEvent, Lost, under, lost, later, front, firstLost, missed, shortened, Demand3Figures}
-use Rattle.promises.proofs.Exact.{latest, Less, sim-stream}
+use Rattle.promises.specs.Missing.{goneStream, goneEvent, Lost, under, lost, later}
+use Rattle.promises.specs.Missing.{front, firstLost, missed, shortened, Demand3Figures}
+use Rattle.promises.proofs.Exact.{KeptOrGone, latest, Less, sim-stream}
 use Rattle.promises.specs.Edition.{both, stays, part, leaveRecords, leave}
 
 some-some : {A : Type 0} (a b : A) → some a ≡ some b → a ≡ b
 some-some a b h = cc
 
-pub first-index : (gs : ℕ → Bool) (ge : ℕ → ℕ → Bool) (i : ℕ) (es : List Entry) (l : Lost) → firstLost gs ge i es ≡ some l → l .index < length es
+pub first-index : (gs : ℕ → Bool) (ge : ℕ → ℕ → Bool) (i : ℕ) (es : List Entry) (l : Lost) → firstLost gs ge i es ≡ some l
+    → l .index < length es
 unfolding firstLost
 first-index gs ge i [] l h = let z : _≡_ {A = ℕ} 0 1 = cc in absurd (omega arith)
 first-index gs ge i (e ∷ es) l h = by (lost gs ge i e) (firstLost gs ge (under gs ge i e) es) h (first-index gs ge (under gs ge i e) es)
   where
-    by : (x : Option Stop) (y : Option Lost) → front gs ge x y ≡ some l → ((m : Lost) → y ≡ some m → m .index < length es) → l .index < suc (length es)
+    by : (x : Option Stop) (y : Option Lost) → front gs ge x y ≡ some l → ((m : Lost) → y ≡ some m → m .index < length es)
+        → l .index < suc (length es)
     by none none h r = unfold front later in let z : _≡_ {A = ℕ} 0 1 = cc in absurd (omega arith)
     by none (some m) h r =
         unfold front later in
@@ -37,7 +40,7 @@ first-index gs ge i (e ∷ es) l h = by (lost gs ge i e) (firstLost gs ge (under
         omega arith
 
 -- what the search finds: the entry at the index, of which the refusal is, and no such entry before it
-pub record Found (gs : ℕ → Bool) (ge : ℕ → ℕ → Bool) (i : ℕ) (es : List Entry) (l : Lost) : Type 0 where
+pub record FoundFirst (gs : ℕ → Bool) (ge : ℕ → ℕ → Bool) (i : ℕ) (es : List Entry) (l : Lost) : Type 0 where
   pub before : List Entry
   pub found : Entry
   pub others : List Entry
@@ -46,12 +49,15 @@ pub record Found (gs : ℕ → Bool) (ge : ℕ → ℕ → Bool) (i : ℕ) (es :
   pub clear : firstLost gs ge i before ≡ none
   pub is : lost gs ge (latest gs ge i before) found ≡ some (l .refusal)
 
-pub first-found : (gs : ℕ → Bool) (ge : ℕ → ℕ → Bool) (i : ℕ) (es : List Entry) (l : Lost) → firstLost gs ge i es ≡ some l → Found gs ge i es l
+pub first-found : (gs : ℕ → Bool) (ge : ℕ → ℕ → Bool) (i : ℕ) (es : List Entry) (l : Lost) → firstLost gs ge i es ≡ some l
+    → FoundFirst gs ge i es l
 unfolding firstLost
 first-found gs ge i [] l h = let z : _≡_ {A = ℕ} 0 1 = cc in absurd (omega arith)
-first-found gs ge i (e ∷ es) l h = by (lost gs ge i e) refl (firstLost gs ge (under gs ge i e) es) h (first-found gs ge (under gs ge i e) es)
+first-found gs ge i (e ∷ es) l h =
+    by (lost gs ge i e) refl (firstLost gs ge (under gs ge i e) es) h (first-found gs ge (under gs ge i e) es)
   where
-    by : (x : Option Stop) → lost gs ge i e ≡ x → (y : Option Lost) → front gs ge x y ≡ some l → ((m : Lost) → y ≡ some m → Found gs ge (under gs ge i e) es m) → Found gs ge i (e ∷ es) l
+    by : (x : Option Stop) → lost gs ge i e ≡ x → (y : Option Lost) → front gs ge x y ≡ some l
+        → ((m : Lost) → y ≡ some m → FoundFirst gs ge (under gs ge i e) es m) → FoundFirst gs ge i (e ∷ es) l
     by none q none h r = unfold front later in let z : _≡_ {A = ℕ} 0 1 = cc in absurd (omega arith)
     by none q (some m) h r =
         unfold front later latest in
@@ -96,19 +102,20 @@ module _ (t : Asked) (ids : (i : ℕ) (c : StreamClass) → t .stream i ≡ some
   own : Less (noStream t) (noEvent t) t (t .stream) (t .event)
   own = record { ids = ids; streams = λ i. by-stream (t .stream i); events = λ i j. by-event (t .event i j) }
     where
-      by-stream : (x : Option StreamClass) → ((not (has x) ≡ false) × (x ≡ x)) ⊎ (((c : StreamClass) → x ≡ some c → not (has x) ≡ true) × (x ≡ none))
+      by-stream : (x : Option StreamClass) → KeptOrGone (not (has x)) x x
       by-stream none = inr (unfold has in ((λ c p. refl), refl))
       by-stream (some c) = inl (unfold has in (refl, refl))
 
-      by-event : (x : Option EventClass) → ((not (has x) ≡ false) × (x ≡ x)) ⊎ (((c : EventClass) → x ≡ some c → not (has x) ≡ true) × (x ≡ none))
+      by-event : (x : Option EventClass) → KeptOrGone (not (has x)) x x
       by-event none = inr (unfold has in ((λ c p. refl), refl))
       by-event (some c) = inl (unfold has in (refl, refl))
 
   -- no entry 2 or 5 of a reading is of a class that the table does not have
   pub finds : (b : List ℕ) (room : ℕ) → firstLost (noStream t) (noEvent t) 0 ((readStream t b room) .entries) ≡ none
-  finds b room = by (firstLost (noStream t) (noEvent t) 0 ((readStream t b room) .entries)) refl (sim-stream (noStream t) (noEvent t) t (t .stream) (t .event) own b room)
+  finds b room = by _ refl (sim-stream (noStream t) (noEvent t) t (t .stream) (t .event) own b room)
     where
-      by : (x : Option Lost) → firstLost (noStream t) (noEvent t) 0 ((readStream t b room) .entries) ≡ x → readStream t b room ≡ shortened x (readStream t b room) → x ≡ none
+      by : (x : Option Lost) → firstLost (noStream t) (noEvent t) 0 ((readStream t b room) .entries) ≡ x
+          → readStream t b room ≡ shortened x (readStream t b room) → x ≡ none
       by none p h = refl
       by (some l) p h =
           unfold shortened in
@@ -120,4 +127,11 @@ module _ (t : Asked) (ids : (i : ℕ) (c : StreamClass) → t .stream i ≡ some
 -- by computation
 pub demand-3-figures : Demand3Figures
 unfolding opened leave leaveRecords part stays missed goneStream goneEvent both firstLost lost front later under
-demand-3-figures = record { event-bytes = refl; event-missed = refl; event-result = refl; stream-bytes = refl; stream-missed = refl; stream-result = refl }
+demand-3-figures = record {
+  event-bytes = refl;
+  event-missed = refl;
+  event-result = refl;
+  stream-bytes = refl;
+  stream-missed = refl;
+  stream-result = refl;
+}

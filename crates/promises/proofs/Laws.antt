@@ -45,18 +45,25 @@ ok-within e (go es s) h = h
 
 -- the places of a reading rise, and none is behind the last bit; where nothing refuses it, it ends there
 EndsAt : ℕ → Reading → Type 0
-EndsAt last r = Rising (r .entries) 0 (placeOf (r .verdict)) × (numberOf (r .verdict) ≡ 0 → placeOf (r .verdict) ≡ last) × (placeOf (r .verdict) ≤ last)
+EndsAt last r =
+    Rising (r .entries) 0 (placeOf (r .verdict))
+    × (numberOf (r .verdict) ≡ 0 → placeOf (r .verdict) ≡ last)
+    × (placeOf (r .verdict) ≤ last)
 
 ended-at : (last : ℕ) (o : Out) → Goes last (λ s. s .place .0 ≡ last) 0 o → EndsAt last (ended o)
 unfolding EndsAt ended placeOf numberOf
 ended-at last (stop es v) h = (h .0, (λ z. absurd (omega (arith, refusalNumber-bounds (v .why) .0))), h .2)
 ended-at last (go es s) h = (h .0, (λ z. h .1), omega (arith, h .1))
 
-stream-at : (t : Table) → Fitting Positive (λ r. Any) Any (asked t) → (b : List ℕ) (room : ℕ) → EndsAt (8 * length b) (readStream (asked t) b room)
+stream-at : (t : Table) → Fitting Positive (λ r. Any) Any (asked t) → (b : List ℕ) (room : ℕ)
+    → EndsAt (8 * length b) (readStream (asked t) b room)
 unfolding readStream
 stream-at t w b room = by (eqb (length b) 0 || ltb streamLimit (length b))
   where
-    by : (c : Bool) → EndsAt (8 * length b) (elim c [ true ↦ record { entries = []; verdict = Refused (stopAt StreamSize (bitPlace 0)) } | false ↦ ended (readPackets (asked t) b 0 Missing (length b) (begin room)) ])
+    by : (c : Bool) → EndsAt (8 * length b) (elim c [
+      | true ↦ record { entries = []; verdict = Refused (stopAt StreamSize (bitPlace 0)) }
+      | false ↦ ended (readPackets (asked t) b 0 Missing (length b) (begin room))
+    ])
     by true = unfold EndsAt numberOf refusalNumber placeOf in (omega arith, (λ z. absurd (omega arith)), omega arith)
     by false = unfold begin in
         ended-at (8 * length b) (readPackets (asked t) b 0 Missing (length b) (begin room))
@@ -77,7 +84,8 @@ the-laws x t y p = record {
   room-more = λ b room more. room-more x b room more;
   fragment-rounds = λ q z more. table-rounds (length z) more q z (le-refl (length z));
   event-rounds = λ c e to n s more. event-rounds (asked t) c e to n more s;
-  packet-rounds = λ b room more. unfold begin in packet-rounds (asked t) (accepted-positive x t y p) b 0 Missing (length b) more (begin room) refl (omega arith);
+  packet-rounds = λ b room more. unfold begin in
+      packet-rounds (asked t) (accepted-positive x t y p) b 0 Missing (length b) more (begin room) refl (omega arith);
   fits = λ g b room. reading-words x g t y p b room;
   list-fits = λ g b room. list-words _ (reading-words x g t y p b room .0);
 }

@@ -13,18 +13,21 @@ use Rattle.rules.specs.declared.BitPlace.{BitPlace}
 use Rattle.rules.specs.declared.Stated.{Stated}
 use Rattle.rules.specs.declared.Stated.the-variants.{Missing, As}
 use Rattle.rules.specs.declared.Entry.{Entry}
-use Rattle.rules.specs.declared.Refusal.the-variants.{StreamSize, StreamClassChanged, StreamClassUnknown, LengthsContradict, ClocksContradict, EventClassUnknown, EventTookNoBits, ClockWentBack}
+use Rattle.rules.specs.declared.Refusal.the-variants.{StreamSize, StreamClassChanged, StreamClassUnknown, LengthsContradict}
+use Rattle.rules.specs.declared.Refusal.the-variants.{ClocksContradict, EventClassUnknown, EventTookNoBits, ClockWentBack}
 use Rattle.rules.specs.declared.Verdict.the-variants.{Refused}
 use Rattle.rules.specs.Limits.{streamLimit}
 use Rattle.rules.specs.Place.{bitPlace, further}
 use Rattle.rules.specs.Verdict.{stopAt}
 use Rattle.rules.specs.Entry.{entry, words}
 use Rattle.rules.specs.Step.{State, Out, stop, go, Step, _⨾_, change, withLast}
-use Rattle.rules.specs.Record.{Record, unknown, fragment, root, class, range, option, Layout, layouts, no, bitsLayout, layoutOf, recordOf, behind, size, u8, u16, number}
+use Rattle.rules.specs.Record.{Record, unknown, fragment, root, class, range, option, Layout, layouts}
+use Rattle.rules.specs.Record.{no, bitsLayout, layoutOf, recordOf, behind, size, u8, u16, number}
 use Rattle.rules.specs.Table.{Table, Asked, asked, StreamClass, EventClass}
 use Rattle.rules.specs.Parse.{good, parse}
 use Rattle.rules.specs.Field.{Env}
-use Rattle.rules.specs.Packet.{readEvent, readEvents, readContent, readPacket, readPackets, withEvent, withStream, mark, readRoot, startEvent, startPacket, nothingSaid, endPacket}
+use Rattle.rules.specs.Packet.{readEvent, readEvents, readContent, readPacket, readPackets, withEvent}
+use Rattle.rules.specs.Packet.{withStream, mark, readRoot, startEvent, startPacket, nothingSaid, endPacket}
 use Rattle.rules.specs.Read.{ended, begin, readStream, readAll, readParsed}
 use Rattle.facts.specs.Bytes.{Bytes}
 use Rattle.facts.proofs.Bytes.{bytes-take, bytes-drop}
@@ -33,10 +36,11 @@ use Rattle.laws.specs.All.{All}
 use Rattle.promises.specs.Words.{Word, AllWords, WordEntry, WordIds, WordStop, WordReading}
 use Rattle.laws.proofs.Law.{Any}
 use Rattle.laws.proofs.Accepted.{Tells, Fitting, accepted-fits}
-use Rattle.laws.proofs.Triple.{Ok, changing, naming, tested, untested}
+use Rattle.laws.proofs.Triple.{changing, naming, tested, untested}
 use Rattle.promises.proofs.Exact.{found-id}
 use Rattle.promises.proofs.Values.{no-word, packet-word}
-use Rattle.promises.proofs.Words.{Wordy, Worded, Env64, To64, place-of, _⨾ʷ_, word-listed, word-check, word-pass, word-due, word-root}
+use Rattle.promises.proofs.Words.{Wordy, Worded, WordedOut, Env64, To64, place-of, _⨾ʷ_, word-listed}
+use Rattle.promises.proofs.Words.{word-check, word-pass, word-due, word-root}
 
 -- Packets
 
@@ -44,12 +48,14 @@ word-mark : (k n v : ℕ) → k ≤ 32 → Word n → Word v → Worded (mark k 
 unfolding mark
 word-mark k n v a b c = record { at = λ s w. word-listed (entry k (s .place) n v) (s .place) s (omega arith, w .place, b, c) (w .place) w }
 
-word-event : (i j : ℕ) (x : Option EventClass) (f : EventClass → Step) → Word i → Word j → ((d : EventClass) → x ≡ some d → Worded (f d)) → Worded (withEvent i j x f)
+word-event : (i j : ℕ) (x : Option EventClass) (f : EventClass → Step)
+    → Word i → Word j → ((d : EventClass) → x ≡ some d → Worded (f d)) → Worded (withEvent i j x f)
 unfolding withEvent
 word-event i j none f a b h = naming WordEntry WordStop WordIds (EventClassUnknown i j) (λ s w. (w .place, (a, b)))
 word-event i j (some d) f a b h = h d refl
 
-word-stream : (i : ℕ) (x : Option StreamClass) (f : StreamClass → Step) → Word i → ((d : StreamClass) → x ≡ some d → Worded (f d)) → Worded (withStream i x f)
+word-stream : (i : ℕ) (x : Option StreamClass) (f : StreamClass → Step)
+    → Word i → ((d : StreamClass) → x ≡ some d → Worded (f d)) → Worded (withStream i x f)
 unfolding withStream
 word-stream i none f a h = naming WordEntry WordStop WordIds (StreamClassUnknown i) (λ s w. (w .place, a))
 word-stream i (some d) f a h = h d refl
@@ -80,57 +86,75 @@ word-end : (to : BitPlace) (n : ℕ) → Word (to .0) → Word n → Worded (end
 unfolding endPacket
 word-end to n a b = word-due (record { at = λ s w. word-listed (entry 7 to (to .0 - s .place .0) n) to s (omega arith) a w })
 
-ok-if : (b : Bool) (x y : Out) → (b ≡ true → Ok WordEntry WordStop WordIds Wordy x) → Ok WordEntry WordStop WordIds Wordy y → Ok WordEntry WordStop WordIds Wordy (elim b [ true ↦ x | false ↦ y ])
+ok-if : (b : Bool) (x y : Out) → (b ≡ true → WordedOut x) → WordedOut y → WordedOut (elim b [ true ↦ x | false ↦ y ])
 ok-if true x y h k = h refl
 ok-if false x y h k = k
 
 module _ (t : Asked) (w : Fitting To64 (λ r. Any) Word t) (ids : (i : ℕ) (c : StreamClass) → t .stream i ≡ some c → c .id ≡ i) where
-  word-readEvent : (i : ℕ) (c : StreamClass) → t .stream i ≡ some c → Word i → (e : Env) → Env64 e → (n : ℕ) → Word n → Worded (readEvent t c e n)
+  word-readEvent : (i : ℕ) (c : StreamClass) → t .stream i ≡ some c → Word i → (e : Env) → Env64 e → (n : ℕ) → Word n
+      → Worded (readEvent t c e n)
   unfolding readEvent
   word-readEvent i c p j e g n h = record {
     at = λ s₀ h₀.
-        (word-due (word-mark 4 0 n (omega arith) (omega arith) h ⨾ʷ word-startEvent ⨾ʷ word-root e g (c .header) (w .events i c p .0) ⨾ʷ word-check _ ClockWentBack tt ⨾ʷ word-last
+        (word-due (word-mark 4 0 n (omega arith) (omega arith) h ⨾ʷ word-startEvent
+        ⨾ʷ word-root e g (c .header) (w .events i c p .0) ⨾ʷ word-check _ ClockWentBack tt ⨾ʷ word-last
         ⨾ʷ word-due (look ⨾ʷ word-check (λ s. eqb (s .place .0) (s₀ .place .0)) EventTookNoBits tt))) .at s₀ h₀;
   }
     where
       look : Worded (λ s. withEvent (c .id) (s .said .event) (t .event (c .id) (s .said .event))
           (λ d. mark 5 0 (s .said .event) ⨾ readRoot e (c .common) ⨾ readRoot e (d .specific) ⨾ readRoot e (d .payload)) s)
       look = record {
-        at = λ s h. word-event (c .id) (s .said .event) (t .event (c .id) (s .said .event)) _ (subst Word (sym (ids i c p)) j) (h .said .event)
-            (λ d q. word-mark 5 0 (s .said .event) (omega arith) (omega arith) (h .said .event) ⨾ʷ word-root e g (c .common) (w .events i c p .1) ⨾ʷ word-root e g (d .specific) (w .event _ _ d q .0) ⨾ʷ word-root e g (d .payload) (w .event _ _ d q .1)) .at s h;
+        at = λ s h.
+            let k : Word (c .id) = subst Word (sym (ids i c p)) j in
+            word-event (c .id) (s .said .event) (t .event (c .id) (s .said .event)) _ k (h .said .event)
+            (λ d q. word-mark 5 0 (s .said .event) (omega arith) (omega arith) (h .said .event)
+            ⨾ʷ word-root e g (c .common) (w .events i c p .1)
+            ⨾ʷ word-root e g (d .specific) (w .event _ _ d q .0)
+            ⨾ʷ word-root e g (d .payload) (w .event _ _ d q .1)) .at s h;
       }
 
-  word-events : (i : ℕ) (c : StreamClass) → t .stream i ≡ some c → Word i → (e : Env) → Env64 e → (to : BitPlace) (n left : ℕ) → Word (to .0) → Word (n + left) → Worded (readEvents t c e to n left)
+  word-events : (i : ℕ) (c : StreamClass) → t .stream i ≡ some c → Word i → (e : Env) → Env64 e → (to : BitPlace) (n left : ℕ)
+      → Word (to .0) → Word (n + left) → Worded (readEvents t c e to n left)
   unfolding readEvents
   word-events i c p j e g to n zero a h = word-end to n a (omega arith)
   word-events i c p j e g to n (suc left) a h = record {
     at = λ s x.
-        ok-if (ltb (s .place .0) (e .bound .0)) _ _ (λ q. (word-readEvent i c p j e g n (omega arith) ⨾ʷ word-events i c p j e g to (n + 1) left a (omega arith)) .at s x) (word-end to n a (omega arith) .at s x);
+        ok-if (ltb (s .place .0) (e .bound .0)) _ _
+        (λ q. (word-readEvent i c p j e g n (omega arith) ⨾ʷ word-events i c p j e g to (n + 1) left a (omega arith)) .at s x)
+        (word-end to n a (omega arith) .at s x);
   }
 
   module _ (b : List ℕ) (small : length b ≤ streamLimit) where
-    word-content : (i : ℕ) (c : StreamClass) → t .stream i ≡ some c → Word i → (p : BitPlace) (total content : ℕ) → Worded (readContent t c b p total content)
+    word-content : (i : ℕ) (c : StreamClass) → t .stream i ≡ some c → Word i → (p : BitPlace) (total content : ℕ)
+        → Worded (readContent t c b p total content)
     unfolding readContent
     word-content i c q j p total content = word-due (tested WordEntry WordStop WordIds place-of _ LengthsContradict tt (record {
       at = λ s x.
-          let y = or-false (not (eqb (total % 8) 0) || ltb total content || ltb (8 * length b) (p .0 + total)) (ltb (p .0 + content) (s .place .0)) (x .1) in
+          let y = or-false (not (eqb (total % 8) 0) || ltb total content || ltb (8 * length b) (p .0 + total)) _ (x .1) in
           let z = or-false (not (eqb (total % 8) 0) || ltb total content) (ltb (8 * length b) (p .0 + total)) (y .0) in
           let u = or-false (not (eqb (total % 8) 0)) (ltb total content) (z .0) in
           let l₁ : content ≤ total = ltb-false total content (u .1) in
           let l₂ : p .0 + total ≤ 8 * length b = ltb-false (8 * length b) (p .0 + total) (z .1) in
-          (untested WordEntry WordStop WordIds place-of _ ClocksContradict tt (word-mark 3 total content (omega arith) (omega arith) (omega arith) ⨾ʷ record {
+          let g : Env64 inner = record { start = omega arith; bound = omega arith } in
+          let three = word-mark 3 total content (omega arith) (omega arith) (omega arith) in
+          (untested WordEntry WordStop WordIds place-of _ ClocksContradict tt (three ⨾ʷ record {
             at = λ s x.
-                word-events i c q j (record { bytes = b; start = p; bound = further p content; uuid = t .uuid }) (record { start = omega arith; bound = omega arith }) (further p total) 0 (p .0 + content - s .place .0) (omega arith) (omega arith) .at s x;
+                word-events i c q j inner g (further p total) 0 (p .0 + content - s .place .0) (omega arith) (omega arith) .at s x;
           })) .at s (x .0);
     }))
+      where
+        inner : Env
+        inner = record { bytes = b; start = p; bound = further p content; uuid = t .uuid }
 
-    word-packet : (k : ℕ) (i : Stated) → Word k → (s₀ : State) → Wordy s₀ → Ok WordEntry WordStop WordIds Wordy (readPacket t b k i s₀)
+    word-packet : (k : ℕ) (i : Stated) → Word k → (s₀ : State) → Wordy s₀ → WordedOut (readPacket t b k i s₀)
     unfolding readPacket
     word-packet k i h s₀ h₀ =
-        (word-due (word-mark 1 0 k (omega arith) (omega arith) h ⨾ʷ word-startPacket ⨾ʷ word-root e g (t .header) (w .header) ⨾ʷ word-check _ StreamClassChanged tt
+        (word-due (word-mark 1 0 k (omega arith) (omega arith) h ⨾ʷ word-startPacket
+        ⨾ʷ word-root e g (t .header) (w .header) ⨾ʷ word-check _ StreamClassChanged tt
         ⨾ʷ word-due (record {
           at = λ s x. word-stream (s .said .stream) (t .stream (s .said .stream)) _ (x .said .stream)
-              (λ c q. word-mark 2 0 (s .said .stream) (omega arith) (omega arith) (x .said .stream) ⨾ʷ word-root e g (c .context) (w .context _ c q)
+              (λ c q. word-mark 2 0 (s .said .stream) (omega arith) (omega arith) (x .said .stream)
+              ⨾ʷ word-root e g (c .context) (w .context _ c q)
               ⨾ʷ record { at = λ s′ x′. word-content _ c q (x .said .stream) (s₀ .place) _ _ .at s′ x′ }) .at s x;
         }))) .at s₀ h₀
       where
@@ -145,7 +169,9 @@ module _ (t : Asked) (w : Fitting To64 (λ r. Any) Word t) (ids : (i : ℕ) (c :
     word-packets k i zero h = word-pass
     word-packets k i (suc left) h = record {
       at = λ s x.
-          ok-if (ltb (s .place .0) (8 * length b)) _ _ (λ q. (packet ⨾ʷ record { at = λ s x. word-packets (k + 1) (As (s .said .stream)) left (omega arith) .at s x }) .at s x) (word-pass .at s x);
+          ok-if (ltb (s .place .0) (8 * length b)) _ _
+          (λ q. (packet ⨾ʷ record { at = λ s x. word-packets (k + 1) (As (s .said .stream)) left (omega arith) .at s x }) .at s x)
+          (word-pass .at s x);
     }
       where
         packet : Worded (readPacket t b k i)
@@ -295,7 +321,9 @@ layout-ok (l ∷ ls) (suc k) h x g = layout-ok ls k (h .1) x g
 
 record-ok : (x : List ℕ) → Bytes x → CountOk (recordOf x)
 unfolding recordOf layoutOf
-record-ok x g = layout-ok layouts (u8 x 0) layouts-ok (take ((layoutOf x) .0) (drop 1 x)) (bytes-take ((layoutOf x) .0) (drop 1 x) (bytes-drop 1 x g))
+record-ok x g =
+    let n = (layoutOf x) .0 in
+    layout-ok layouts (u8 x 0) layouts-ok (take n (drop 1 x)) (bytes-take n (drop 1 x) (bytes-drop 1 x g))
 
 bytes-behind : (x : List ℕ) → Bytes x → Bytes (behind x)
 unfolding behind
@@ -314,30 +342,42 @@ accepted-words x g t y p = accepted-fits word-numbers x t y g p
 
 -- Readings
 
-ended-words : (o : Out) → Ok WordEntry WordStop WordIds Wordy o → WordReading (ended o)
+ended-words : (o : Out) → WordedOut o → WordReading (ended o)
 unfolding ended
 ended-words (stop es v) h = h
 ended-words (go es s) h = (h .0, h .1 .place)
 
 begin-words : (room : ℕ) → Wordy (begin room)
 unfolding begin nothingSaid
-begin-words room = record { place = omega arith; clock = omega arith; slots = no-word; said = record { stream = omega arith; event = omega arith; total = tt; content = tt } }
+begin-words room = record {
+  place = omega arith;
+  clock = omega arith;
+  slots = no-word;
+  said = record { stream = omega arith; event = omega arith; total = tt; content = tt };
+}
 
-stream-words : (t : Asked) → Fitting To64 (λ r. Any) Word t → ((i : ℕ) (c : StreamClass) → t .stream i ≡ some c → c .id ≡ i) → (b : List ℕ) (room : ℕ) → WordReading (readStream t b room)
+stream-words : (t : Asked) → Fitting To64 (λ r. Any) Word t → ((i : ℕ) (c : StreamClass) → t .stream i ≡ some c → c .id ≡ i)
+    → (b : List ℕ) (room : ℕ) → WordReading (readStream t b room)
 unfolding readStream
 stream-words t w ids b room = by (eqb (length b) 0 || ltb streamLimit (length b)) refl
   where
     by : (c : Bool) → (eqb (length b) 0 || ltb streamLimit (length b)) ≡ c
-        → WordReading (elim c [ true ↦ record { entries = []; verdict = Refused (stopAt StreamSize (bitPlace 0)) } | false ↦ ended (readPackets t b 0 Missing (length b) (begin room)) ])
+        → WordReading (elim c [
+          | true ↦ record { entries = []; verdict = Refused (stopAt StreamSize (bitPlace 0)) }
+          | false ↦ ended (readPackets t b 0 Missing (length b) (begin room))
+        ])
     by true h = (tt, (omega arith, tt))
     by false h =
         let l : length b ≤ streamLimit = ltb-false streamLimit (length b) (or-false (eqb (length b) 0) (ltb streamLimit (length b)) h .1) in
         ended-words _ (word-packets t w ids b l 0 Missing (length b) (omega arith) .at (begin room) (begin-words room))
 
 -- every word of every entry; the verdict's place and ids
-pub reading-words : (x : List ℕ) → Bytes x → (t : Table) (y : List ℕ) → parse x ≡ good t y → (b : List ℕ) (room : ℕ) → WordReading (readAll x b room)
+pub reading-words : (x : List ℕ) → Bytes x → (t : Table) (y : List ℕ) → parse x ≡ good t y → (b : List ℕ) (room : ℕ)
+    → WordReading (readAll x b room)
 unfolding readAll readParsed
-reading-words x g t y p b room = rw (p, readAll) (stream-words (asked t) (accepted-words x g t y p) (λ i c q. unfold asked in found-id (t .streams) i c q) b room)
+reading-words x g t y p b room =
+    let w = accepted-words x g t y p in
+    rw (p, readAll) (stream-words (asked t) w (λ i c q. unfold asked in found-id (t .streams) i c q) b room)
 
 -- and so of the list's words
 pub list-words : (es : List Entry) → All WordEntry es → AllWords (words es)

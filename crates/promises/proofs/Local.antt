@@ -9,11 +9,15 @@ use lib.ListN.{length, length-append, take, take-append-drop}
 use lib.Seq.{take-at, drop-at, length-take-le, take-all}
 use lib.Dec.{ltb}
 use borrow.Author.Tests.{ltb-false, le-ltb}
-use Rattle.rules.specs.Class.{Sign, Range, Class, noMember, member, noOption, option as anOption, structure, staticArray, dynamicArray, variant}
-use Rattle.rules.specs.Record.{Record, unknown, fragment, root, class, range, option, Fragment, Says, Shape, bitField, lebField, signedLebField, zeroString, text, blob, textOf, blobOf, members, elements, elementsOf, option?, options, recordOf, size, behind, layoutOf, u8}
-use Rattle.rules.specs.Parse.{Parsed, bad, good, Parser, then, sound, missing, one, Ranges, rangeOf, countOf, theSign, selected, parseRanges, parseMembers, parseOptions, parseShape, parseBody, parseClass}
+use Rattle.rules.specs.Class.{Sign, Range, Class, noMember, member, noOption, option as anOption}
+use Rattle.rules.specs.Class.{structure, staticArray, dynamicArray, variant}
+use Rattle.rules.specs.Record.{Record, unknown, fragment, root, class, range, option, Fragment, Says, Shape, bitField, lebField}
+use Rattle.rules.specs.Record.{signedLebField, zeroString, text, blob, textOf, blobOf, members, elements, elementsOf, option?, options}
+use Rattle.rules.specs.Record.{recordOf, size, behind, layoutOf, u8}
+use Rattle.rules.specs.Parse.{Parsed, bad, good, Parser, then, sound, missing, one, Ranges, rangeOf, countOf, theSign}
+use Rattle.rules.specs.Parse.{selected, parseRanges, parseMembers, parseOptions, parseShape, parseBody, parseClass}
 use Rattle.facts.proofs.Faults.{pick-zero}
-use Rattle.rules.specs.Faults.{pick, Seen, recordFault, Spot, inside, Under, memberSpot, classFault, rangeFault, optionFault}
+use Rattle.rules.specs.Faults.{pick, Ids, recordFault, Spot, inside, Under, memberSpot, classFault, rangeFault, optionFault}
 use Rattle.laws.proofs.Sound.{no-fault}
 
 -- a whole record that is no fragment's first
@@ -76,14 +80,14 @@ plain-append nothing q = q
 plain-append {v = v} (after {u} w h k p) q = subst Plain (sym (append-assoc w u v)) (after w h k (plain-append p q))
 
 -- what a parser took
-pub record Taken {A : Type 0} (P : Seen → Parser A) (x : List ℕ) (a : A) (y : List ℕ) : Type 0 where
+pub record Taken {A : Type 0} (P : Ids → Parser A) (x : List ℕ) (a : A) (y : List ℕ) : Type 0 where
   pub u : List ℕ
   pub split : x ≡ u ++ y
   pub plain : Plain u
-  pub again : (q : Seen) (z : List ℕ) → P q (u ++ z) ≡ good a z
+  pub again : (q : Ids) (z : List ℕ) → P q (u ++ z) ≡ good a z
 
-pub record Local {A : Type 0} (P : Seen → Parser A) : Type 0 where
-  pub at : (q : Seen) (x : List ℕ) (a : A) (y : List ℕ) → P q x ≡ good a y → Taken P x a y
+pub record Local {A : Type 0} (P : Ids → Parser A) : Type 0 where
+  pub at : (q : Ids) (x : List ℕ) (a : A) (y : List ℕ) → P q x ≡ good a y → Taken P x a y
 
 local-good : {A : Type 0} (a : A) → Local (λ q x. good a x)
 local-good {A} a = record { at = λ q x b y h. by x b y h }
@@ -99,11 +103,13 @@ bad-good n x b y h = let z : _≡_ {A = ℕ} 0 1 = cc in omega arith
 local-bad : {A : Type 0} (n : ℕ) → Local {A = A} (λ q x. bad n x)
 local-bad {A} n = record { at = λ q x b y h. absurd (bad-good n x b y h) }
 
-local-then : {A B : Type 0} (P : Seen → Parser A) (F : A → Seen → Parser B) → Local P → ((a : A) → Local (F a)) → Local (λ q x. then (P q x) (λ a x. F a q x))
+local-then : {A B : Type 0} (P : Ids → Parser A) (F : A → Ids → Parser B) → Local P → ((a : A) → Local (F a))
+    → Local (λ q x. then (P q x) (λ a x. F a q x))
 unfolding then
 local-then {A} {B} P F l k = record { at = λ q x b y h. by q x b y (P q x) refl h }
   where
-    by : (q : Seen) (x : List ℕ) (b : B) (y : List ℕ) (o : Parsed A) → P q x ≡ o → then o (λ a x. F a q x) ≡ good b y → Taken (λ q x. then (P q x) (λ a x. F a q x)) x b y
+    by : (q : Ids) (x : List ℕ) (b : B) (y : List ℕ) (o : Parsed A) → P q x ≡ o → then o (λ a x. F a q x) ≡ good b y
+        → Taken (λ q x. then (P q x) (λ a x. F a q x)) x b y
     by q x b y (bad n x′) e h = absurd (bad-good n x′ b y h)
     by q x b y (good a x′) e h =
         let s = l .at q x a x′ e in
@@ -116,7 +122,8 @@ local-then {A} {B} P F l k = record { at = λ q x b y h. by q x b y (P q x) refl
         }
 
 -- one record
-fault-free : (short : Bool) (q : Seen) (r : Record) (m : ℕ) → isFragment r ≡ false → recordFault short q r m ≡ 0 → (q : Seen) → recordFault short q r m ≡ 0
+fault-free : (short : Bool) (q : Ids) (r : Record) (m : ℕ) → isFragment r ≡ false → recordFault short q r m ≡ 0 → (q : Ids)
+    → recordFault short q r m ≡ 0
 unfolding recordFault isFragment
 fault-free short q unknown m f h q′ = h
 fault-free short q (fragment g) m f h q′ = let z : _≡_ {A = ℕ} 0 1 = cc in absurd (omega arith)
@@ -140,17 +147,18 @@ whole-short w z h =
     let k : size (w ++ z) ≤ length (w ++ z) = rw (whole-size w z h, length-append w z) (omega (arith, h .whole)) in
     le-ltb _ _ k
 
-pub one-whole : {A : Type 0} (q : Seen) (more : Record → ℕ) (f : Record → Parser A) (w z : List ℕ) → Whole w → recordFault false q (recordOf w) (more (recordOf w)) ≡ 0
-    → one q more f (w ++ z) ≡ f (recordOf w) z
+pub one-whole : {A : Type 0} (q : Ids) (more : Record → ℕ) (f : Record → Parser A) (w z : List ℕ) → Whole w
+    → recordFault false q (recordOf w) (more (recordOf w)) ≡ 0 → one q more f (w ++ z) ≡ f (recordOf w) z
 unfolding one sound pick
 one-whole q more f w z h k = rw (whole-missing w z h, whole-short w z h, whole-record w z h, k) (ap (f (recordOf w)) (whole-behind w z h))
 
-local-one : {A : Type 0} (more : Record → ℕ) → ((g : Fragment) → more (fragment g) ≡ 9) → (f : Record → Seen → Parser A) → ((r : Record) → Local (f r))
-    → Local (λ q x. one q more (λ r x. f r q x) x)
+local-one : {A : Type 0} (more : Record → ℕ) → ((g : Fragment) → more (fragment g) ≡ 9) → (f : Record → Ids → Parser A)
+    → ((r : Record) → Local (f r)) → Local (λ q x. one q more (λ r x. f r q x) x)
 unfolding one sound
 local-one {A} more kf f l = record { at = λ q x a y h. by q x a y _ refl h }
   where
-    by : (q : Seen) (x : List ℕ) (a : A) (y : List ℕ) (n : ℕ) → pick (missing x) 3 (recordFault (ltb (length x) (size x)) q (recordOf x) (more (recordOf x))) ≡ n
+    by : (q : Ids) (x : List ℕ) (a : A) (y : List ℕ) (n : ℕ)
+        → pick (missing x) 3 (recordFault (ltb (length x) (size x)) q (recordOf x) (more (recordOf x))) ≡ n
         → sound n x (λ x′. f (recordOf x) q x′) ≡ good a y → Taken (λ q x. one q more (λ r x. f r q x) x) x a y
     by q x a y (suc n) e h = absurd (bad-good (suc n) x a y h)
     by q x a y zero e h =
@@ -167,7 +175,8 @@ local-one {A} more kf f l = record { at = λ q x a y h. by q x a y _ refl h }
           split = sym (first-split x) ∙ ap (λ l. w ++ l) (s .split) ∙ sym (append-assoc w (s .u) y);
           plain = after w hw (rw hr nf) (s .plain);
           again = λ q′ z. rw (append-assoc w (s .u) z)
-              (one-whole q′ more (λ r x. f r q′ x) w (s .u ++ z) hw (rw hr (fault-free false q (recordOf x) (more (recordOf x)) nf hq q′)) ∙ rw hr (s .again q′ z));
+              (one-whole q′ more (λ r x. f r q′ x) w (s .u ++ z) hw
+              (rw hr (fault-free false q (recordOf x) (more (recordOf x)) nf hq q′)) ∙ rw hr (s .again q′ z));
         }
 
 -- the parsers of a class
@@ -176,17 +185,19 @@ local-ranges : (earlier : List Range) (n : ℕ) (o : Option Sign) → Local (λ 
 unfolding parseRanges rangeFault
 local-ranges earlier zero o = local-good (o, [])
 local-ranges earlier (suc n) o =
-    local-one (rangeFault o earlier) (λ g. refl) (λ r q x. then (parseRanges q earlier n ((rangeOf r) .0) x) (λ p x. good (p .0, (rangeOf r) .1 ++ p .1) x))
+    local-one (rangeFault o earlier) (λ g. refl)
+    (λ r q x. then (parseRanges q earlier n ((rangeOf r) .0) x) (λ p x. good (p .0, (rangeOf r) .1 ++ p .1) x))
     (λ r. local-then (λ q x. parseRanges q earlier n ((rangeOf r) .0) x) (λ p q x. good (p .0, (rangeOf r) .1 ++ p .1) x)
     (local-ranges earlier n ((rangeOf r) .0)) (λ p. local-good (p .0, (rangeOf r) .1 ++ p .1)))
 
-module _ (f : Seen → Spot → Parser Class) (lf : (z : Spot) → Local (λ q x. f q z x)) where
+module _ (f : Ids → Spot → Parser Class) (lf : (z : Spot) → Local (λ q x. f q z x)) where
   local-members : (z : Spot) (n : ℕ) → Local (λ q x. parseMembers (f q) z n x)
   unfolding parseMembers
   local-members z zero = local-good noMember
   local-members z (suc n) =
       local-then (λ q x. f q z x) (λ c q x. then (parseMembers (f q) inside n x) (λ cs x. good (member c cs) x)) (lf z)
-      (λ c. local-then (λ q x. parseMembers (f q) inside n x) (λ cs q x. good (member c cs) x) (local-members inside n) (λ cs. local-good (member c cs)))
+      (λ c. local-then (λ q x. parseMembers (f q) inside n x) (λ cs q x. good (member c cs) x) (local-members inside n)
+      (λ cs. local-good (member c cs)))
 
   local-options : (n : ℕ) (p : Ranges) → Local (λ q x. parseOptions q (f q) n p x)
   unfolding parseOptions optionFault
@@ -211,8 +222,10 @@ module _ (f : Seen → Spot → Parser Class) (lf : (z : Spot) → Local (λ q x
   local-shape z y members = local-then _ _ (local-members (memberSpot z) (y .count)) (λ cs. local-good (structure (y .align) cs))
   local-shape z y elements = local-then _ _ (lf inside) (λ c. local-good (staticArray (y .count) (y .align) c))
   local-shape z y elementsOf = local-then _ _ (lf inside) (λ c. local-good (dynamicArray (y .reads) (y .align) c))
-  local-shape z y option? = local-then _ _ (local-ranges [] (y .count) none) (λ p. local-then _ _ (lf inside) (λ c. local-good (selected (y .reads) p c)))
-  local-shape z y options = local-then _ _ (local-options (y .count) (none, [])) (λ p. local-good (variant (y .reads) (theSign (p .0)) (p .1)))
+  local-shape z y option? =
+      local-then _ _ (local-ranges [] (y .count) none) (λ p. local-then _ _ (lf inside) (λ c. local-good (selected (y .reads) p c)))
+  local-shape z y options =
+      local-then _ _ (local-options (y .count) (none, [])) (λ p. local-good (variant (y .reads) (theSign (p .0)) (p .1)))
 
   local-body : (z : Spot) (r : Record) → Local (λ q x. parseBody q (f q) z r x)
   unfolding parseBody

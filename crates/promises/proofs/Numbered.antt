@@ -12,7 +12,7 @@ use Rattle.rules.specs.Class.{Sign, Range, Class}
 use Rattle.rules.specs.Record.{Shape, bitField, lebField, signedLebField, zeroString, text, blob, textOf, blobOf, members, elements, elementsOf, option?, options}
 use Rattle.rules.specs.Record.{Says, Fragment, preamble, traceClass, clockClass, streamClass, eventClass}
 use Rattle.rules.specs.Record.{Record, unknown, fragment, root, class, range, option, recordOf, behind, size}
-use Rattle.rules.specs.Faults.{pick, Seen, noneSeen, seen, fragmentFault, recordFault, firstFault, Spot, top, inside, memberSpot, Under, classFault, rangeFault, optionFault, rootFault, openFault}
+use Rattle.rules.specs.Faults.{pick, Ids, noIds, seen, fragmentFault, recordFault, firstFault, Spot, top, inside, memberSpot, Under, classFault, rangeFault, optionFault, rootFault, openFault}
 use Rattle.rules.specs.Table.{Table}
 use Rattle.rules.specs.Parse.{Parsed, bad, good, Parser, then, sound, missing, one, Ranges, rangeOf, countOf, parseRanges, parseOptions, parseMembers, parseShape, parseBody, parseClass}
 use Rattle.rules.specs.Parse.{isRoot, anyRoot, parseRoots, rootNumbers, isTimed, hasUuid, parseFragment, parseOpened, parseFragments, parse}
@@ -27,7 +27,7 @@ unfolding pick
 pick-15 true n m h k = h
 pick-15 false n m h k = k
 
-fragment-15 : (q : Seen) (f : Fragment) (m : ℕ) → To15 m → To15 (fragmentFault q f m)
+fragment-15 : (q : Ids) (f : Fragment) (m : ℕ) → To15 m → To15 (fragmentFault q f m)
 unfolding fragmentFault
 fragment-15 q (preamble v) m h = omega arith
 fragment-15 q (traceClass u x) m h = pick-15 _ 6 m (omega arith) h
@@ -35,7 +35,7 @@ fragment-15 q (clockClass i f) m h = pick-15 _ 7 m (omega arith) h
 fragment-15 q (streamClass i c) m h = pick-15 _ 7 _ (omega arith) (pick-15 _ 8 m (omega arith) h)
 fragment-15 q (eventClass i j) m h = pick-15 _ 7 _ (omega arith) (pick-15 _ 8 m (omega arith) h)
 
-record-15 : (short : Bool) (q : Seen) (r : Record) (m : ℕ) → To15 m → To15 (recordFault short q r m)
+record-15 : (short : Bool) (q : Ids) (r : Record) (m : ℕ) → To15 m → To15 (recordFault short q r m)
 unfolding recordFault
 record-15 short q unknown m h = omega arith
 record-15 short q (fragment f) m h = pick-15 short 3 _ (omega arith) (fragment-15 q f m h)
@@ -94,7 +94,7 @@ root-15 (class y) = omega arith
 root-15 (range g l h) = omega arith
 root-15 (option n) = omega arith
 
-open-15 : (q : Seen) (r : Record) → To15 (openFault q r)
+open-15 : (q : Ids) (r : Record) → To15 (openFault q r)
 unfolding openFault
 open-15 q unknown = omega arith
 open-15 q (fragment (preamble v)) = omega arith
@@ -123,18 +123,18 @@ unfolding sound
 sound-numbered zero x f h k = k (behind x)
 sound-numbered (suc n) x f h k = omega arith
 
-one-numbered : {A : Type 0} (q : Seen) (more : Record → ℕ) (f : Record → Parser A) (x : List ℕ) → ((r : Record) → To15 (more r)) → ((r : Record) (y : List ℕ) → Numbered (f r y))
+one-numbered : {A : Type 0} (q : Ids) (more : Record → ℕ) (f : Record → Parser A) (x : List ℕ) → ((r : Record) → To15 (more r)) → ((r : Record) (y : List ℕ) → Numbered (f r y))
     → Numbered (one q more f x)
 unfolding one
 one-numbered q more f x h k = sound-numbered _ x _ (pick-15 (missing x) 3 _ (omega arith) (record-15 _ q (recordOf x) _ (h (recordOf x)))) (λ y. k (recordOf x) y)
 
-ranges-numbered : (q : Seen) (earlier : List Range) (n : ℕ) (o : Option Sign) (x : List ℕ) → Numbered (parseRanges q earlier n o x)
+ranges-numbered : (q : Ids) (earlier : List Range) (n : ℕ) (o : Option Sign) (x : List ℕ) → Numbered (parseRanges q earlier n o x)
 unfolding parseRanges
 ranges-numbered q earlier zero o x = tt
 ranges-numbered q earlier (suc n) o x =
     one-numbered q _ _ x (range-15 o earlier) (λ r y. then-numbered (parseRanges q earlier n ((rangeOf r) .0) y) _ (ranges-numbered q earlier n ((rangeOf r) .0) y) (λ p z. tt))
 
-module _ (q : Seen) (f : Spot → Parser Class) (h : (z : Spot) (x : List ℕ) → Numbered (f z x)) where
+module _ (q : Ids) (f : Spot → Parser Class) (h : (z : Spot) (x : List ℕ) → Numbered (f z x)) where
   options-numbered : (n : ℕ) (p : Ranges) (x : List ℕ) → Numbered (parseOptions q f n p x)
   unfolding parseOptions
   options-numbered zero p x = tt
@@ -175,7 +175,7 @@ module _ (q : Seen) (f : Spot → Parser Class) (h : (z : Spot) (x : List ℕ) �
   body-numbered z (range g l i) x = omega arith
   body-numbered z (option n) x = omega arith
 
-class-numbered : (q : Seen) (u : Under) (left : ℕ) (z : Spot) (x : List ℕ) → Numbered (parseClass q u left z x)
+class-numbered : (q : Ids) (u : Under) (left : ℕ) (z : Spot) (x : List ℕ) → Numbered (parseClass q u left z x)
 unfolding parseClass
 class-numbered q u zero z x = one-numbered q _ _ x (class-15 u z true) (λ r y. omega arith)
 class-numbered q u (suc left) z x =
@@ -185,7 +185,7 @@ numbered-if : {A : Type 0} (b : Bool) (p r : Parsed A) → Numbered p → Number
 numbered-if true p r h k = h
 numbered-if false p r h k = k
 
-roots-numbered : (q : Seen) (timed has : Bool) (ns : List ℕ) (x : List ℕ) → Numbered (parseRoots q timed has ns x)
+roots-numbered : (q : Ids) (timed has : Bool) (ns : List ℕ) (x : List ℕ) → Numbered (parseRoots q timed has ns x)
 unfolding parseRoots
 roots-numbered q timed has [] x = numbered-if (not (missing x) && anyRoot (recordOf x)) _ _ (one-numbered q _ _ x root-15 (λ r y. omega arith)) tt
 roots-numbered q timed has (n ∷ ns) x =
@@ -194,7 +194,7 @@ roots-numbered q timed has (n ∷ ns) x =
     then-numbered (parseRoots q timed has ns y) _ (roots-numbered q timed has ns y) (λ cs y. tt)))
     (then-numbered (parseRoots q timed has ns x) _ (roots-numbered q timed has ns x) (λ cs y. tt))
 
-opened-numbered : (q : Seen) (f : Seen → Parser Table) → ((s : Seen) (x : List ℕ) → Numbered (f s x)) → (r : Record) (x : List ℕ) → Numbered (parseOpened q f r x)
+opened-numbered : (q : Ids) (f : Ids → Parser Table) → ((s : Ids) (x : List ℕ) → Numbered (f s x)) → (r : Record) (x : List ℕ) → Numbered (parseOpened q f r x)
 unfolding parseOpened parseFragment
 opened-numbered q f h unknown x = omega arith
 opened-numbered q f h (fragment g) x =
@@ -205,7 +205,7 @@ opened-numbered q f h (class y) x = omega arith
 opened-numbered q f h (range g l i) x = omega arith
 opened-numbered q f h (option n) x = omega arith
 
-fragments-numbered : (left : ℕ) (q : Seen) (x : List ℕ) → Numbered (parseFragments left q x)
+fragments-numbered : (left : ℕ) (q : Ids) (x : List ℕ) → Numbered (parseFragments left q x)
 unfolding parseFragments
 fragments-numbered zero q x = tt
 fragments-numbered (suc left) q x =
@@ -216,7 +216,7 @@ unfolding parse
 table-numbered x =
     numbered-if (missing x || ltb tableLimit (length x)) _ _ (omega arith)
     (sound-numbered _ x _ (first-15 _ (recordOf x)) (λ y.
-    then-numbered (parseRoots noneSeen false false [] y) _ (roots-numbered noneSeen false false [] y) (λ cs z. fragments-numbered (length z) noneSeen z)))
+    then-numbered (parseRoots noIds false false [] y) _ (roots-numbered noIds false false [] y) (λ cs z. fragments-numbered (length z) noIds z)))
 
 pub refused-number : (x : List ℕ) (n : ℕ) (y : List ℕ) → parse x ≡ bad n y → (1 ≤ n) × (n ≤ 15)
 refused-number x n y h = subst Numbered h (table-numbered x)

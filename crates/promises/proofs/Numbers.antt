@@ -19,7 +19,7 @@ use Rattle.rules.specs.declared.Ended.the-variants.{After, Never}
 use Rattle.rules.specs.declared.Refusal.{Refusal}
 use Rattle.rules.specs.declared.Refusal.the-variants.{PastBound, LebTooLarge, NoZeroByte, ClockTooLarge}
 use Rattle.rules.specs.Record.{Record, unknown, fragment, root, class, range, option, Layout, no, bitsLayout, layouts, layoutOf, recordOf, u8}
-use Rattle.rules.specs.Faults.{Seen, firstFault, recordFault}
+use Rattle.rules.specs.Faults.{Ids, firstFault, recordFault}
 use Rattle.rules.specs.Leb128.{lebUnsigned, lebSigned}
 use Rattle.rules.specs.Clock.{clockAfter}
 use Rattle.rules.specs.Text.{zeroAt}
@@ -138,7 +138,7 @@ unfolding bodyOf recordOf layoutOf without no known
 no-kind x h = unknown-only _ (no-body _ _ (every-at (without _) layouts (all-without _) refl (u8 x 0)) h)
 
 by-kind : (x : List ℕ) → bodyOf (u8 x 0) ≡ Unknown → (short : Bool)
-    → (firstFault short (recordOf x) ≡ bodyNumber Unknown) × ((q : Seen) (m : ℕ) → recordFault short q (recordOf x) m ≡ bodyNumber Unknown)
+    → (firstFault short (recordOf x) ≡ bodyNumber Unknown) × ((q : Ids) (m : ℕ) → recordFault short q (recordOf x) m ≡ bodyNumber Unknown)
 unfolding firstFault recordFault bodyNumber
 by-kind x h short = rw (no-kind x h) (refl, λ q m. refl)
 

@@ -9,8 +9,8 @@ use Rattle.rules.specs.declared.Entry.{Entry}
 use Rattle.rules.specs.declared.Stop.{Stop}
 use Rattle.rules.specs.Entry.{words}
 use Rattle.rules.specs.Slots.{Slots, noSlots}
-use Rattle.rules.specs.Step.{State as Whole, Out, stop, go, Step}
-use Rattle.listing.specs.declared.State.{State}
+use Rattle.rules.specs.Step.{State, Out, stop, go, Step}
+use Rattle.listing.specs.declared.Progress.{Progress}
 use Rattle.listing.specs.declared.Went.{Went}
 use Rattle.listing.specs.declared.Went.the-variants.{On, Stopped}
 use Rattle.listing.specs.Did.{Did, RoleDid, full, outOf}
@@ -18,12 +18,12 @@ use Rattle.listing.specs.declared.role.Roled.{Roled}
 use Rattle.field_read.specs.declared.Field.{Field}
 use Rattle.field_read.specs.Reads.{FieldReads}
 use Rattle.class_layout.specs.declared.openings.Opening.{Opening}
-use Rattle.class_layout.specs.Sizes.{numbered, Opens}
+use Rattle.class_layout.specs.Sizes.{numbered, OpeningOf}
 use Rattle.promises.specs.Only.{NoSlack}
 
 -- What a step did
 
-pub record SameDid (w w′ : Went) (u u′ : ℕ) (st st′ : State) (l l′ : Slots) (vs vs′ : List ℕ) : Type 0 where
+pub record SameDid (w w′ : Went) (u u′ : ℕ) (st st′ : Progress) (l l′ : Slots) (vs vs′ : List ℕ) : Type 0 where
   pub went : w ≡ w′
   pub used : u ≡ u′
   pub state : st ≡ st′
@@ -36,13 +36,13 @@ stop-entries es es′ v v′ h = cc
 stop-why : (es es′ : List Entry) (v v′ : Stop) → stop es v ≡ stop es′ v′ → v ≡ v′
 stop-why es es′ v v′ h = cc
 
-go-entries : (es es′ : List Entry) (s s′ : Whole) → go es s ≡ go es′ s′ → es ≡ es′
+go-entries : (es es′ : List Entry) (s s′ : State) → go es s ≡ go es′ s′ → es ≡ es′
 go-entries es es′ s s′ h = cc
 
-go-state : (es es′ : List Entry) (s s′ : Whole) → go es s ≡ go es′ s′ → s ≡ s′
+go-state : (es es′ : List Entry) (s s′ : State) → go es s ≡ go es′ s′ → s ≡ s′
 go-state es es′ s s′ h = cc
 
-full-state : (st st′ : State) (l l′ : Slots) (n n′ : ℕ) → full st l n ≡ full st′ l′ n′ → st ≡ st′
+full-state : (st st′ : Progress) (l l′ : Slots) (n n′ : ℕ) → full st l n ≡ full st′ l′ n′ → st ≡ st′
 full-state st st′ l l′ n n′ h = λ i. record {
   place = (h i) .place;
   order = (h i) .order;
@@ -51,12 +51,12 @@ full-state st st′ l l′ n n′ h = λ i. record {
   said = (h i) .said;
 }
 
-module _ (o : Out) (came : State) (ws : List ℕ) where
+module _ (o : Out) (came : Progress) (ws : List ℕ) where
   same-list : (u u′ : ℕ) (es es′ : List Entry) (vs vs′ : List ℕ) → es ≡ es′ → u ≡ u′
       → vs ≡ words es ++ drop u ws → vs′ ≡ words es′ ++ drop u′ ws → vs ≡ vs′
   same-list u u′ es es′ vs vs′ e p h k = h ∙ (λ i. words (e i) ++ drop (p i) ws) ∙ sym k
 
-  pub did-same : (w w′ : Went) (u u′ : ℕ) (st st′ : State) (l l′ : Slots) (vs vs′ : List ℕ)
+  pub did-same : (w w′ : Went) (u u′ : ℕ) (st st′ : Progress) (l l′ : Slots) (vs vs′ : List ℕ)
       → Did o came w u st l ws vs → Did o came w′ u′ st′ l′ ws vs′
       → SameDid w w′ u u′ st st′ l l′ vs vs′
   unfolding outOf
@@ -97,14 +97,14 @@ went-by (Stopped v) f g = g v refl
 
 -- Fields and roles
 
-field-same : (m : Step) (st : State) (l : Slots) (ws : List ℕ) (r r′ : Field) (vs vs′ : List ℕ)
+field-same : (m : Step) (st : Progress) (l : Slots) (ws : List ℕ) (r r′ : Field) (vs vs′ : List ℕ)
     → FieldReads m st l r ws vs → FieldReads m st l r′ ws vs′ → (r ≡ r′) × (vs ≡ vs′)
 field-same m st l ws r r′ vs vs′ d d′ =
     let x = did-same (m (full st l (length ws))) st ws _ _ _ _ _ _ _ _ vs vs′ (d .did) (d′ .did) in
     let y : r .slots ≡ r′ .slots = went-by (r .went) (λ q. x .slots q) (λ v q. d .kept v q ∙ sym (d′ .kept v (sym (x .went) ∙ q))) in
     ((λ i. record { went = x .went i; used = x .used i; state = x .state i; slots = y i }), x .list)
 
-role-same : (m : Step) (st : State) (ws : List ℕ) (r r′ : Roled) (vs vs′ : List ℕ)
+role-same : (m : Step) (st : Progress) (ws : List ℕ) (r r′ : Roled) (vs vs′ : List ℕ)
     → RoleDid m st r ws vs → RoleDid m st r′ ws vs′ → (r ≡ r′) × (vs ≡ vs′)
 role-same m st ws r r′ vs vs′ d d′ =
     let x = did-same (m (full st noSlots (length ws))) st ws _ _ _ _ _ _ _ _ vs vs′ (d .at noSlots) (d′ .at noSlots) in
@@ -132,7 +132,7 @@ first-same n n′ zero (suc c′) h p q = let z : _≡_ {A = ℕ} 0 1 = cc in ab
 first-same n n′ (suc c) zero h p q = let z : _≡_ {A = ℕ} 0 1 = cc in absurd (omega arith)
 first-same n n′ (suc c) (suc c′) h p q = cons-head _ _ _ _ h
 
-opening-same : (k : ℕ) (r r′ : Opening) → Opens k r → Opens k r′ → r ≡ r′
+opening-same : (k : ℕ) (r r′ : Opening) → OpeningOf k r → OpeningOf k r′ → r ≡ r′
 opening-same k r r′ p q =
     let h = sym (p .roots) ∙ q .roots in
     λ i. record {

@@ -5,13 +5,13 @@ use mathlib.Core.List.{List}
 use lib.ListN.{length}
 use Rattle.rules.specs.Slots.{Slots, noSlots}
 use Rattle.rules.specs.Step.{Out}
-use Rattle.listing.specs.declared.State.{State}
+use Rattle.listing.specs.declared.Progress.{Progress}
 use Rattle.listing.specs.Did.{Did, full}
 use Rattle.outcome.specs.declared.Ran.{Ran}
 use Rattle.promises.specs.OnlyRan.{NoSlackRan}
 use Rattle.promises.proofs.Only.{did-same}
 
-ran-same : (o : Out) (st : State) (ws : List ℕ) (l l′ : Slots) (r r′ : Ran) (vs vs′ : List ℕ)
+ran-same : (o : Out) (st : Progress) (ws : List ℕ) (l l′ : Slots) (r r′ : Ran) (vs vs′ : List ℕ)
     → Did o st (r .went) (r .used) (r .state) l ws vs
     → Did o st (r′ .went) (r′ .used) (r′ .state) l′ ws vs′ → (r ≡ r′) × (vs ≡ vs′)
 ran-same o st ws l l′ r r′ vs vs′ d d′ =

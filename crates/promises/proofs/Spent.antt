@@ -19,7 +19,8 @@ use Rattle.rules.specs.Limits.{wordsPerEntry, streamLimit}
 use Rattle.rules.specs.Verdict.{stopAt, refusalNumber, numberOf}
 use Rattle.rules.specs.Place.{bitPlace}
 use Rattle.rules.specs.Slots.{slotAt}
-use Rattle.rules.specs.Step.{State, Out, stop, go, Step, onto, after, _⨾_, refuse, check, due, listed, change, pass, withSlots, withOrder, withClock, withLast, withSaid}
+use Rattle.rules.specs.Step.{State, Out, stop, go, Step, onto, after, _⨾_, refuse, check, due, listed}
+use Rattle.rules.specs.Step.{change, pass, withSlots, withOrder, withClock, withLast, withSaid}
 use Rattle.rules.specs.Table.{Asked, asked}
 use Rattle.rules.specs.Field.{Env, field, store, say, fromSlot}
 use Rattle.rules.specs.Packet.{readPacket, readPackets, mark, startEvent, startPacket, endPacket}
@@ -46,7 +47,8 @@ record Spent (m : Step) : Type 0 where
 record SpentR (m : Step) : Type 0 where
   at : (s : State) → wordsPerEntry ≤ s .room → SpentOut s (m s)
 
-spent-onto : (s : State) (es : List Entry) (s′ : State) → s′ .room + wordsPerEntry * length es ≡ s .room → (o : Out) → SpentOut s′ o → SpentOut s (onto es o)
+spent-onto : (s : State) (es : List Entry) (s′ : State) → s′ .room + wordsPerEntry * length es ≡ s .room → (o : Out) → SpentOut s′ o
+    → SpentOut s (onto es o)
 unfolding onto
 spent-onto s es s′ w (stop fs v) h =
     record {
@@ -92,7 +94,8 @@ due-spent : {m : Step} → SpentR m → Spent (due ⨾ m)
 unfolding due check _⨾_ pass refuse after
 due-spent {m} h = record { at = λ s. by s (ltb (s .room) wordsPerEntry) refl }
   where
-    by : (s : State) (b : Bool) → ltb (s .room) wordsPerEntry ≡ b → SpentOut s (after (elim b [ true ↦ refuse ListFull s | false ↦ pass s ]) m)
+    by : (s : State) (b : Bool) → ltb (s .room) wordsPerEntry ≡ b
+        → SpentOut s (after (elim b [ true ↦ refuse ListFull s | false ↦ pass s ]) m)
     by s true e = unfold refusalNumber in let r : s .room < wordsPerEntry = ltb-true (s .room) wordsPerEntry e in
         record { within = omega arith; full = λ q. omega arith }
     by s false e = rw (onto-nil (m s)) (h .at s (ltb-false (s .room) wordsPerEntry e))
@@ -137,7 +140,8 @@ spent-packets = record {
 
 -- a packet that goes through leaves no more room
 
-pub packet-spent : (t : Asked) (b : List ℕ) (k : ℕ) (i : Stated) (s : State) (es : List Entry) (u : State) → readPacket t b k i s ≡ go es u → u .room ≤ s .room
+pub packet-spent : (t : Asked) (b : List ℕ) (k : ℕ) (i : Stated) (s : State) (es : List Entry) (u : State) → readPacket t b k i s ≡ go es u
+    → u .room ≤ s .room
 packet-spent t b k i s es u q =
     let h : u .room + wordsPerEntry * length es ≡ s .room = subst (SpentOut s) q (simple-packet spent-packets t b k i .at s) in
     omega arith
@@ -153,7 +157,10 @@ stream-spent : (t : Asked) (b : List ℕ) (room : ℕ) → SpentReading room (re
 unfolding readStream numberOf refusalNumber
 stream-spent t b room = by (eqb (length b) 0 || ltb streamLimit (length b))
   where
-    by : (x : Bool) → SpentReading room (elim x [ true ↦ record { entries = []; verdict = Refused (stopAt StreamSize (bitPlace 0)) } | false ↦ ended (readPackets t b 0 Missing (length b) (begin room)) ])
+    by : (x : Bool) → SpentReading room (elim x [
+      | true ↦ record { entries = []; verdict = Refused (stopAt StreamSize (bitPlace 0)) }
+      | false ↦ ended (readPackets t b 0 Missing (length b) (begin room))
+    ])
     by true = record { within = omega arith; full = λ e. absurd (omega arith) }
     by false = unfold begin in ended-spent (begin room) _ (simple-packets spent-packets t b 0 Missing (length b) .at (begin room))
 

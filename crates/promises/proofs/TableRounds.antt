@@ -9,8 +9,9 @@ use lib.ListN.{length, length-drop}
 use lib.Dec.{ltb}
 use Rattle.rules.specs.Record.{Record, unknown, fragment, root, class, range, option, recordOf, behind, size, layoutOf}
 use Rattle.rules.specs.Table.{Table}
-use Rattle.rules.specs.Parse.{Parsed, bad, good, Parser, then, sound, missing, one, parseRoots, noTable, rootNumbers, isTimed, hasUuid, add, parseFragment, parseOpened, parseFragments}
-use Rattle.rules.specs.Faults.{pick, Seen, recordFault, openFault, seen}
+use Rattle.rules.specs.Parse.{Parsed, bad, good, Parser, then, sound, missing, one, parseRoots, noTable}
+use Rattle.rules.specs.Parse.{rootNumbers, isTimed, hasUuid, add, parseFragment, parseOpened, parseFragments}
+use Rattle.rules.specs.Faults.{pick, Ids, recordFault, openFault, seen}
 use Rattle.laws.proofs.Law.{Any}
 use Rattle.laws.proofs.Accepted.{Tells, Yields, yields-roots}
 
@@ -34,7 +35,8 @@ unfolding then
 then-agree n P (bad k x) F F′ h k′ = refl
 then-agree n P (good a x) F F′ h k′ = k′ a x (h .1)
 
-one-agree : {A : Type 0} (q : Seen) (more : Record → ℕ) (f f′ : Record → Parser A) (x : List ℕ) → f (recordOf x) (behind x) ≡ f′ (recordOf x) (behind x) → one q more f x ≡ one q more f′ x
+one-agree : {A : Type 0} (q : Ids) (more : Record → ℕ) (f f′ : Record → Parser A) (x : List ℕ)
+    → f (recordOf x) (behind x) ≡ f′ (recordOf x) (behind x) → one q more f x ≡ one q more f′ x
 unfolding one
 one-agree {A} q more f f′ x h = by (pick (missing x) 3 (recordFault (ltb (length x) (size x)) q (recordOf x) (more (recordOf x))))
   where
@@ -42,7 +44,8 @@ one-agree {A} q more f f′ x h = by (pick (missing x) 3 (recordFault (ltb (leng
     by zero = unfold sound in h
     by (suc v) = unfold sound in refl
 
-opened-agree : (n : ℕ) (q : Seen) (F F′ : Seen → Parser Table) → ((q : Seen) (x : List ℕ) → length x ≤ n → F q x ≡ F′ q x) → (r : Record) (x : List ℕ) → length x ≤ n
+opened-agree : (n : ℕ) (q : Ids) (F F′ : Ids → Parser Table) → ((q : Ids) (x : List ℕ) → length x ≤ n → F q x ≡ F′ q x)
+    → (r : Record) (x : List ℕ) → length x ≤ n
     → parseOpened q F r x ≡ parseOpened q F′ r x
 unfolding parseOpened parseFragment
 opened-agree n q F F′ h unknown x l = refl
@@ -56,7 +59,7 @@ opened-agree n q F F′ h (range s a b) x l = refl
 opened-agree n q F F′ h (option k) x l = refl
 
 -- as many rounds as there are bytes left are enough
-pub table-rounds : (left more : ℕ) (q : Seen) (x : List ℕ) → length x ≤ left → parseFragments (left + more) q x ≡ parseFragments left q x
+pub table-rounds : (left more : ℕ) (q : Ids) (x : List ℕ) → length x ≤ left → parseFragments (left + more) q x ≡ parseFragments left q x
 unfolding parseFragments missing
 table-rounds zero more q [] h = by (zero + more)
   where
@@ -66,8 +69,12 @@ table-rounds zero more q [] h = by (zero + more)
 table-rounds zero more q (b ∷ x) h = absurd (omega arith)
 table-rounds (suc left) more q x h = rw suc-add (by (missing x) refl (λ q y k. table-rounds left more q y k))
   where
-    by : (b : Bool) → missing x ≡ b → ((q : Seen) (y : List ℕ) → length y ≤ left → parseFragments (left + more) q y ≡ parseFragments left q y)
-        → _≡_ {A = Parsed Table} (elim b [ true ↦ good noTable x | false ↦ one q (openFault q) (λ r x. parseOpened q (parseFragments (left + more)) r x) x ])
-        (elim b [ true ↦ good noTable x | false ↦ one q (openFault q) (λ r x. parseOpened q (parseFragments left) r x) x ])
+    -- a round with n more behind it, by whether x is at its end
+    round : ℕ → Bool → Parsed Table
+    round n b = elim b [ true ↦ good noTable x | false ↦ one q (openFault q) (λ r x. parseOpened q (parseFragments n) r x) x ]
+
+    by : (b : Bool) → missing x ≡ b
+        → ((q : Ids) (y : List ℕ) → length y ≤ left → parseFragments (left + more) q y ≡ parseFragments left q y)
+        → round (left + more) b ≡ round left b
     by true e rec = refl
     by false e rec = one-agree q (openFault q) _ _ x (opened-agree left q _ _ rec (recordOf x) (behind x) (behind-less x left e h))

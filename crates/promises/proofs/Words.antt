@@ -23,7 +23,8 @@ use Rattle.rules.specs.declared.Ended.{Ended}
 use Rattle.rules.specs.declared.Ended.the-variants.{After, Never}
 use Rattle.rules.specs.declared.Entry.{Entry}
 use Rattle.rules.specs.declared.Refusal.{Refusal}
-use Rattle.rules.specs.declared.Refusal.the-variants.{PastBound, OrderChanged, LebTooLarge, NoZeroByte, SlotUnset, SlotOfWrongSort, LengthTooLarge, SelectorInNoOption, WrongMagic, WrongUuid, ClockTooLarge}
+use Rattle.rules.specs.declared.Refusal.the-variants.{PastBound, OrderChanged, LebTooLarge, NoZeroByte, SlotUnset, SlotOfWrongSort}
+use Rattle.rules.specs.declared.Refusal.the-variants.{LengthTooLarge, SelectorInNoOption, WrongMagic, WrongUuid, ClockTooLarge}
 use Rattle.rules.specs.Verdict.{stopAt}
 use Rattle.rules.specs.Bits.{bits}
 use Rattle.rules.specs.Leb128.{lebUnsigned, lebSigned}
@@ -32,10 +33,12 @@ use Rattle.rules.specs.Text.{textLength, zeroAt}
 use Rattle.rules.specs.Place.{alignFrom, roundUp}
 use Rattle.rules.specs.Slots.{slotAt}
 use Rattle.rules.specs.Entry.{entry, clockAdvanced}
-use Rattle.rules.specs.Step.{State, Step, _⨾_, refuse, check, due, listed, change, pass, withSlots, withOrder, withClock, withSaid}
-use Rattle.rules.specs.Class.{Role, noRole, magic, streamClassId, streamId, uuid, totalLength, contentLength, clock, endClock, discarded, sequence, eventClassId}
+use Rattle.rules.specs.Step.{State, Out, Step, _⨾_, refuse, check, due, listed, change, pass, withSlots, withOrder, withClock, withSaid}
+use Rattle.rules.specs.Class.{Role, noRole, magic, streamClassId, streamId, uuid, totalLength}
+use Rattle.rules.specs.Class.{contentLength, clock, endClock, discarded, sequence, eventClassId}
 use Rattle.rules.specs.Class.{Class, Sort, bitArray, boolean, unsignedInt, signedInt, float, kindOf}
-use Rattle.rules.specs.Field.{Env, aligned, fit, field, store, newClock, say, role, blobRole, fromSlot, valueOf, slotOf, ahead, bytesAt, readFixed, readLeb, readZero, readText, readBlob}
+use Rattle.rules.specs.Field.{Env, aligned, fit, field, store, newClock, say, role, blobRole, fromSlot, valueOf}
+use Rattle.rules.specs.Field.{slotOf, ahead, bytesAt, readFixed, readLeb, readZero, readText, readBlob}
 use Rattle.rules.specs.Packet.{readRoot}
 use Rattle.leb128.proofs.ValueSays.{unsigned-value, signed-value}
 use Rattle.text.proofs.Laws.{text-le, zero-found}
@@ -67,6 +70,10 @@ Fine A m = Triple WordEntry WordStop WordIds A m Wordy
 abbrev pub Worded : Step → Type 0
 Worded m = Triple WordEntry WordStop WordIds Wordy m Wordy
 
+-- an outcome whose entries, verdict and state are words
+abbrev pub WordedOut : Out → Type 0
+WordedOut o = Ok WordEntry WordStop WordIds Wordy o
+
 pub place-of : (r : Refusal) → WordIds r → (s : State) → Wordy s → WordStop (stopAt r (s .place))
 place-of r i s h = (h .place, i)
 
@@ -74,7 +81,8 @@ infixr 20 _⨾ʷ_
 pub _⨾ʷ_ : {A : State → Type 0} {m n : Step} → Fine A m → Worded n → Fine A (m ⨾ n)
 h ⨾ʷ k = then WordEntry WordStop WordIds h k
 
-pub word-listed : (x : Entry) (p : BitPlace) (s : State) → WordEntry x → Word (p .0) → Wordy s → Ok WordEntry WordStop WordIds Wordy (listed x p s)
+pub word-listed : (x : Entry) (p : BitPlace) (s : State) → WordEntry x → Word (p .0) → Wordy s
+    → Ok WordEntry WordStop WordIds Wordy (listed x p s)
 unfolding listed
 word-listed x p s h k w = ((h, tt), record { place = k; clock = w .clock; slots = w .slots; said = w .said })
 
@@ -92,23 +100,32 @@ word-due h = dued WordEntry WordStop WordIds place-of tt h
 
 word-order : (o : LastOrder) → Worded (change (withOrder o))
 unfolding withOrder
-word-order o = changing WordEntry WordStop WordIds _ (λ s h. record { place = h .place; clock = h .clock; slots = h .slots; said = h .said })
+word-order o = changing WordEntry WordStop WordIds _
+    (λ s h. record { place = h .place; clock = h .clock; slots = h .slots; said = h .said })
 
 word-store : (i : ℕ) (x : Content) → SlotOf Word x → Worded (store i x)
 unfolding store withSlots
-word-store i x g = changing WordEntry WordStop WordIds _ (λ s h. record { place = h .place; clock = h .clock; slots = set-word (s .slots) i x (h .slots) g; said = h .said })
+word-store i x g = changing WordEntry WordStop WordIds _
+    (λ s h. record { place = h .place; clock = h .clock; slots = set-word (s .slots) i x (h .slots) g; said = h .said })
 
 word-say : (f : Said → Said) → ((d : Said) → WordSaid d → WordSaid (f d)) → Worded (say f)
 unfolding say withSaid
-word-say f g = changing WordEntry WordStop WordIds _ (λ s h. record { place = h .place; clock = h .clock; slots = h .slots; said = g (s .said) (h .said) })
+word-say f g = changing WordEntry WordStop WordIds _
+    (λ s h. record { place = h .place; clock = h .clock; slots = h .slots; said = g (s .said) (h .said) })
 
 word-newClock : (l : ℕ) (o : Option ℕ) → Word l → ((c : ℕ) → o ≡ some c → Word c) → Worded (newClock l o)
 unfolding newClock
 word-newClock l none g h = word-refuse ClockTooLarge tt
-word-newClock l (some c) g h = by ⨾ʷ changing WordEntry WordStop WordIds (withClock c) (λ s w. unfold withClock in record { place = w .place; clock = h c refl; slots = w .slots; said = w .said })
+word-newClock l (some c) g h = six ⨾ʷ advanced
   where
-    by : Worded (λ s. listed (entry clockAdvanced (s .place) l c) (s .place) s)
-    by = record { at = λ s w. word-listed (entry clockAdvanced (s .place) l c) (s .place) s (omega arith, w .place, g, h c refl) (w .place) w }
+    six : Worded (λ s. listed (entry clockAdvanced (s .place) l c) (s .place) s)
+    six = record {
+      at = λ s w. word-listed (entry clockAdvanced (s .place) l c) (s .place) s (omega arith, w .place, g, h c refl) (w .place) w;
+    }
+
+    advanced : Worded (change (withClock c))
+    advanced = unfold withClock in changing WordEntry WordStop WordIds _
+        (λ s w. record { place = w .place; clock = h c refl; slots = w .slots; said = w .said })
 
 word-role : (r : Role) (l v : ℕ) → Word l → Word v → Worded (role r l v)
 unfolding role
@@ -119,7 +136,9 @@ word-role streamId l v g h = word-pass
 word-role uuid l v g h = word-pass
 word-role totalLength l v g h = word-say _ (λ d w. record { stream = w .stream; event = w .event; total = h; content = w .content })
 word-role contentLength l v g h = word-say _ (λ d w. record { stream = w .stream; event = w .event; total = w .total; content = h })
-word-role clock l v g h = word-due (record { at = λ s w. word-newClock l (clockAfter (s .clock) l v) g (λ c p. clock-word (s .clock) l v c p) .at s w })
+word-role clock l v g h = word-due (record {
+  at = λ s w. word-newClock l (clockAfter (s .clock) l v) g (λ c p. clock-word (s .clock) l v c p) .at s w;
+})
 word-role endClock l v g h = word-say _ (λ d w. record { stream = w .stream; event = w .event; total = w .total; content = w .content })
 word-role discarded l v g h = word-pass
 word-role sequence l v g h = word-pass
@@ -194,12 +213,13 @@ module _ (e : Env) (g : Env64 e) where
             (let p : ℕ = (aligned e a s) .0 in
             let v : ℕ = bits o (e .bytes) p n in
             let w : Word (valueOf k n v) = value-word k n o (e .bytes) p h in
-            a-field (kindOf k) a n (valueOf k n v) (kind-le k) w ⨾ʷ word-order (Was o) ⨾ʷ word-store i (slotOf k n v) (slotOf-word k n o (e .bytes) p h)
+            a-field (kindOf k) a n (valueOf k n v) (kind-le k) w ⨾ʷ word-order (Was o)
+            ⨾ʷ word-store i (slotOf k n v) (slotOf-word k n o (e .bytes) p h)
             ⨾ʷ word-role r n (valueOf k n v) (omega arith) w) .at s x;
       }))))
 
-  word-leb : (k : ℕ) (sl : ℕ → Content) (i : ℕ) (r : Role) (x : Leb) (s : State) → k ≤ 32 → ((v : ℕ) → Word v → SlotOf Word (sl v)) → Wordy s → (aligned e 8 s) .0 ≤ e .bound .0
-      → LebFits (ahead e (aligned e 8 s)) x → Ok WordEntry WordStop WordIds Wordy (readLeb e k sl i r x s)
+  word-leb : (k : ℕ) (sl : ℕ → Content) (i : ℕ) (r : Role) (x : Leb) (s : State) → k ≤ 32 → ((v : ℕ) → Word v → SlotOf Word (sl v))
+      → Wordy s → (aligned e 8 s) .0 ≤ e .bound .0 → LebFits (ahead e (aligned e 8 s)) x → WordedOut (readLeb e k sl i r x s)
   unfolding readLeb
   word-leb k sl i r Past s q f h b p = word-refuse PastBound tt .at s h
   word-leb k sl i r Large s q f h b p = word-refuse LebTooLarge tt .at s h
@@ -209,7 +229,8 @@ module _ (e : Env) (g : Env64 e) where
       (a-field k 8 (8 * n .0) v q u ⨾ʷ word-store i (sl v) (f v u) ⨾ʷ word-role r (7 * n .0) v (omega (arith, y .most)) u) .at s
       (h, ahead-fits e (aligned e 8 s) (n .0) b (y .inside))
 
-  word-zero : (x : Ended) (s : State) → Wordy s → (aligned e 8 s) .0 ≤ e .bound .0 → ((n : ByteLength) → x ≡ After n → n .0 < length (ahead e (aligned e 8 s))) → Ok WordEntry WordStop WordIds Wordy (readZero e x s)
+  word-zero : (x : Ended) (s : State) → Wordy s → (aligned e 8 s) .0 ≤ e .bound .0
+      → ((n : ByteLength) → x ≡ After n → n .0 < length (ahead e (aligned e 8 s))) → WordedOut (readZero e x s)
   unfolding readZero
   word-zero Never s h b p = word-refuse NoZeroByte tt .at s h
   word-zero (After n) s h b p =
@@ -239,8 +260,16 @@ module _ (e : Env) (g : Env64 e) where
     within = λ n h. untested WordEntry WordStop WordIds place-of _ LengthTooLarge tt h;
     slot = λ i f h. record { at = λ s x. h (slotAt (s .slots) i) (slot-word (s .slots) i (x .slots)) .at s x };
     fixes = λ k n o a i r w z. word-fixed k n o (2 ^ a) i r w;
-    lebs = λ i r z. at-zero (record { at = λ s x. word-leb 21 Unsigned i r (lebUnsigned (ahead e (aligned e 8 s))) s (omega arith) (λ v w. w) (x .0) (x .1) (unsigned-value _) });
-    signedLebs = λ i z. at-zero (record { at = λ s x. word-leb 22 Signed i noRole (lebSigned (ahead e (aligned e 8 s))) s (omega arith) (λ v w. w) (x .0) (x .1) (signed-value _) });
+    lebs = λ i r z. at-zero (record {
+      at = λ s x.
+          let l = lebUnsigned (ahead e (aligned e 8 s)) in
+          word-leb 21 Unsigned i r l s (omega arith) (λ v w. w) (x .0) (x .1) (unsigned-value _);
+    });
+    signedLebs = λ i z. at-zero (record {
+      at = λ s x.
+          let l = lebSigned (ahead e (aligned e 8 s)) in
+          word-leb 22 Signed i noRole l s (omega arith) (λ v w. w) (x .0) (x .1) (signed-value _);
+    });
     zeros = at-zero (record { at = λ s x. word-zero (zeroAt (ahead e (aligned e 8 s))) s (x .0) (x .1) (λ n z. zero-found _ n z .0) });
     texts = λ k n h. unfold readText in
         plain-fit 8 0 (fitting 8 (8 * n) (record {

@@ -15,7 +15,7 @@ use Rattle.rules.specs.Entry.{words}
 use Rattle.rules.specs.Verdict.{numberOf, placeOf}
 use Rattle.rules.specs.Step.{State, Out, stop, go}
 use Rattle.rules.specs.Field.{Env}
-use Rattle.rules.specs.Faults.{Seen}
+use Rattle.rules.specs.Faults.{Ids}
 use Rattle.rules.specs.Table.{Table, StreamClass, asked}
 use Rattle.rules.specs.Parse.{good, parse, parseFragments}
 use Rattle.rules.specs.Packet.{readEvent, readEvents, readPackets}
@@ -71,7 +71,7 @@ pub record Laws (x : List ℕ) (t : Table) : Type 0 where
   -- more room gives the same reading, or the first one has number 40 and its entries come first in the other
   pub room-more : (b : List ℕ) (room more : ℕ) → (readAll x b (room + more) ≡ readAll x b room) ⊎ RanOut (readAll x b room) (readAll x b (room + more))
   -- the rounds of the three loops never decide: more of them change nothing
-  pub fragment-rounds : (q : Seen) (y : List ℕ) (more : ℕ) → parseFragments (length y + more) q y ≡ parseFragments (length y) q y
+  pub fragment-rounds : (q : Ids) (y : List ℕ) (more : ℕ) → parseFragments (length y + more) q y ≡ parseFragments (length y) q y
   pub event-rounds : (c : StreamClass) (e : Env) (to : BitPlace) (n : ℕ) (s : State) (more : ℕ)
       → readEvents (asked t) c e to n (e .bound .0 - s .place .0 + more) s ≡ readEvents (asked t) c e to n (e .bound .0 - s .place .0) s
   pub packet-rounds : (b : List ℕ) (room more : ℕ)

@@ -11,7 +11,7 @@ use Rattle.rules.specs.declared.Leb.the-variants.{Past, Large}
 use Rattle.rules.specs.declared.Ended.the-variants.{Never}
 use Rattle.rules.specs.Limits.{wordsPerEntry}
 use Rattle.rules.specs.Record.{u8, recordOf}
-use Rattle.rules.specs.Faults.{Seen, firstFault, recordFault}
+use Rattle.rules.specs.Faults.{Ids, firstFault, recordFault}
 use Rattle.rules.specs.Leb128.{lebUnsigned, lebSigned}
 use Rattle.rules.specs.Clock.{clockAfter}
 use Rattle.rules.specs.Text.{zeroAt}
@@ -73,4 +73,4 @@ pub record Numbers : Type 0 where
   -- a record whose kind has no body (Refusing a table), the first one and any other
   pub kind-unknown : bodyNumber Unknown ≡ 2
   pub kind : (x : List ℕ) → bodyOf (u8 x 0) ≡ Unknown → (short : Bool)
-      → (firstFault short (recordOf x) ≡ bodyNumber Unknown) × ((q : Seen) (m : ℕ) → recordFault short q (recordOf x) m ≡ bodyNumber Unknown)
+      → (firstFault short (recordOf x) ≡ bodyNumber Unknown) × ((q : Ids) (m : ℕ) → recordFault short q (recordOf x) m ≡ bodyNumber Unknown)

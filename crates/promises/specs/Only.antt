@@ -6,10 +6,10 @@ use mathlib.Core.List.{List}
 use Rattle.rules.specs.Slots.{Slots}
 use Rattle.rules.specs.Step.{Step}
 use Rattle.clock.specs.declared.Clock.{Clock}
-use Rattle.listing.specs.declared.State.{State}
+use Rattle.listing.specs.declared.Progress.{Progress}
 use Rattle.listing.specs.Did.{RoleDid}
 use Rattle.field_read.specs.Reads.{FieldReads}
-use Rattle.class_layout.specs.Sizes.{Opens}
+use Rattle.class_layout.specs.Sizes.{OpeningOf}
 use Rattle.class_layout.specs.Notes.{Notes, Made, Reaches}
 use Rattle.promises.specs.declared.Both.{Both}
 use Rattle.promises.specs.Apart.{TwoStreams}
@@ -41,10 +41,10 @@ pub record NoSlack : Type 0 where
       → TwoStreams x b b′ (call (r .first) ws wr) (call (r .second) vs vr)
       → TwoStreams x b b′ (call (r′ .first) ws wr′) (call (r′ .second) vs vr′) → (r ≡ r′) × (wr ≡ wr′) × (vr ≡ vr′)
   -- a role, a field
-  pub role : (m : Step) (st : State) (ws : List ℕ) → OnlyBoth (λ r ws′. RoleDid m st r ws ws′)
-  pub field : (m : Step) (st : State) (l : Slots) (ws : List ℕ) → OnlyBoth (λ r ws′. FieldReads m st l r ws ws′)
+  pub role : (m : Step) (st : Progress) (ws : List ℕ) → OnlyBoth (λ r ws′. RoleDid m st r ws ws′)
+  pub field : (m : Step) (st : Progress) (l : Slots) (ws : List ℕ) → OnlyBoth (λ r ws′. FieldReads m st l r ws ws′)
   -- how far a class reaches
   pub reach : (t : List ℕ) (x : Notes) (p : ℕ) → Only (λ r. Reaches t x p r)
   -- what is noted of a table, both lists
   pub notes : (t : List ℕ) (x : Notes) → Only (λ y. Made t x y)
-  pub opening : (k : ℕ) → Only (λ r. Opens k r)
+  pub opening : (k : ℕ) → Only (λ r. OpeningOf k r)

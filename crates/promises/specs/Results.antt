@@ -14,14 +14,14 @@ use Rattle.rules.specs.declared.Result.{Result}
 use Rattle.clock.specs.declared.Ticked.{Ticked}
 use Rattle.slots.specs.declared.Length.{Length}
 use Rattle.slots.specs.declared.Number.{Number}
-use Rattle.listing.specs.declared.State.{State}
+use Rattle.listing.specs.declared.Progress.{Progress}
 use Rattle.listing.specs.declared.role.Advanced.{Advanced}
 use Rattle.table_offsets.specs.declared.Body.{Body}
 use Rattle.table_offsets.specs.declared.Walk.{Walk}
 use Rattle.table_offsets.specs.declared.Says.{Says}
-use Rattle.class_layout.specs.declared.Found.{Found as TablePlace}
-use Rattle.leaf_find_number.specs.declared.Frame.{Frame}
-use Rattle.leaf_find_number.specs.declared.find.Found.{Found}
+use Rattle.class_layout.specs.declared.TablePlace.{TablePlace}
+use Rattle.frame.specs.declared.Frame.{Frame}
+use Rattle.leaf_find_number.specs.declared.Found.{Found}
 use Rattle.leaf_after.specs.declared.Seen.{Seen}
 use Rattle.leaf_after.specs.declared.Leaves.{Leaves}
 use Rattle.field_choice.specs.declared.Choice.{Choice}
@@ -54,7 +54,7 @@ Of result = Result
 Of ticked = Ticked
 Of length = Length
 Of slotNumber = Number
-Of state = State
+Of state = Progress
 Of advanced = Advanced
 Of body = Body
 Of walk = Walk

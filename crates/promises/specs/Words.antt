@@ -4,7 +4,10 @@ use mathlib.Core.List.{List, [], _∷_}
 use Rattle.rules.specs.Read.{Reading}
 use Rattle.rules.specs.declared.Entry.{Entry}
 use Rattle.rules.specs.declared.Refusal.{Refusal}
-use Rattle.rules.specs.declared.Refusal.the-variants.{StreamSize, PastBound, OrderChanged, LebTooLarge, NoZeroByte, SlotUnset, SlotOfWrongSort, LengthTooLarge, SelectorInNoOption, WrongMagic, WrongUuid, StreamClassChanged, StreamClassUnknown, LengthsContradict, ClocksContradict, ClockTooLarge, EventClassUnknown, EventTookNoBits, ClockWentBack, ListFull}
+use Rattle.rules.specs.declared.Refusal.the-variants.{StreamSize, PastBound, OrderChanged, LebTooLarge, NoZeroByte, SlotUnset}
+use Rattle.rules.specs.declared.Refusal.the-variants.{SlotOfWrongSort, LengthTooLarge, SelectorInNoOption, WrongMagic, WrongUuid}
+use Rattle.rules.specs.declared.Refusal.the-variants.{StreamClassChanged, StreamClassUnknown, LengthsContradict, ClocksContradict}
+use Rattle.rules.specs.declared.Refusal.the-variants.{ClockTooLarge, EventClassUnknown, EventTookNoBits, ClockWentBack, ListFull}
 use Rattle.rules.specs.declared.Stop.{Stop}
 use Rattle.rules.specs.declared.Verdict.{Verdict}
 use Rattle.rules.specs.declared.Verdict.the-variants.{Accepted, TableRefused, Refused}

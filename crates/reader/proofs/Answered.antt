@@ -22,17 +22,17 @@ use Rattle.rules.specs.Place.{byteLength, bitPlace}
 use Rattle.rules.specs.Verdict.{stopAt, numberOf, placeOf, firstOf, secondOf}
 use Rattle.rules.specs.Entry.{words}
 use Rattle.rules.specs.Record.{u8}
-use Rattle.rules.specs.Step.{State as Whole, stop, go}
+use Rattle.rules.specs.Step.{State, stop, go}
 use Rattle.rules.specs.Table.{Table, Asked}
 use Rattle.rules.specs.Parse.{Parsed, bad, good, parse, byteOf, checkedOf, checked}
 use Rattle.rules.specs.Packet.{readPackets}
 use Rattle.rules.specs.Read.{resultOf, listAfter, ended, begin, readStream, readParsed, readAll}
-use Rattle.listing.specs.declared.State.{State}
+use Rattle.listing.specs.declared.Progress.{Progress}
 use Rattle.listing.specs.declared.Went.{Went}
 use Rattle.listing.specs.declared.Went.the-variants.{On, Stopped}
 use Rattle.listing.specs.Did.{full, outOf}
-use Rattle.class_layout.specs.declared.Found.{Found}
-use Rattle.class_layout.specs.declared.Found.the-variants.{At, Nothing}
+use Rattle.class_layout.specs.declared.TablePlace.{TablePlace}
+use Rattle.class_layout.specs.declared.TablePlace.the-variants.{At, Nothing}
 use Rattle.class_layout.specs.Fragments.{askedAt, findTraceAt, fragmentsOf, headerAt, uuidAt, rootPlace, openingSize, isTrace}
 use Rattle.class_layout.specs.Sizes.{foundOf, SizedFragment, uuidPlace}
 use Rattle.class_layout.specs.Notes.{Notes}
@@ -53,7 +53,7 @@ use Rattle.event_turns.proofs.Looked.{root-class, root-stands}
 
 -- What the trace class lends
 
-module _ (t : List ℕ) (x : Notes) (b : List ℕ) (g : Ready t x) (n : length b ≤ streamLimit) (y : Found)
+module _ (t : List ℕ) (x : Notes) (b : List ℕ) (g : Ready t x) (n : length b ≤ streamLimit) (y : TablePlace)
     (e : y ≡ foundOf (findTraceAt t (fragmentsOf t))) where
   pub lent-none : y ≡ Nothing → Lent t x [] Nothing b
   unfolding askedAt classOf RootStands headerAt uuidAt
@@ -71,10 +71,11 @@ module _ (t : List ℕ) (x : Notes) (b : List ℕ) (g : Ready t x) (n : length b
     pub trace-there : o + 18 ≤ length t
     unfolding openingSize isTrace
     trace-there =
-        let k : u8 t o ≡ 2 = eqb-true _ _ (first-holds (SizedFragment t (x .sizes)) (isTrace t) (fragmentsOf t) o trace-at (g .noted .sized .each) .0) in
+        let is = first-holds (SizedFragment t (x .sizes)) (isTrace t) (fragmentsOf t) o trace-at (g .noted .sized .each) .0 in
+        let k : u8 t o ≡ 2 = eqb-true _ _ is in
         rw (k, openingSize) at (trace-sized .stands .there)
 
-    module _ (r : Found) (j : r ≡ foundOf (rootPlace t o 0)) (u : Found) (v : u ≡ foundOf (uuidPlace t o)) where
+    module _ (r : TablePlace) (j : r ≡ foundOf (rootPlace t o 0)) (u : TablePlace) (v : u ≡ foundOf (uuidPlace t o)) where
       header-is : classOf t r ≡ (askedAt t) .header
       unfolding askedAt headerAt
       header-is = root-class t o 0 r j ∙ sym (ap (headerAt t) trace-at)
@@ -117,11 +118,11 @@ module _ (t : List ℕ) (x : Notes) (b : List ℕ) (g : Ready t x) (n : length b
 -- The result
 
 module _ (es : List Entry) (used : ℕ) (n : used ≡ 4 * length es) (ws ws′ : List ℕ) (k : ws′ ≡ words es ++ drop used ws) (y : Result)
-    (st : State) where
+    (st : Progress) where
   entries : used / 4 ≡ length es
   entries = omega arith
 
-  on-answers : (s : Whole) → s .place ≡ st .place → y ≡ answerOf On used st → Answers (ended (go es s)) y ws ws′
+  on-answers : (s : State) → s .place ≡ st .place → y ≡ answerOf On used st → Answers (ended (go es s)) y ws ws′
   unfolding answerOf resultOf ended numberOf placeOf firstOf secondOf listAfter
   on-answers s p e = record { result = e ∙ rw (entries, p) refl; list = k ∙ ap (λ m. words es ++ drop m ws) n }
 
@@ -130,7 +131,7 @@ module _ (es : List Entry) (used : ℕ) (n : used ≡ 4 * length es) (ws ws′ :
   stopped-answers v e = record { result = e ∙ rw (entries) refl; list = k ∙ ap (λ m. words es ++ drop m ws) n }
 
 out-answers : (es : List Entry) (went : Went) (used : ℕ) → used ≡ 4 * length es → (ws ws′ : List ℕ) → ws′ ≡ words es ++ drop used ws
-    → (y : Result) (st : State) (l : Slots) (room : ℕ)
+    → (y : Result) (st : Progress) (l : Slots) (room : ℕ)
     → y ≡ answerOf went used st → Answers (ended (outOf es went st l room)) y ws ws′
 unfolding outOf
 out-answers es On used n ws ws′ k y st l room e = on-answers es used n ws ws′ k y st (full st l room) refl e
@@ -144,7 +145,8 @@ module _ (t : Asked) (b ws : List ℕ) (y : Result) where
   stream-answers {r} {ws′} d one few e =
       let a : eqb (length b) 0 ≡ false = ne-eqb (length b) 0 (λ z. omega arith) in
       rw (a, le-ltb streamLimit (length b) few, readStream) (rw (d .did .out)
-      (out-answers (d .did .listed) (r .went) (r .used) (d .did .counted) ws ws′ (d .did .list) y (r .state) (d .slots) (length ws - r .used) e))
+      (out-answers (d .did .listed) (r .went) (r .used) (d .did .counted) ws ws′ (d .did .list) y (r .state) (d .slots)
+      (length ws - r .used) e))
 
   -- "0 entries, place 0" (21)
   size-answers : (eqb (length b) 0 || ltb streamLimit (length b)) ≡ true → y ≡ refusedWith (stopAt StreamSize (bitPlace 0)) 0
@@ -158,7 +160,8 @@ module _ (t : Asked) (b ws : List ℕ) (y : Result) where
   pub empty-answers : length b ≡ 0 → y ≡ refusedWith (stopAt StreamSize (bitPlace 0)) 0 → Answers (readStream t b (length ws)) y ws ws
   empty-answers h e = size-answers (rw (eq-eqb (length b) 0 h) refl) e
 
-  pub large-answers : streamLimit < length b → y ≡ refusedWith (stopAt StreamSize (bitPlace 0)) 0 → Answers (readStream t b (length ws)) y ws ws
+  pub large-answers : streamLimit < length b → y ≡ refusedWith (stopAt StreamSize (bitPlace 0)) 0
+      → Answers (readStream t b (length ws)) y ws ws
   large-answers h e =
       let a : eqb (length b) 0 ≡ false = ne-eqb (length b) 0 (λ z. omega arith) in
       size-answers (rw (a, lt-ltb streamLimit (length b) h) refl) e
@@ -167,7 +170,9 @@ module _ (t : Asked) (b ws : List ℕ) (y : Result) where
 
 module _ (t b ws : List ℕ) where
   -- "20: table refused; first id is its number, place its byte"
-  refused-answers : (m : ℕ) (y : List ℕ) → Answers (readParsed t (bad m y) b (length ws)) (record { number = 20; entries = 0; place = (byteOf t y) .0; first = m; second = 0 }) ws ws
+  refused-answers : (m : ℕ) (y : List ℕ)
+      → Answers (readParsed t (bad m y) b (length ws))
+      (record { number = 20; entries = 0; place = (byteOf t y) .0; first = m; second = 0 }) ws ws
   unfolding readParsed resultOf numberOf placeOf firstOf secondOf listAfter words
   refused-answers m y = record { result = refl; list = refl }
 
@@ -196,7 +201,8 @@ module _ (t b ws : List ℕ) where
   unfolding readAll checked
   accepted-reads n h = by (parse t) refl h
     where
-      by : (o : Parsed Table) → parse t ≡ o → checkedOf t o ≡ Accepted n → readParsed t o b (length ws) ≡ readStream (askedAt t) b (length ws)
+      by : (o : Parsed Table) → parse t ≡ o → checkedOf t o ≡ Accepted n
+          → readParsed t o b (length ws) ≡ readStream (askedAt t) b (length ws)
       by (bad m y) e h = let z : _≡_ {A = ℕ} 0 1 = unfold checkedOf in cc in absurd (omega arith)
       by (good T y) e h = unfold readParsed in ap (λ a. readStream a b (length ws)) (asked-at t T y e)
 

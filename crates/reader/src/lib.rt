@@ -1,13 +1,15 @@
 // Reading a stream by a table: the table's check (20), the stream's size (21), the table's notes and the index of its event classes, and
 // the packets.
 use check_table::check;
-use class_layout::Found;
+use class_layout::TablePlace;
 use class_lookup::PLACES;
 use class_lookup::find_trace_class;
 use class_lookup::make_index;
 use class_notes::prepare;
 use class_roots::root_place;
 use class_roots::uuid_place;
+use numbers::faults;
+use numbers::limits;
 use packet_read::read_packets;
 use reader_result::answer;
 use reader_result::refused;
@@ -34,12 +36,6 @@ ghost use Rattle.packet_read.specs.Pieces.{Lent};
 ghost use Rattle.reader_result.specs.Answer.{refusedWith};
 ghost use Rattle.reader.specs.Answers.{Answers};
 
-// "stream empty or over 16,777,216 bytes" (21)
-const STREAM_LIMIT: usize = 16777216;
-
-// "20: table refused"
-const TABLE_REFUSED: u8 = 20;
-
 // Reads a stream by a table: lists its entries, and answers how it went. For every table, stream and list the rules' own answer.
 pub fn read(table: &[u8], stream: &[u8], list: &mut [u64]) -> Result
     ensures { λ r. ⌜
@@ -49,7 +45,7 @@ pub fn read(table: &[u8], stream: &[u8], list: &mut [u64]) -> Result
 {
     match check(table) {
         Checked::Refused(number, byte) => Result {
-            number: TABLE_REFUSED,
+            number: faults::TABLE_REFUSED,
             entries: 0,
             place: byte.0 as u64,
             first: number as u64,
@@ -69,7 +65,7 @@ fn read_stream(table: &[u8], stream: &[u8], list: &mut [u64]) -> Result
     if stream.len() == 0 {
         return bad_size();
     }
-    if STREAM_LIMIT < stream.len() {
+    if limits::STREAM_LIMIT < stream.len() {
         return bad_size();
     }
     let mut sizes = no_sizes();
@@ -97,20 +93,20 @@ fn read_prepared(
         ⌝ }
 {
     match find_trace_class(table, sizes) {
-        Found::Nothing => read_by(
+        TablePlace::Nothing => read_by(
             table,
             sizes,
             aligns,
             index,
             &table[0..0],
-            Found::Nothing,
+            TablePlace::Nothing,
             stream,
             list,
         ),
-        Found::At(trace) => {
+        TablePlace::At(trace) => {
             let header = root_place(table, sizes, trace, 0);
             match uuid_place(table, trace) {
-                Found::Nothing => {
+                TablePlace::Nothing => {
                     read_by(
                         table,
                         sizes,
@@ -122,12 +118,12 @@ fn read_prepared(
                         list,
                     )
                 }
-                Found::At(at) => read_by(
+                TablePlace::At(at) => read_by(
                     table,
                     sizes,
                     aligns,
                     index,
-                    &table[at..at + 16],
+                    &table[at..at + limits::UUID_BYTES],
                     header,
                     stream,
                     list,
@@ -144,7 +140,7 @@ fn read_by(
     aligns: &[u8],
     index: &[u32],
     uuid: &[u8],
-    header: Found,
+    header: TablePlace,
     stream: &[u8],
     list: &mut [u64],
 ) -> Result

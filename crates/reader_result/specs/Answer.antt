@@ -4,7 +4,7 @@ use Rattle.rules.specs.declared.BitPlace.{BitPlace}
 use Rattle.rules.specs.declared.Stop.{Stop}
 use Rattle.rules.specs.declared.Result.{Result}
 use Rattle.rules.specs.Verdict.{refusalNumber, refusalFirst, refusalSecond}
-use Rattle.listing.specs.declared.State.{State}
+use Rattle.listing.specs.declared.Progress.{Progress}
 use Rattle.listing.specs.declared.Went.{Went}
 use Rattle.listing.specs.declared.Went.the-variants.{On, Stopped}
 
@@ -21,6 +21,6 @@ refusedWith v n = record {
 }
 
 -- four words an entry
-unfoldable pub answerOf : Went → ℕ → State → Result
+unfoldable pub answerOf : Went → ℕ → Progress → Result
 answerOf On used st = record { number = 0; entries = used / 4; place = st .place .0; first = 0; second = 0 }
 answerOf (Stopped v) used st = refusedWith v (used / 4)

@@ -72,16 +72,16 @@ out a z x = ltb x a || ltb z x
 -- Any record: 2 to 8
 
 -- the ids of the fragments so far, the one that is being read among them
-pub record Seen : Type 0 where
+pub record Ids : Type 0 where
   pub trace : Bool
   pub clocks : List ℕ
   pub streams : List ℕ
   pub events : List (ℕ × ℕ)
 
-unfoldable pub noneSeen : Seen
-noneSeen = record { trace = false; clocks = []; streams = []; events = [] }
+unfoldable pub noIds : Ids
+noIds = record { trace = false; clocks = []; streams = []; events = [] }
 
-unfoldable pub seen : Seen → Fragment → Seen
+unfoldable pub seen : Ids → Fragment → Ids
 seen q (preamble v) = q
 seen q (traceClass u l) = record { trace = true; clocks = q .clocks; streams = q .streams; events = q .events }
 seen q (clockClass i f) = record { trace = q .trace; clocks = i ∷ q .clocks; streams = q .streams; events = q .events }
@@ -98,7 +98,7 @@ pairAmong x y (p ∷ ps) = (eqb x (p .0) && eqb y (p .1)) || pairAmong x y ps
 
 -- "first record no preamble, or a second one" (4); "trace class after a stream class, or a second one" (6); "clock id, stream class id or
 -- event pair used before" (7); "clock or stream class named but not earlier" (8). Behind the preamble; m is the lowest from 9 up
-unfoldable pub fragmentFault : Seen → Fragment → ℕ → ℕ
+unfoldable pub fragmentFault : Ids → Fragment → ℕ → ℕ
 fragmentFault q (preamble v) m = preambleMisplaced
 fragmentFault q (traceClass u x) m = pick (q .trace || not (eqb (length (q .streams)) 0)) traceClassMisplaced m
 fragmentFault q (clockClass i f) m = pick (among i (q .clocks)) idUsed m
@@ -107,7 +107,7 @@ fragmentFault q (streamClass i c) m =
 fragmentFault q (eventClass i j) m = pick (pairAmong i j (q .events)) idUsed (pick (not (among i (q .streams))) idUnknown m)
 
 -- "unknown kind" (2); "bytes end inside a record or before what it announces" (3)
-unfoldable pub recordFault : Bool → Seen → Record → ℕ → ℕ
+unfoldable pub recordFault : Bool → Ids → Record → ℕ → ℕ
 recordFault short q unknown m = unknownKind
 recordFault short q (fragment f) m = pick short cutShort (fragmentFault q f m)
 recordFault short q (root r) m = pick short cutShort m
@@ -269,11 +269,11 @@ rootFault (class y) = kindNotAllowed
 rootFault (range g l h) = kindNotAllowed
 rootFault (option m) = kindNotAllowed
 
-unfoldable pub many : Seen → Bool
+unfoldable pub many : Ids → Bool
 many q = leb fragmentLimit (length (q .clocks) + length (q .streams) + length (q .events))
 
 -- a trace class says "1 if it has a UUID else 0"; a clock class "id, not 255; frequency (8), not 0"; "over 512 fragments" (15)
-unfoldable pub openFault : Seen → Record → ℕ
+unfoldable pub openFault : Ids → Record → ℕ
 openFault q unknown = kindNotAllowed
 openFault q (fragment (preamble v)) = kindNotAllowed
 openFault q (fragment (traceClass u l)) = pick (ltb 1 u) numberOutOfRange 0

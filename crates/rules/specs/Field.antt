@@ -19,7 +19,8 @@ use Rattle.rules.specs.declared.Leb.{Leb}
 use Rattle.rules.specs.declared.Leb.the-variants.{Value, Past, Large}
 use Rattle.rules.specs.declared.Ended.{Ended}
 use Rattle.rules.specs.declared.Ended.the-variants.{After, Never}
-use Rattle.rules.specs.declared.Refusal.the-variants.{PastBound, OrderChanged, LebTooLarge, NoZeroByte, SlotUnset, SlotOfWrongSort, LengthTooLarge, SelectorInNoOption, WrongMagic, WrongUuid, ClockTooLarge}
+use Rattle.rules.specs.declared.Refusal.the-variants.{PastBound, OrderChanged, LebTooLarge, NoZeroByte, SlotUnset, SlotOfWrongSort}
+use Rattle.rules.specs.declared.Refusal.the-variants.{LengthTooLarge, SelectorInNoOption, WrongMagic, WrongUuid, ClockTooLarge}
 use Rattle.rules.specs.Limits.{lengthLimit, magicNumber}
 use Rattle.rules.specs.Bits.{bits, signed, word}
 use Rattle.rules.specs.Leb128.{lebWidth, lebUnsigned, lebSigned}
@@ -27,10 +28,13 @@ use Rattle.rules.specs.Clock.{clockAfter}
 use Rattle.rules.specs.Text.{textLength, zeroAt}
 use Rattle.rules.specs.Place.{bitPlace, further, alignFrom}
 use Rattle.rules.specs.Slots.{slotAt, setSlot}
-use Rattle.rules.specs.Class.{Role, noRole, magic, streamClassId, streamId, uuid, totalLength, contentLength, clock, endClock, discarded, sequence, eventClassId}
-use Rattle.rules.specs.Class.{Sort, bitArray, boolean, unsignedInt, signedInt, float, kindOf, Sign, plain, signed as withSign, anyHolds}
+use Rattle.rules.specs.Class.{Role, noRole, magic, streamClassId, streamId, uuid, totalLength, contentLength, clock, endClock}
+use Rattle.rules.specs.Class.{discarded, sequence, eventClassId}
+use Rattle.rules.specs.Class.{Sort, bitArray, boolean, unsignedInt, signedInt, float, kindOf, Sign, plain, signed as withSign}
+use Rattle.rules.specs.Class.{anyHolds}
 use Rattle.rules.specs.Class.{Class, fixed, leb128, signedLeb128, string, staticString, staticBlob, dynamicString, dynamicBlob}
-use Rattle.rules.specs.Class.{structure, staticArray, dynamicArray, flagged, optional, variant, Classes, noMember, member, Options, noOption, option}
+use Rattle.rules.specs.Class.{structure, staticArray, dynamicArray, flagged, optional, variant, Classes, noMember, member, Options}
+use Rattle.rules.specs.Class.{noOption, option}
 use Rattle.rules.specs.Class.{count, alignOf}
 use Rattle.rules.specs.Entry.{entry, clockAdvanced}
 use Rattle.rules.specs.Step.{State, Step, _⨾_, pass, refuse, check, due, listed, change, withSlots, withOrder, withClock, withSaid}

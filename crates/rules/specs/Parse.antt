@@ -18,7 +18,7 @@ use Rattle.rules.specs.Class.{structure, staticArray, dynamicArray, flag
 use Rattle.rules.specs.Record.{Shape, bitField, lebField, signedLebField, zeroString, text, blob, textOf, blobOf, members, elements, elementsOf, option?, options}
 use Rattle.rules.specs.Record.{Says, Fragment, preamble, traceClass, clockClass, streamClass, eventClass}
 use Rattle.rules.specs.Record.{Record, unknown, fragment, root, class, range, option, recordOf, behind, size}
-use Rattle.rules.specs.Faults.{badSize, unknownKind, cutShort, kindNotAllowed, tooDeep, pick, Seen, noneSeen, seen, recordFault, firstFault}
+use Rattle.rules.specs.Faults.{badSize, unknownKind, cutShort, kindNotAllowed, tooDeep, pick, Ids, noIds, seen, recordFault, firstFault}
 use Rattle.rules.specs.Faults.{Spot, top, inside, memberSpot, Under, roleOf, classFault, signOf, rangeFault, optionFault, rootFault, openFault}
 use Rattle.rules.specs.Table.{Table}
 
@@ -44,7 +44,7 @@ missing [] = true
 missing (b ∷ x) = false
 
 -- one record behind the preamble, its numbers from 9 up by a function; "a record that is missing stands at the table's length"
-unfoldable pub one : {A : Type 0} → Seen → (Record → ℕ) → (Record → Parser A) → Parser A
+unfoldable pub one : {A : Type 0} → Ids → (Record → ℕ) → (Record → Parser A) → Parser A
 one q more f x =
     sound (pick (missing x) cutShort (recordFault (ltb (length x) (size x)) q (recordOf x) (more (recordOf x)))) x (f (recordOf x))
 
@@ -76,13 +76,13 @@ theSign none = plain
 theSign (some g) = g
 
 -- n ranges, under a sign, and the sign behind them
-unfoldable pub parseRanges : Seen → List Range → ℕ → Option Sign → Parser Ranges
+unfoldable pub parseRanges : Ids → List Range → ℕ → Option Sign → Parser Ranges
 parseRanges q earlier zero o x = good (o, []) x
 parseRanges q earlier (suc n) o x =
     one q (rangeFault o earlier) (λ r x. then (parseRanges q earlier n ((rangeOf r) .0) x) λ p x. good (p .0, (rangeOf r) .1 ++ p .1) x) x
 
 -- n options, under a sign and with the ranges of the options before
-unfoldable pub parseOptions : Seen → (Spot → Parser Class) → ℕ → Ranges → Parser (Option Sign × Options)
+unfoldable pub parseOptions : Ids → (Spot → Parser Class) → ℕ → Ranges → Parser (Option Sign × Options)
 parseOptions q f zero p x = good (p .0, noOption) x
 parseOptions q f (suc n) p x =
     one q optionFault
@@ -108,7 +108,7 @@ unfoldable pub selected : ℕ → Ranges → Class → Class
 selected i p c = elim (p .0) [ none ↦ flagged i c | some g ↦ optional i g (p .1) c ]
 
 -- behind a sound record, where f reads the classes one deeper
-unfoldable pub parseShape : Seen → (Spot → Parser Class) → Spot → Says → Shape → Parser Class
+unfoldable pub parseShape : Ids → (Spot → Parser Class) → Spot → Says → Shape → Parser Class
 parseShape q f z y (bitField k) x = good (fixed k (y .length) (orderOf (y .order)) (y .align) (y .sets) (roleOf (y .role))) x
 parseShape q f z y lebField x = good (leb128 (y .sets) (roleOf (y .role))) x
 parseShape q f z y signedLebField x = good (signedLeb128 (y .sets)) x
@@ -123,7 +123,7 @@ parseShape q f z y elementsOf x = then (f inside x) λ c x. good (dynamicArray (
 parseShape q f z y option? x = then (parseRanges q [] (y .count) none x) λ p x. then (f inside x) λ c x. good (selected (y .reads) p c) x
 parseShape q f z y options x = then (parseOptions q f (y .count) (none, []) x) λ p x. good (variant (y .reads) (theSign (p .0)) (p .1)) x
 
-unfoldable pub parseBody : Seen → (Spot → Parser Class) → Spot → Record → Parser Class
+unfoldable pub parseBody : Ids → (Spot → Parser Class) → Spot → Record → Parser Class
 parseBody q f z unknown x = bad unknownKind x
 parseBody q f z (fragment g) x = bad kindNotAllowed x
 parseBody q f z (root r) x = bad kindNotAllowed x
@@ -132,7 +132,7 @@ parseBody q f z (range g l h) x = bad kindNotAllowed x
 parseBody q f z (option n) x = bad kindNotAllowed x
 
 -- a class with so many depths left, its own among them: "any class within another is one deeper"
-unfoldable pub parseClass : Seen → Under → ℕ → Spot → Parser Class
+unfoldable pub parseClass : Ids → Under → ℕ → Spot → Parser Class
 parseClass q u zero z x = one q (classFault u z true) (λ r x. bad tooDeep x) x
 parseClass q u (suc left) z x = one q (classFault u z false) (λ r x. parseBody q (parseClass q u left) z r x) x
 
@@ -155,7 +155,7 @@ anyRoot (range g l h) = false
 anyRoot (option m) = false
 
 -- the roots of a list of numbers, each there or not, in this order
-unfoldable pub parseRoots : Seen → Bool → Bool → List ℕ → Parser (List (Option Class))
+unfoldable pub parseRoots : Ids → Bool → Bool → List ℕ → Parser (List (Option Class))
 parseRoots q timed hasUuid [] x =
     elim (not (missing x) && anyRoot (recordOf x)) [ true ↦ one q rootFault (λ r x. bad kindNotAllowed x) x | false ↦ good [] x ]
 parseRoots q timed hasUuid (n ∷ ns) x =
@@ -219,11 +219,11 @@ add (eventClass i j) cs t = record {
 }
 
 -- a fragment's roots, and then what f reads
-unfoldable pub parseFragment : Seen → (Seen → Parser Table) → Fragment → Parser Table
+unfoldable pub parseFragment : Ids → (Ids → Parser Table) → Fragment → Parser Table
 parseFragment q f g x =
     then (parseRoots (seen q g) (isTimed g) (hasUuid g) (rootNumbers g) x) λ cs x. then (f (seen q g) x) λ t x. good (add g cs t) x
 
-unfoldable pub parseOpened : Seen → (Seen → Parser Table) → Record → Parser Table
+unfoldable pub parseOpened : Ids → (Ids → Parser Table) → Record → Parser Table
 parseOpened q f unknown x = bad unknownKind x
 parseOpened q f (fragment g) x = parseFragment q f g x
 parseOpened q f (root r) x = bad kindNotAllowed x
@@ -232,7 +232,7 @@ parseOpened q f (range g l h) x = bad kindNotAllowed x
 parseOpened q f (option n) x = bad kindNotAllowed x
 
 -- fragments to the end; each takes a byte or more, so that as many rounds as there are bytes are enough
-unfoldable pub parseFragments : ℕ → Seen → Parser Table
+unfoldable pub parseFragments : ℕ → Ids → Parser Table
 parseFragments zero q x = good noTable x
 parseFragments (suc left) q x =
     elim (missing x) [ true ↦ good noTable x | false ↦ one q (openFault q) (λ r x. parseOpened q (parseFragments left) r x) x ]
@@ -243,7 +243,7 @@ parse x =
     elim (missing x || ltb tableLimit (length x)) [
       | true ↦ bad badSize x
       | false ↦ sound (firstFault (ltb (length x) (size x)) (recordOf x)) x λ x.
-          then (parseRoots noneSeen false false [] x) λ cs x. parseFragments (length x) noneSeen x
+          then (parseRoots noIds false false [] x) λ cs x. parseFragments (length x) noIds x
     ]
 
 -- The answer

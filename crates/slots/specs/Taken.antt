@@ -5,7 +5,6 @@ use Rattle.rules.specs.declared.Content.{Content}
 use Rattle.rules.specs.declared.Content.the-variants.{Unset, Flag, Unsigned, Signed}
 use Rattle.rules.specs.declared.Refusal.the-variants.{SlotUnset, SlotOfWrongSort, LengthTooLarge}
 use Rattle.rules.specs.Limits.{lengthLimit}
-use Rattle.rules.specs.Place.{byteLength}
 use Rattle.rules.specs.Class.{Sign, plain, signed}
 use Rattle.slots.specs.declared.Length.{Length}
 use Rattle.slots.specs.declared.Length.the-variants as lengths
@@ -16,7 +15,7 @@ use Rattle.slots.specs.declared.Number.the-variants as numbers
 unfoldable pub lengthOf : Content → Length
 lengthOf Unset = lengths.NotOf SlotUnset
 lengthOf (Flag b) = lengths.NotOf SlotOfWrongSort
-lengthOf (Unsigned n) = elim (ltb lengthLimit n) [ true ↦ lengths.NotOf LengthTooLarge | false ↦ lengths.Of (byteLength n) ]
+lengthOf (Unsigned n) = elim (ltb lengthLimit n) [ true ↦ lengths.NotOf LengthTooLarge | false ↦ lengths.Of n ]
 lengthOf (Signed n) = lengths.NotOf SlotOfWrongSort
 
 -- "slot unset; of the wrong sort" (26, 27): "with ranges, a number of their sign, as a variant does"

@@ -1,18 +1,15 @@
 // What a slot's content is taken as, a length or a number of a sign: 26, 27 and 28 come from taking it apart.
-use rules::ByteLength;
+use numbers::limits;
+use numbers::signs;
 use rules::Content;
 use rules::Refusal;
 ghost use mathlib.Core.Path.{_≡_};
 ghost use Rattle.rules.specs.Faults.{signOf};
 ghost use Rattle.slots.specs.Taken.{lengthOf, numberOf};
 
-const LENGTH_LIMIT: u64 = 65_535;
-
-const UNSIGNED: u8 = 0;
-
 // The length that a slot gives; or why it gives none.
 pub enum Length {
-    Of(ByteLength),
+    Of(usize),
     NotOf(Refusal),
 }
 
@@ -31,10 +28,10 @@ pub fn length_of(content: Content) -> Length
         Content::Flag(_) => Length::NotOf(Refusal::SlotOfWrongSort),
         Content::Signed(_) => Length::NotOf(Refusal::SlotOfWrongSort),
         Content::Unsigned(n) => {
-            if LENGTH_LIMIT < n {
+            if limits::LENGTH_LIMIT < n {
                 return Length::NotOf(Refusal::LengthTooLarge);
             }
-            Length::Of(ByteLength(n as usize))
+            Length::Of(n as usize)
         }
     }
 }
@@ -47,13 +44,13 @@ pub fn number_of(content: Content, sign: u8) -> Number
         Content::Unset => Number::NotOf(Refusal::SlotUnset),
         Content::Flag(_) => Number::NotOf(Refusal::SlotOfWrongSort),
         Content::Unsigned(n) => {
-            if sign == UNSIGNED {
+            if sign == signs::UNSIGNED {
                 return Number::Of(n);
             }
             Number::NotOf(Refusal::SlotOfWrongSort)
         }
         Content::Signed(n) => {
-            if sign == UNSIGNED {
+            if sign == signs::UNSIGNED {
                 return Number::NotOf(Refusal::SlotOfWrongSort);
             }
             Number::Of(n)

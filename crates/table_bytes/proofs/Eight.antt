@@ -7,7 +7,8 @@ use lib.ListN.{length, getD, drop}
 use lib.Seq.{drop-cons}
 use Rattle.rules.specs.Record.{number, u16, u64}
 
-number-next : (t : List ℕ) (at k n : ℕ) → at + k < length t → number (drop (at + k) t) (suc n) ≡ getD t (at + k) 0 + 256 * number (drop (at + suc k) t) n
+number-next : (t : List ℕ) (at k n : ℕ) → at + k < length t
+    → number (drop (at + k) t) (suc n) ≡ getD t (at + k) 0 + 256 * number (drop (at + suc k) t) n
 unfolding number
 number-next t at k n h =
     let e : suc (at + k) ≡ at + suc k = omega arith in

@@ -39,11 +39,13 @@ module _ (u : Under) (left : ℕ) (t : List ℕ) (at : ℕ) (fine : classFault u
   unfolding kindAt pickW
   on-dynamic k = class-on u left t at fine ∙ rw k
 
-  on-31 : (n : ℕ) → getD t at 0 ≡ 31 → n ≡ getD t (at + 2) 0 → classAt u left t at ≡ then (rangesAt t (at + 3) [] (at + 3) n) (classAt u (left - 1) t)
+  on-31 : (n : ℕ) → getD t at 0 ≡ 31 → n ≡ getD t (at + 2) 0
+      → classAt u left t at ≡ then (rangesAt t (at + 3) [] (at + 3) n) (classAt u (left - 1) t)
   unfolding kindAt pickW
   on-31 n k e = class-on u left t at fine ∙ rw (k, e)
 
-  pub on-optional-bad : (n m p : ℕ) → getD t at 0 ≡ 31 → n ≡ getD t (at + 2) 0 → rangesAt t (at + 3) [] (at + 3) n ≡ Bad m p → classAt u left t at ≡ Bad m p
+  pub on-optional-bad : (n m p : ℕ) → getD t at 0 ≡ 31 → n ≡ getD t (at + 2) 0 → rangesAt t (at + 3) [] (at + 3) n ≡ Bad m p
+      → classAt u left t at ≡ Bad m p
   unfolding then
   on-optional-bad n m p k e h = on-31 n k e ∙ rw h
 
@@ -57,7 +59,8 @@ module _ (u : Under) (left : ℕ) (t : List ℕ) (at : ℕ) (fine : classFault u
   unfolding kindAt pickW
   on-variant n k e = let a : at + 3 + 2 ≡ at + 5 = omega arith in class-on u left t at fine ∙ rw (k, e, a)
 
-  pub on-leaf : (n : ℕ) → (getD t at 0 ≡ 28 → ⊥) → (getD t at 0 ≡ 29 → ⊥) → (getD t at 0 ≡ 30 → ⊥) → (getD t at 0 ≡ 31 → ⊥) → (getD t at 0 ≡ 32 → ⊥)
+  pub on-leaf : (n : ℕ) → (getD t at 0 ≡ 28 → ⊥) → (getD t at 0 ≡ 29 → ⊥) → (getD t at 0 ≡ 30 → ⊥) → (getD t at 0 ≡ 31 → ⊥)
+      → (getD t at 0 ≡ 32 → ⊥)
       → n ≡ bodyMark (getD t at 0) → classAt u left t at ≡ Fine (at + 1 + n)
   unfolding kindAt pickW
   on-leaf n a b c d f e = class-on u left t at fine ∙ rw (ne-eqb _ _ a, ne-eqb _ _ b, ne-eqb _ _ c, ne-eqb _ _ d, ne-eqb _ _ f, e)

@@ -9,7 +9,8 @@ use lib.Dec.{eqb}
 use lib.ListN.{length, getD}
 use Rattle.facts.proofs.Truth.{and-left}
 use Rattle.table_offsets.specs.Bodies.{bodyMark}
-use Rattle.table_offsets.specs.Check.{pickW, headFault, stray, rangesAt, rangeFault, membersAt, optionsAt, optionFault, orElse, then, classAt, classFault, kindAt, rootHere, rootAt, under, rootsAt}
+use Rattle.table_offsets.specs.Check.{pickW, headFault, stray, rangesAt, rangeFault, membersAt, optionsAt, optionFault}
+use Rattle.table_offsets.specs.Check.{orElse, then, classAt, classFault, kindAt, rootHere, rootAt, under, rootsAt}
 use Rattle.table_offsets.specs.declared.Under.{Under}
 use Rattle.table_offsets.specs.declared.Walk.{Walk}
 use Rattle.table_offsets.specs.declared.Walk.the-variants.{Fine, Bad}
@@ -40,7 +41,8 @@ then-fine (Bad n p) f e h = absurd (fine-bad _ _ _ h)
 
 -- within a class
 
-pub ranges-end : (t : List ℕ) (h : ℕ) (done : List ℕ) (at n e : ℕ) → at ≤ length t → rangesAt t h done at n ≡ Fine e → (e ≡ at + 18 * n) × (e ≤ length t)
+pub ranges-end : (t : List ℕ) (h : ℕ) (done : List ℕ) (at n e : ℕ) → at ≤ length t → rangesAt t h done at n ≡ Fine e
+    → (e ≡ at + 18 * n) × (e ≤ length t)
 unfolding rangesAt
 ranges-end t h done at zero e l q = let z : at ≡ e = same-end _ _ q in (omega arith, omega arith)
 ranges-end t h done at (suc n) e l q =
@@ -74,7 +76,8 @@ module _ (f : ℕ → Walk) (t : List ℕ) (deeper : (p e : ℕ) → f p ≡ Fin
       (pickW b (f (at + 4))
       (pickW c (f (at + 3))
       (pickW d (then (rangesAt t (at + 3) [] (at + 3) (getD t (at + 2) 0)) f)
-      (pickW g (optionsAt f t (at + 5) [] (at + 3) (getD t (at + 2) 0)) (Fine (at + 1 + bodyMark k)))))) ≡ Fine e → (at < e) × (e ≤ length t)
+      (pickW g (optionsAt f t (at + 5) [] (at + 3) (getD t (at + 2) 0)) (Fine (at + 1 + bodyMark k)))))) ≡ Fine e
+      → (at < e) × (e ≤ length t)
   unfolding pickW
   kind-end at k e o l m n p true b c d g a1 d1 g1 q =
       let x = members-end (at + 3) (getD t (at + 1) 0) e (m (eqb-true _ _ a1)) q in (omega (arith, x .0), x .1)
@@ -110,14 +113,18 @@ pub root-head : (t : List ℕ) (n at : ℕ) → rootHere t n at ≡ true → at 
 unfolding rootHere
 root-head t n at h = head-fine t at (eqb-true (headFault t at) 0 (and-left (eqb (headFault t at) 0) _ h)) .0
 
-by-root : (t : List ℕ) (timed uuid : Bool) (n at e : ℕ) (b : Bool) → at ≤ length t → rootHere t n at ≡ b → rootAt t timed uuid n at ≡ Fine e → (at ≤ e) × (e ≤ length t)
+by-root : (t : List ℕ) (timed uuid : Bool) (n at e : ℕ) (b : Bool) → at ≤ length t → rootHere t n at ≡ b
+    → rootAt t timed uuid n at ≡ Fine e → (at ≤ e) × (e ≤ length t)
 by-root t timed uuid n at e true l h q =
     let x = class-end (under timed uuid n (at + 2)) 8 t (at + 2) e (sym (root-there t timed uuid n at h) ∙ q) in (omega (arith, x .0), x .1)
-by-root t timed uuid n at e false l h q = let z : at ≡ e = same-end _ _ (sym (root-not t timed uuid n at h) ∙ q) in (omega arith, omega arith)
+by-root t timed uuid n at e false l h q =
+    let z : at ≡ e = same-end _ _ (sym (root-not t timed uuid n at h) ∙ q) in (omega arith, omega arith)
 
-pub roots-end : (t : List ℕ) (timed uuid : Bool) (n at m e : ℕ) → at ≤ length t → rootsAt t timed uuid n at m ≡ Fine e → (at ≤ e) × (e ≤ length t)
+pub roots-end : (t : List ℕ) (timed uuid : Bool) (n at m e : ℕ) → at ≤ length t → rootsAt t timed uuid n at m ≡ Fine e
+    → (at ≤ e) × (e ≤ length t)
 unfolding rootsAt
-roots-end t timed uuid n at zero e l q = let z : at ≡ e = same-end _ _ (else-fine (stray t at) at (Fine at) e q .1) in (omega arith, omega arith)
+roots-end t timed uuid n at zero e l q =
+    let z : at ≡ e = same-end _ _ (else-fine (stray t at) at (Fine at) e q .1) in (omega arith, omega arith)
 roots-end t timed uuid n at (suc m) e l q =
     let a = then-fine (rootAt t timed uuid n at) _ e q in
     let b = by-root t timed uuid n at (a .mid) (rootHere t n at) l refl (a .front) in

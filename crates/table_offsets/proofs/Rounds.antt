@@ -10,11 +10,12 @@ use lib.ListN.{length, getD, set}
 use Rattle.rules.specs.Place.{byteLength}
 use Rattle.rules.specs.declared.Checked.{Checked}
 use Rattle.rules.specs.declared.Checked.the-variants.{Accepted, Refused}
-use Rattle.table_offsets.specs.Check.{orRefused, fragmentsAt, lowest, latest, rootsOf, fragmentFault, seenWith, traced, counted, thenChecked}
+use Rattle.table_offsets.specs.Check.{orRefused, fragmentsAt, lowest, latest, rootsOf, fragmentFault}
+use Rattle.table_offsets.specs.Check.{seenWith, traced, counted, thenChecked}
 use Rattle.table_offsets.specs.declared.Walk.{Walk}
 use Rattle.table_offsets.specs.declared.Walk.the-variants.{Fine, Bad}
 use Rattle.table_offsets.proofs.Descent.{less}
-use Rattle.table_offsets.proofs.Opens.{Opens, opens, fragment-end, seen-more, seen-length}
+use Rattle.table_offsets.proofs.FragmentOpens.{FragmentOpens, opens, fragment-end, seen-more, seen-length}
 use Rattle.table_offsets.proofs.Places.{latest-length}
 
 module _ (t : List ℕ) (trace : Bool) (seen : List ℕ) (at : ℕ) (more : at < length t) where
@@ -27,13 +28,15 @@ module _ (t : List ℕ) (trace : Bool) (seen : List ℕ) (at : ℕ) (more : at <
   fragments-on zero h = absurd (omega arith)
   fragments-on (suc left) h = let e : suc left - 1 ≡ left = omega arith in simp (lt-ltb _ _ more, e, fragmentsAt)
 
-  fragments-stop : (left n : ℕ) → 0 < left → n ≡ fragmentFault t trace seen (length seen) at → (n ≡ 0 → ⊥) → fragmentsAt left t trace seen at ≡ Refused n (byteLength at)
+  fragments-stop : (left n : ℕ) → 0 < left → n ≡ fragmentFault t trace seen (length seen) at → (n ≡ 0 → ⊥)
+      → fragmentsAt left t trace seen at ≡ Refused n (byteLength at)
   unfolding orRefused
   fragments-stop left zero h e z = absurd (z refl)
   fragments-stop left (suc n) h e z = fragments-on left h ∙ rw (← e)
 
   fragments-bad : (left m p : ℕ) → 0 < left → fragmentFault t trace seen (length seen) at ≡ 0 → rootsOf t at (getD t at 0) ≡ Bad m p
-      → fragmentsAt left t trace seen at ≡ Refused (lowest t (traced trace (getD t at 0)) (seenWith at (getD t at 0) seen) m p) (byteLength p)
+      → fragmentsAt left t trace seen at
+      ≡ Refused (lowest t (traced trace (getD t at 0)) (seenWith at (getD t at 0) seen) m p) (byteLength p)
   unfolding orRefused thenChecked
   fragments-bad left m p h e w = fragments-on left h ∙ rw (e, w)
 
@@ -42,7 +45,8 @@ module _ (t : List ℕ) (trace : Bool) (seen : List ℕ) (at : ℕ) (more : at <
   unfolding orRefused thenChecked
   fragments-fine left e h z w = fragments-on left h ∙ rw (z, w)
 
-fragments-none : (left : ℕ) (t : List ℕ) (trace : Bool) (seen : List ℕ) (at : ℕ) → length t ≤ at → fragmentsAt left t trace seen at ≡ Accepted (byteLength (length t))
+fragments-none : (left : ℕ) (t : List ℕ) (trace : Bool) (seen : List ℕ) (at : ℕ) → length t ≤ at
+    → fragmentsAt left t trace seen at ≡ Accepted (byteLength (length t))
 unfolding fragmentsAt
 fragments-none zero t trace seen at h = refl
 fragments-none (suc left) t trace seen at h = simp (le-ltb _ _ h, fragmentsAt)
@@ -57,22 +61,26 @@ agree zero at (Bad m p) g f f′ h = refl
 agree (suc n) at w g f f′ h = refl
 
 round : (m k : ℕ) (t : List ℕ)
-    → ((trace : Bool) (seen : List ℕ) (at : ℕ) → length seen ≤ 512 → length t ≤ at + k → k ≤ m → fragmentsAt m t trace seen at ≡ fragmentsAt k t trace seen at)
-    → (trace : Bool) (seen : List ℕ) (at : ℕ) → length seen ≤ 512 → length t ≤ at + suc k → suc k ≤ suc m → (b : Bool) → ltb at (length t) ≡ b
+    → ((trace : Bool) (seen : List ℕ) (at : ℕ) → length seen ≤ 512 → length t ≤ at + k → k ≤ m
+    → fragmentsAt m t trace seen at ≡ fragmentsAt k t trace seen at)
+    → (trace : Bool) (seen : List ℕ) (at : ℕ) → length seen ≤ 512 → length t ≤ at + suc k → suc k ≤ suc m → (b : Bool)
+    → ltb at (length t) ≡ b
     → fragmentsAt (suc m) t trace seen at ≡ fragmentsAt (suc k) t trace seen at
 round m k t ih trace seen at s h l true e =
     let more : at < length t = ltb-true _ _ e in
     fragments-on t trace seen at more (suc m) (omega arith)
     ∙ agree _ at _ _ _ _
     (λ z x w.
-    let o : Opens t (length seen) at = opens t trace seen (length seen) at s _ refl z in
+    let o : FragmentOpens t (length seen) at = opens t trace seen (length seen) at s _ refl z in
     let p = fragment-end t (length seen) at x o w in
     rw (less m, less k)
-    (ih (traced trace (getD t at 0)) (seenWith at (getD t at 0) seen) x (omega (arith, o .few, seen-length at (getD t at 0) seen)) (omega (arith, p .0))
+    (ih (traced trace (getD t at 0)) (seenWith at (getD t at 0) seen) x (omega (arith, o .few, seen-length at (getD t at 0) seen))
+    (omega (arith, p .0))
     (omega arith)))
     ∙ sym (fragments-on t trace seen at more (suc k) (omega arith))
 round m k t ih trace seen at s h l false e =
-    let none : length t ≤ at = ltb-false _ _ e in fragments-none (suc m) t trace seen at none ∙ sym (fragments-none (suc k) t trace seen at none)
+    let none : length t ≤ at = ltb-false _ _ e in
+    fragments-none (suc m) t trace seen at none ∙ sym (fragments-none (suc k) t trace seen at none)
 
 rounds : (m k : ℕ) (t : List ℕ) (trace : Bool) (seen : List ℕ) (at : ℕ) → length seen ≤ 512 → length t ≤ at + k → k ≤ m
     → fragmentsAt m t trace seen at ≡ fragmentsAt k t trace seen at
@@ -85,7 +93,8 @@ rounds (suc m) (suc k) t trace seen at s h l =
 
 -- a turn of the code's loop: w is the whole check, and the first n places of xs are the fragments so far
 
-module _ (w : Checked) (t : List ℕ) (trace : Bool) (xs : List ℕ) (n at : ℕ) (so-far : w ≡ fragmentsAt (length t - at) t trace (latest xs n) at) where
+module _ (w : Checked) (t : List ℕ) (trace : Bool) (xs : List ℕ) (n at : ℕ)
+    (so-far : w ≡ fragmentsAt (length t - at) t trace (latest xs n) at) where
   pub turn-none : length t ≤ at → Accepted (byteLength (length t)) ≡ w
   turn-none h = sym (so-far ∙ fragments-none (length t - at) t trace (latest xs n) at h)
 
@@ -116,5 +125,6 @@ module _ (w : Checked) (t : List ℕ) (trace : Bool) (xs : List ℕ) (n at : ℕ
           so-far
           ∙ fragments-fine t trace (latest xs n) at more (length t - at) e (omega arith) none (sym walked ∙ b)
           ∙ rounds (length t - at - 1) (length t - e) t (traced trace (getD t at 0)) (seenWith at (getD t at 0) (latest xs n)) e
-          (omega (arith, o .few, seen-length at (getD t at 0) (latest xs n), latest-length xs n)) (omega (arith, p .0)) (omega (arith, p .0))
+          (omega (arith, o .few, seen-length at (getD t at 0) (latest xs n), latest-length xs n)) (omega (arith, p .0))
+          (omega (arith, p .0))
           ∙ rw (same-trace, now-seen)

@@ -7,7 +7,8 @@ use native.Mathlib.Omega.{arith}
 use borrow.Author.Tests.{eq-eqb, ne-eqb}
 use lib.Dec.{ltb, eqb}
 use lib.ListN.{length, getD, List·getD-eq-default}
-use Rattle.table_offsets.specs.Check.{pickN, pickB, orderFault, lowest, same, latest, isNamed, named, meetsHere, meetsOne, meetsOption, meetsAny}
+use Rattle.table_offsets.specs.Check.{pickN, pickB, orderFault, lowest, same, latest, isNamed}
+use Rattle.table_offsets.specs.Check.{named, meetsHere, meetsOne, meetsOption, meetsAny}
 use Rattle.table_offsets.proofs.Picked.{first-zero}
 use Rattle.table_offsets.proofs.Places.{latest-step, latest-none}
 

@@ -8,7 +8,8 @@ use borrow.Author.Tests.{leb-true, eqb-true, leb-false, eqb-false}
 use lib.Dec.{ltb, leb, eqb}
 use lib.ListN.{length, getD}
 use Rattle.table_offsets.specs.Bodies.{bodyMark, noKind}
-use Rattle.table_offsets.specs.Check.{pickN, pickB, headFault, kindFault, numberFault, slotFault, roleOk, lengthOk, countOk, saysAt, sayOf, sayings, say, inside, rangeFault, optionFault, classFault, sayFault}
+use Rattle.table_offsets.specs.Check.{pickN, pickB, headFault, kindFault, numberFault, slotFault, roleOk, lengthOk, countOk}
+use Rattle.table_offsets.specs.Check.{saysAt, sayOf, sayings, say, inside, rangeFault, optionFault, classFault, sayFault}
 use Rattle.table_offsets.specs.declared.Says.{Says}
 use Rattle.table_offsets.specs.declared.Under.{Under}
 use Rattle.table_offsets.proofs.Picked.{first-fine, fails, holds, inside-fine}
@@ -28,7 +29,8 @@ unfolding headFault
 head-fine t at e =
     by-head t at (leb (length t) at) (eqb (bodyMark (getD t at 0)) noKind) (leb (length t - at) (bodyMark (getD t at 0))) refl refl e
 
-by-kind : (k : ℕ) (a b c d : Bool) → eqb k 28 ≡ b → leb 16 k ≡ c → leb k 32 ≡ d → pickN a (pickN b 0 9) (pickN (c && d) 0 9) ≡ 0 → (16 ≤ k) × (k ≤ 32)
+by-kind : (k : ℕ) (a b c d : Bool) → eqb k 28 ≡ b → leb 16 k ≡ c → leb k 32 ≡ d → pickN a (pickN b 0 9) (pickN (c && d) 0 9) ≡ 0
+    → (16 ≤ k) × (k ≤ 32)
 unfolding pickN
 by-kind k true true c d p q r h = let e : k ≡ 28 = eqb-true _ _ p in omega arith
 by-kind k true false c d p q r h = absurd (omega arith)

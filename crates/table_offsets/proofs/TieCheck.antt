@@ -16,14 +16,16 @@ use Rattle.rules.specs.Place.{byteLength}
 use Rattle.rules.specs.Table.{Table}
 use Rattle.rules.specs.Record.{preamble, traceClass, clockClass, streamClass, eventClass, Record, unknown, fragment, root, class, range}
 use Rattle.rules.specs.Record.{option, recordOf, behind, size}
-use Rattle.rules.specs.Faults.{pick, noneSeen, firstFault as rulesFault}
+use Rattle.rules.specs.Faults.{pick, noIds, firstFault as rulesFault}
 use Rattle.rules.specs.Parse.{Parser, bad, then, sound, missing, parseRoots, parseFragments, parse, byteOf, checkedOf, checked}
 use Rattle.table_offsets.specs.declared.Walk.the-variants.{Fine}
 use Rattle.table_offsets.specs.Bodies.{known, noKind}
-use Rattle.table_offsets.specs.Check.{pickN, first, orElse, byteAt, headFault, orderFault, lowest, stray, orRefused, thenChecked, fragmentsAt}
+use Rattle.table_offsets.specs.Check.{pickN, first, orElse, byteAt, headFault, orderFault}
+use Rattle.table_offsets.specs.Check.{lowest, stray, orRefused, thenChecked, fragmentsAt}
 use Rattle.table_offsets.specs.Check.{firstFault, checkedAt}
 use Rattle.table_offsets.proofs.TieBytes.{Rest, rest-length}
-use Rattle.table_offsets.proofs.TieKinds.{Stands, nothing, aPreamble, aTrace, aClock, aStream, anEvent, aRoot, aClass, aRange, anOption}
+use Rattle.table_offsets.proofs.TieKinds.{Stands, nothing, aPreamble, aTrace, aClock, aStream}
+use Rattle.table_offsets.proofs.TieKinds.{anEvent, aRoot, aClass, aRange, anOption}
 use Rattle.table_offsets.proofs.TieKinds.{stands, stands-as}
 use Rattle.table_offsets.proofs.TieHead.{head-whole, Tested, record-fault, rest-behind}
 use Rattle.table_offsets.proofs.TieIds.{sees-none}
@@ -108,7 +110,8 @@ lowest-root t trace os m at e = rw e (by (ltb m 4))
     by false = refl
 
 stray-refused : (t : List ℕ) (trace : Bool) (os : List ℕ) (at : ℕ) (C : ℕ → Checked)
-    → orRefused (stray t at) at (C at) ≡ thenChecked (orElse (stray t at) at (Fine at)) (λ m p. Refused (lowest t trace os m p) (byteLength p)) C
+    → orRefused (stray t at) at (C at)
+    ≡ thenChecked (orElse (stray t at) at (Fine at)) (λ m p. Refused (lowest t trace os m p) (byteLength p)) C
 stray-refused t trace os at C = by (stray t at) (stray-root t at)
   where
     by : (n : ℕ) → ((c : ℕ) → n ≡ suc c → byteAt t at ≡ 6)
@@ -120,15 +123,15 @@ stray-refused t trace os at C = by (stray t at) (stray-root t at)
 
 -- what is behind the preamble: no root, and fragments to the end
 rest : Parser Table
-rest x = then (parseRoots noneSeen false false [] x) λ cs x. parseFragments (length x) noneSeen x
+rest x = then (parseRoots noIds false false [] x) λ cs x. parseFragments (length x) noIds x
 
 rest-checked : (t : List ℕ) → Bytes t → (x : List ℕ) → Rest t 2 x
     → orRefused (stray t 2) 2 (fragmentsAt (length t - 2) t false [] 2) ≡ checkedOf t (rest x)
 unfolding rest
 rest-checked t b x r =
     stray-refused t false [] 2 (λ e. fragmentsAt (length t - e) t false [] e)
-    ∙ then-checked t false [] (stray-tie t b noneSeen false [] (sees-none t) false false 2 x r) _ _ (λ cs e y g.
-    rw (rest-length t e y g) (fragments-tie t b (length t - e) noneSeen false [] (sees-none t) e y g))
+    ∙ then-checked t false [] (stray-tie t b noIds false [] (sees-none t) false false 2 x r) _ _ (λ cs e y g.
+    rw (rest-length t e y g) (fragments-tie t b (length t - e) noIds false [] (sees-none t) e y g))
 
 missing-all : (t : List ℕ) → missing t ≡ eqb (length t) 0
 unfolding missing
@@ -151,7 +154,11 @@ unfolding checkedAt checked parse rest
 check-tie t b = rw (missing-all t, parse) (by (eqb (length t) 0 || ltb 65536 (length t)) refl)
   where
     by : (c : Bool) → (eqb (length t) 0 || ltb 65536 (length t)) ≡ c
-        → elim c [ true ↦ Refused 1 (byteLength 0) | false ↦ orRefused (firstFault t) 0 (orRefused (stray t 2) 2 (fragmentsAt (length t - 2) t false [] 2)) ]
+        → elim c [
+          | true ↦ Refused 1 (byteLength 0)
+          | false ↦ orRefused (firstFault t) 0
+              (orRefused (stray t 2) 2 (fragmentsAt (length t - 2) t false [] 2))
+        ]
         ≡ checkedOf t (elim c [ true ↦ bad 1 t | false ↦ sound (rulesFault (ltb (length t) (size t)) (recordOf t)) t rest ])
     by true e = unfold checkedOf byteOf in ap (λ n. Refused 1 (byteLength n)) (omega arith)
     by false e = first-checked t b (missing-all t ∙ or-false (eqb (length t) 0) (ltb 65536 (length t)) e .0)

@@ -16,7 +16,8 @@ use Rattle.table_offsets.specs.declared.Under.{Under}
 use Rattle.table_offsets.specs.Bodies.{noKind}
 use Rattle.table_offsets.specs.Check.{pickN, first, inside, kindFault, sayFault, sayOf, sayings, say, bitsSay}
 use Rattle.facts.proofs.Cases.{Each, _▷_, below}
-use Rattle.table_offsets.proofs.TieKinds.{plain, Stands, nothing, aPreamble, aTrace, aClock, aStream, anEvent, aRoot, aClass, aRange, anOption}
+use Rattle.table_offsets.proofs.TieKinds.{plain, Stands, nothing, aPreamble, aTrace, aClock}
+use Rattle.table_offsets.proofs.TieKinds.{aStream, anEvent, aRoot, aClass, aRange, anOption}
 use Rattle.table_offsets.proofs.TieTests.{pick-high, first-pick}
 use Rattle.table_offsets.proofs.TieOrder.{Late}
 use Rattle.table_offsets.proofs.TieSays.{Spotted, at-top, number-agrees, in-range, slot-agrees, ruled, role-agrees}
@@ -45,12 +46,14 @@ kind-agrees z start at k j m h l u e = rw (e, at-top z start at h, le-leb 16 k l
     by false b = unfold pick pickN first in refl
 
 say-agrees : (u : Under) (z : Spot) (left at : ℕ) (y : Said) → Spotted z (u .start) at → y .reads < 256
-    → pick (badNumber y) 10 (pick (badSlot (ltb (u .root) 2) y) 11 (pick (badRole (ruled u) z y) 12 (pick (eqb left 0) 14 0))) ≡ sayFault u left at (plain y)
+    → pick (badNumber y) 10 (pick (badSlot (ltb (u .root) 2) y) 11 (pick (badRole (ruled u) z y) 12 (pick (eqb left 0) 14 0)))
+    ≡ sayFault u left at (plain y)
 unfolding sayFault
 say-agrees u z left at y h b =
     rw (number-agrees y) (first-pick (badNumber y) 9 _ _ (λ e.
     let g = in-range y e in
-    rw (slot-agrees (u .root) y b g, role-agrees u z at h y (g .role)) (first-pick (badSlot (ltb (u .root) 2) y) 10 _ _ (λ f. by (badRole (ruled u) z y) (eqb left 0)))))
+    rw (slot-agrees (u .root) y b g, role-agrees u z at h y (g .role))
+    (first-pick (badSlot (ltb (u .root) 2) y) 10 _ _ (λ f. by (badRole (ruled u) z y) (eqb left 0)))))
   where
     by : (c d : Bool) → pick c 12 (pick d 14 0) ≡ pickN (not c) (pickN d 14 0) 12
     by true d = unfold pick pickN in refl

@@ -11,7 +11,7 @@ use borrow.Author.Tests.{eq-eqb, ne-eqb}
 use Rattle.facts.specs.Bytes.{Bytes}
 use Rattle.rules.specs.Class.{Class, structure, staticArray, dynamicArray, variant as aVariant}
 use Rattle.rules.specs.Record.{Shape, Says as Said, Record, behind}
-use Rattle.rules.specs.Faults.{Seen, Spot, top, leading, inside as within, memberSpot, meets, classFault as rulesFault}
+use Rattle.rules.specs.Faults.{Ids, Spot, top, leading, inside as within, memberSpot, meets, classFault as rulesFault}
 use Rattle.rules.specs.Parse.{Parser, selected, theSign, parseShape, parseBody, parseClass}
 use Rattle.table_offsets.specs.declared.Walk.{Walk}
 use Rattle.table_offsets.specs.declared.Walk.the-variants.{Fine}
@@ -21,9 +21,11 @@ use Rattle.table_offsets.specs.Bodies.{noKind, bodyMark}
 use Rattle.table_offsets.specs.Check.{pickN, pickW, first, byteAt, say, sayings, sayOf, saysAt, roleOk, kindFault, sayFault}
 use Rattle.table_offsets.specs.Check.{classFault, meetsAny, kindAt, classAt}
 use Rattle.table_offsets.proofs.TieBytes.{Rest}
-use Rattle.table_offsets.proofs.TieKinds.{plain, Single, bits, lebs, signedLebs, toZero, texts, blobs, textsOf, blobsOf, Shaped, single}
+use Rattle.table_offsets.proofs.TieKinds.{plain, Single, bits, lebs, signedLebs, toZero, texts}
+use Rattle.table_offsets.proofs.TieKinds.{blobs, textsOf, blobsOf, Shaped, single}
 use Rattle.table_offsets.proofs.TieKinds.{structured, static, dynamic, optional, variant}
-use Rattle.table_offsets.proofs.TieKinds.{Stands, nothing, aPreamble, aTrace, aClock, aStream, anEvent, aRoot, aClass, aRange, anOption, stands}
+use Rattle.table_offsets.proofs.TieKinds.{Stands, nothing, aPreamble, aTrace, aClock, aStream}
+use Rattle.table_offsets.proofs.TieKinds.{anEvent, aRoot, aClass, aRange, anOption, stands}
 use Rattle.table_offsets.proofs.TieHead.{rest-behind}
 use Rattle.table_offsets.proofs.TieIds.{Sees}
 use Rattle.table_offsets.proofs.TieWalk.{Tied, both-good, then-tie, made-tie, one-tie}
@@ -65,10 +67,19 @@ single-at : (F : ℕ → Walk) (t : List ℕ) (at k n : ℕ) → k < 28 → body
 unfolding kindAt pickW
 single-at F t at k n l e =
     let f : at + 1 + n ≡ at + (1 + n) = omega arith in
-    rw (ne-eqb k 28 (λ e. omega arith), ne-eqb k 29 (λ e. omega arith), ne-eqb k 30 (λ e. omega arith), ne-eqb k 31 (λ e. omega arith), ne-eqb k 32 (λ e. omega arith), e, f)
+    rw (
+      ne-eqb k 28 (λ e. omega arith),
+      ne-eqb k 29 (λ e. omega arith),
+      ne-eqb k 30 (λ e. omega arith),
+      ne-eqb k 31 (λ e. omega arith),
+      ne-eqb k 32 (λ e. omega arith),
+      e,
+      f,
+    )
 
-module _ (t : List ℕ) (b : Bytes t) (q : Seen) (trace : Bool) (seen : List ℕ) (known : Sees t q trace seen) (u : Under) where
-  module _ (f : Spot → Parser Class) (F : ℕ → Walk) (h : Walks t q trace seen known (u .start) f F) (z : Spot) (at : ℕ) (s : Spotted z (u .start) at) where
+module _ (t : List ℕ) (b : Bytes t) (q : Ids) (trace : Bool) (seen : List ℕ) (known : Sees t q trace seen) (u : Under) where
+  module _ (f : Spot → Parser Class) (F : ℕ → Walk) (h : Walks t q trace seen known (u .start) f F) (z : Spot) (at : ℕ)
+      (s : Spotted z (u .start) at) where
     longer : (n : ℕ) → at < at + (1 + n)
     longer n = omega arith
 
@@ -91,18 +102,23 @@ module _ (t : List ℕ) (b : Bytes t) (q : Seen) (trace : Bool) (seen : List ℕ
     shape-tie k n w structured y e m d x r =
         let c : y .count ≡ byteAt t (at + 1) = ap (λ (v : Says). v .count) e in
         let g = member-spot z (u .start) at s in
-        rw c (made-tie t trace seen (members-tie t q trace seen known (u .start) f F h (byteAt t (at + 1)) (at + 3) (memberSpot z) x r (g .0) (g .1)) (structure (y .align))
+        rw c (made-tie t trace seen
+        (members-tie t q trace seen known (u .start) f F h (byteAt t (at + 1)) (at + 3) (memberSpot z) x r (g .0) (g .1))
+        (structure (y .align))
         (λ cs e (k : at + 3 ≤ e). le-trans (omega arith) k))
     shape-tie k n w static y e m d x r =
         let p : u .start + 3 < at + 4 = omega (arith, past-root z 29 (u .start) at s d (λ e. omega arith)) in
-        made-tie t trace seen (h within (at + 4) x r p) (staticArray (y .count) (y .align)) (λ c e (k : at + 4 < e). le-trans (omega arith) k)
+        made-tie t trace seen (h within (at + 4) x r p) (staticArray (y .count) (y .align))
+        (λ c e (k : at + 4 < e). le-trans (omega arith) k)
     shape-tie k n w dynamic y e m d x r =
         let p : u .start + 3 < at + 3 = omega (arith, past-root z 30 (u .start) at s d (λ e. omega arith)) in
-        made-tie t trace seen (h within (at + 3) x r p) (dynamicArray (y .reads) (y .align)) (λ c e (k : at + 3 < e). le-trans (omega arith) k)
+        made-tie t trace seen (h within (at + 3) x r p) (dynamicArray (y .reads) (y .align))
+        (λ c e (k : at + 3 < e). le-trans (omega arith) k)
     shape-tie k n w optional y e m d x r =
         let c : y .count ≡ byteAt t (at + 2) = ap (λ (v : Says). v .count) e in
         let p : u .start + 3 < at + 3 = omega (arith, past-root z 31 (u .start) at s d (λ e. omega arith)) in
-        rw c (then-tie t trace seen (ranges-tie t q trace seen known (at + 3) [] [] (no-earlier t) (byteAt t (at + 2)) (at + 3) x none r refl) _ _
+        rw c (then-tie t trace seen
+        (ranges-tie t q trace seen known (at + 3) [] [] (no-earlier t) (byteAt t (at + 2)) (at + 3) x none r refl) _ _
         (λ rs e v (k : Read t (at + 3) (at + 3) (byteAt t (at + 2)) none rs e) r′.
         let past : u .start + 3 < e = omega (arith, k .on) in
         made-tie t trace seen (h within e v r′ past) (selected (y .reads) rs) (λ c e′ (l : e < e′). le-trans (omega (arith, k .on)) l)))
@@ -111,7 +127,8 @@ module _ (t : List ℕ) (b : Bytes t) (q : Seen) (trace : Bool) (seen : List ℕ
         let p : u .start + 3 ≤ at + 3 = omega (arith, past-root z 32 (u .start) at s d (λ e. omega arith)) in
         let first-range : at + 3 + 2 ≡ at + 5 = omega arith in
         rw c (made-tie t trace seen
-        (options-tie t q trace seen known (u .start) f F h (at + 5) (byteAt t (at + 2)) (at + 3) x (none, []) [] r first-range (no-earlier t) p)
+        (options-tie t q trace seen known (u .start) f F h (at + 5) (byteAt t (at + 2)) (at + 3) x (none, []) [] r first-range
+        (no-earlier t) p)
         (λ os. aVariant (y .reads) (theSign (os .0)) (os .1)) (λ os e (k : at + 3 ≤ e). le-trans (omega arith) k))
 
     body-tie : (k n : ℕ) (v : Record) → Stands t at k n v → (n ≡ noKind → ⊥) → bodyMark k ≡ n → kindFault k (u .start) at ≡ 0
@@ -136,5 +153,6 @@ module _ (t : List ℕ) (b : Bytes t) (q : Seen) (trace : Bool) (seen : List ℕ
   class-tie (suc left) z at x r s =
       one-tie t trace seen q known at x r (rulesFault (ruled u) z false) (class-late (ruled u) z false) _
       (λ w. rw (eqb·suc-zero left) at (class-agrees t b u z (suc left) at _ _ _ (stands t at x r) (w .known) s)) _ _ (λ w e.
-      body-tie (parseClass q (ruled u) left) (classAt u left t) (class-tie left) z at s _ _ _ (stands t at x r) (w .known) refl (first-fine _ _ e .0)
+      body-tie (parseClass q (ruled u) left) (classAt u left t) (class-tie left) z at s _ _ _ (stands t at x r) (w .known) refl
+      (first-fine _ _ e .0)
       (behind x) (rest-behind t at x r w _ refl))

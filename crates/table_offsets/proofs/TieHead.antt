@@ -11,16 +11,18 @@ use borrow.Author.Tests.{leb-false, le-leb, lt-leb, eq-eqb, ne-eqb, eqb-true, eq
 use Rattle.facts.proofs.Numbers.{lt-or-ge}
 use Rattle.facts.proofs.Truth.{clash}
 use Rattle.rules.specs.Record.{Record, unknown, fragment, root, class, range, option, recordOf, size, behind}
-use Rattle.rules.specs.Faults.{pick, Seen, recordFault}
+use Rattle.rules.specs.Faults.{pick, Ids, recordFault}
 use Rattle.rules.specs.Parse.{missing}
 use Rattle.table_offsets.specs.Bodies.{known, noKind, bodyMark}
 use Rattle.table_offsets.specs.Check.{pickN, first, byteAt, headFault}
 use Rattle.table_offsets.proofs.TieTests.{not-ltb, ltb-more}
 use Rattle.table_offsets.proofs.TieBytes.{Rest, rest-length, rest-missing, rest-on}
-use Rattle.table_offsets.proofs.TieKinds.{Stands, nothing, aPreamble, aTrace, aClock, aStream, anEvent, aRoot, aClass, aRange, anOption}
+use Rattle.table_offsets.proofs.TieKinds.{Stands, nothing, aPreamble, aTrace, aClock, aStream}
+use Rattle.table_offsets.proofs.TieKinds.{anEvent, aRoot, aClass, aRange, anOption}
 use Rattle.table_offsets.proofs.TieKinds.{stands, known-size}
 
-pub known-or-not : (t : List ℕ) (at k n : ℕ) (r : Record) → Stands t at k n r → ((n ≡ noKind) × (r ≡ unknown)) ⊎ ((n ≡ noKind → ⊥) × (known r ≡ true))
+pub known-or-not : (t : List ℕ) (at k n : ℕ) (r : Record) → Stands t at k n r
+    → ((n ≡ noKind) × (r ≡ unknown)) ⊎ ((n ≡ noKind → ⊥) × (known r ≡ true))
 unfolding known
 known-or-not t at k n r nothing = inl (refl, refl)
 known-or-not t at k n r aPreamble = inr (λ e. omega arith, refl)
@@ -38,7 +40,7 @@ pub record Tested (test : Bool → Record → ℕ) : Type 0 where
   pub unknowns : (short : Bool) → test short unknown ≡ 2
   pub others : (short : Bool) (r : Record) → known r ≡ true → test short r ≡ pick short 3 (test false r)
 
-pub record-tested : (q : Seen) (m : ℕ) → Tested (λ short r. recordFault short q r m)
+pub record-tested : (q : Ids) (m : ℕ) → Tested (λ short r. recordFault short q r m)
 unfolding recordFault pick known
 record-tested q m = record { unknowns = λ s. refl; others = others }
   where
@@ -126,7 +128,11 @@ module _ (t : List ℕ) (at : ℕ) (x : List ℕ) (h : Rest t at x) where
   record-fault test g = rw missing-at (⊎-elim
       (λ e. rw (e .1, eq-eqb (bodyMark (byteAt t at)) noKind (e .0), g .unknowns (ltb (length x) (size x)))
       (pick-unknown (leb (length t) at) (leb (length t - at) (bodyMark (byteAt t at))) (test false unknown)))
-      (λ k. rw (short-at (k .0), g .others (leb (length t - at) (bodyMark (byteAt t at))) (recordOf x) (k .1), ne-eqb (bodyMark (byteAt t at)) noKind (k .0))
+      (λ k. rw (
+        short-at (k .0),
+        g .others (leb (length t - at) (bodyMark (byteAt t at))) (recordOf x) (k .1),
+        ne-eqb (bodyMark (byteAt t at)) noKind (k .0),
+      )
       (pick-first (leb (length t) at) (leb (length t - at) (bodyMark (byteAt t at))) (test false (recordOf x))))
       (known-or-not t at _ _ _ (stands t at x h)))
 

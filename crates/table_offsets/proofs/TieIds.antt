@@ -10,7 +10,7 @@ use lib.Dec.{eqb}
 use borrow.Author.Tests.{eqb-true, eqb-false, eq-eqb, ne-eqb}
 use Rattle.facts.specs.Bytes.{Bytes}
 use Rattle.rules.specs.Record.{traceClass, clockClass, streamClass, eventClass}
-use Rattle.rules.specs.Faults.{Seen, noneSeen, seen, among, pairAmong}
+use Rattle.rules.specs.Faults.{Ids, noIds, seen, among, pairAmong}
 use Rattle.table_offsets.specs.Check.{pickB, byteAt, numberAt, u64, same, isNamed, named, traced}
 use Rattle.table_offsets.proofs.TieTests.{eqb-swap}
 
@@ -31,7 +31,8 @@ same-split t a b m zero = let e : m + 0 ≡ m = omega arith in rw (e, and-true)
 same-split t a b m (suc n) =
     let f : a + (m + n) ≡ a + m + n = omega arith in
     let g : b + (m + n) ≡ b + m + n = omega arith in
-    rw (add-suc m n, same-split t a b m n, f, g) (and-middle (eqb (byteAt t (a + m + n)) (byteAt t (b + m + n))) (same t a b m) (same t (a + m) (b + m) n))
+    rw (add-suc m n, same-split t a b m n, f, g)
+    (and-middle (eqb (byteAt t (a + m + n)) (byteAt t (b + m + n))) (same t a b m) (same t (a + m) (b + m) n))
 
 -- the lowest digit first
 digits : (x y a b : ℕ) → x < 256 → y < 256 → (eqb x y && eqb b a) ≡ eqb (b * 256 + y) (a * 256 + x)
@@ -53,7 +54,8 @@ same-number t h (suc n) a b =
     let za : a + 0 ≡ a = omega arith in
     let zb : b + 0 ≡ b = omega arith in
     ap (same t a b) e ∙ same-split t a b 1 n ∙
-    rw (za, zb, and-true, same-number t h n (a + 1) (b + 1)) (digits (byteAt t a) (byteAt t b) (numberAt t (a + 1) n) (numberAt t (b + 1) n) (h a) (h b))
+    rw (za, zb, and-true, same-number t h n (a + 1) (b + 1))
+    (digits (byteAt t a) (byteAt t b) (numberAt t (a + 1) n) (numberAt t (b + 1) n) (h a) (h b))
 
 same-byte : (t : List ℕ) (a b : ℕ) → same t a b 1 ≡ eqb (byteAt t b) (byteAt t a)
 unfolding same
@@ -68,7 +70,7 @@ same-pair t h a b = same-split t a b 8 8 ∙ rw (same-number t h 8 a b, same-num
 
 -- What the fragments seen tell
 
-pub record Sees (t : List ℕ) (q : Seen) (trace : Bool) (places : List ℕ) : Type 0 where
+pub record Sees (t : List ℕ) (q : Ids) (trace : Bool) (places : List ℕ) : Type 0 where
   pub traced : q .trace ≡ trace
   pub clocks : (at : ℕ) → named t 3 at 1 places ≡ among (byteAt t at) (q .clocks)
   pub streams : (at : ℕ) → named t 4 at 8 places ≡ among (u64 t at) (q .streams)
@@ -76,8 +78,8 @@ pub record Sees (t : List ℕ) (q : Seen) (trace : Bool) (places : List ℕ) : T
   pub any : (at : ℕ) → named t 4 at 0 places ≡ not (eqb (length (q .streams)) 0)
   pub count : length places ≡ length (q .clocks) + length (q .streams) + length (q .events)
 
-pub sees-none : (t : List ℕ) → Sees t noneSeen false []
-unfolding noneSeen named among pairAmong
+pub sees-none : (t : List ℕ) → Sees t noIds false []
+unfolding noIds named among pairAmong
 sees-none t = record { traced = refl; clocks = λ at. refl; streams = λ at. refl; events = λ at. refl; any = λ at. refl; count = refl }
 
 named-at : (t : List ℕ) (k a n o : ℕ) (os : List ℕ) → byteAt t o ≡ k → named t k a n (o ∷ os) ≡ (same t (o + 1) a n || named t k a n os)
@@ -92,7 +94,7 @@ named-past : (t : List ℕ) (k a n o : ℕ) (os : List ℕ) → (byteAt t o ≡ 
 unfolding named isNamed pickB
 named-past t k a n o os e = rw (ne-eqb (byteAt t o) k e)
 
-module _ (t : List ℕ) (h : Bytes t) (o : ℕ) (q : Seen) (trace : Bool) (os : List ℕ) (s : Sees t q trace os) where
+module _ (t : List ℕ) (h : Bytes t) (o : ℕ) (q : Ids) (trace : Bool) (os : List ℕ) (s : Sees t q trace os) where
   pub sees-trace : (u : ℕ) (l : List ℕ) → Sees t (seen q (traceClass u l)) true os
   unfolding seen
   sees-trace u l = record { traced = refl; clocks = s .clocks; streams = s .streams; events = s .events; any = s .any; count = s .count }

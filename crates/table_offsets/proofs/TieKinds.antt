@@ -11,7 +11,8 @@ use lib.ListN.{length, getD, take, drop, List·getD-eq-default}
 use Rattle.facts.proofs.Numbers.{lt-or-ge}
 use Rattle.rules.specs.Record.{Shape, bitField, lebField, signedLebField, zeroString, text, blob, textOf, blobOf, members, elements}
 use Rattle.rules.specs.Record.{elementsOf, option?, options}
-use Rattle.rules.specs.Record.{preamble, traceClass, clockClass, streamClass, eventClass, Record, unknown, fragment, root, class, range, option}
+use Rattle.rules.specs.Record.{preamble, traceClass, clockClass, streamClass, eventClass}
+use Rattle.rules.specs.Record.{Record, unknown, fragment, root, class, range, option}
 use Rattle.rules.specs.Record.{Says as Said, Layout, no, bitsLayout, layouts, recordOf, layoutOf, size, u8, u16 as ru16, u64 as ru64}
 use Rattle.table_offsets.specs.declared.Says.{Says}
 use Rattle.table_offsets.specs.Bodies.{known, noKind, mark, bodyMark}
@@ -21,7 +22,16 @@ use Rattle.table_offsets.proofs.TieBytes.{Rest, rest-byte, body-u8, bod
 
 -- what a class record says, but for its shape
 unfoldable pub plain : Said → Says
-plain y = record { kind = y .kind; length = y .length; order = y .order; align = y .align; sets = y .sets; reads = y .reads; role = y .role; count = y .count }
+plain y = record {
+  kind = y .kind;
+  length = y .length;
+  order = y .order;
+  align = y .align;
+  sets = y .sets;
+  reads = y .reads;
+  role = y .role;
+  count = y .count;
+}
 
 -- the shape that goes with a kind: of a single field, or of one that holds others
 pub data Single : Shape → Type 0 where
@@ -126,7 +136,8 @@ module _ (t : List ℕ) (at : ℕ) (x : List ℕ) (h : Rest t at x) where
 
   pub stands : Stands t at (byteAt t at) (bodyMark (byteAt t at)) (recordOf x)
   unfolding bodyMark recordOf
-  stands = subst (λ (l : Layout). Stands t at (byteAt t at) (bodyMark (byteAt t at)) (l .1 (take (l .0) (drop 1 x)))) (sym layout-at) (kind-row (byteAt t at))
+  stands = subst (λ (l : Layout). Stands t at (byteAt t at) (bodyMark (byteAt t at)) (l .1 (take (l .0) (drop 1 x)))) (sym layout-at)
+      (kind-row (byteAt t at))
 
   pub stands-as : (k : ℕ) → byteAt t at ≡ k → Stands t at k (bodyMark (byteAt t at)) (recordOf x)
   stands-as k e = subst (λ k. Stands t at k (bodyMark (byteAt t at)) (recordOf x)) e stands

@@ -11,13 +11,14 @@ use lib.Dec.{leb, eqb}
 use borrow.Author.Tests.{leb-true, eqb-true, ne-eqb}
 use Rattle.rules.specs.Class.{Class, member, option as anOption′}
 use Rattle.rules.specs.Record.{Record, unknown, fragment, root, class, range, option, behind}
-use Rattle.rules.specs.Faults.{pick, out, Seen, Spot, inside as within, optionFault as rulesFault}
+use Rattle.rules.specs.Faults.{pick, out, Ids, Spot, inside as within, optionFault as rulesFault}
 use Rattle.rules.specs.Parse.{Parser, Ranges, countOf, parseMembers, parseOptions}
 use Rattle.table_offsets.specs.declared.Walk.{Walk}
 use Rattle.table_offsets.specs.Bodies.{noKind}
 use Rattle.table_offsets.specs.Check.{pickN, inside, byteAt, optionFault, membersAt, optionsAt}
 use Rattle.table_offsets.proofs.TieBytes.{Rest}
-use Rattle.table_offsets.proofs.TieKinds.{Stands, nothing, aPreamble, aTrace, aClock, aStream, anEvent, aRoot, aClass, aRange, anOption}
+use Rattle.table_offsets.proofs.TieKinds.{Stands, nothing, aPreamble, aTrace, aClock, aStream}
+use Rattle.table_offsets.proofs.TieKinds.{anEvent, aRoot, aClass, aRange, anOption}
 use Rattle.table_offsets.proofs.TieKinds.{stands, stands-as}
 use Rattle.table_offsets.proofs.TieHead.{rest-behind}
 use Rattle.table_offsets.proofs.TieIds.{Sees}
@@ -83,7 +84,7 @@ an-option t at n r anOption h = (refl, refl)
 
 -- The walks, under a root structure at `start`
 
-module _ (t : List ℕ) (q : Seen) (trace : Bool) (seen : List ℕ) (known : Sees t q trace seen) (start : ℕ) where
+module _ (t : List ℕ) (q : Ids) (trace : Bool) (seen : List ℕ) (known : Sees t q trace seen) (start : ℕ) where
   -- f reads the classes that F walks; each takes a byte or more
   abbrev pub Walks : (Spot → Parser Class) → (ℕ → Walk) → Type 0
   Walks f F = (z : Spot) (at : ℕ) (x : List ℕ) → Rest t at x → Spotted z start at → Tied t trace seen (λ c e. at < e) (f z x) (F at)
@@ -96,7 +97,8 @@ module _ (t : List ℕ) (q : Seen) (trace : Bool) (seen : List ℕ) (known : See
     members-tie (suc n) at z x r s l =
         then-tie t trace seen (h z at x r s) _ _ (λ c e y (k : at < e) r′.
         let past : start + 3 < e = omega arith in
-        made-tie t trace seen (members-tie n e within y r′ past (omega arith)) (member c) (λ cs e′ (k′ : e ≤ e′). le-trans (omega arith) k′))
+        made-tie t trace seen (members-tie n e within y r′ past (omega arith)) (member c)
+        (λ cs e′ (k′ : e ≤ e′). le-trans (omega arith) k′))
 
     pub options-tie : (head n at : ℕ) (x : List ℕ) (p : Ranges) (os : List ℕ) → Rest t at x → Signed t head (p .0) (at + 2)
         → Told t os (p .1) → start + 3 ≤ at
@@ -109,10 +111,13 @@ module _ (t : List ℕ) (q : Seen) (trace : Bool) (seen : List ℕ) (known : See
         let g = sound-option t at m in
         let o = an-option t at _ _ (stands-as t at x r 34 (g .kind)) (w .known) in
         rw (o .0)
-        (then-tie t trace seen (ranges-tie t q trace seen known head os (p .1) d (byteAt t (at + 1)) (at + 2) (behind x) (p .0) (rest-behind t at x r w 1 (o .1)) s) _ _
+        (then-tie t trace seen
+        (ranges-tie t q trace seen known head os (p .1) d (byteAt t (at + 1)) (at + 2) (behind x) (p .0)
+        (rest-behind t at x r w 1 (o .1)) s) _ _
         (λ rs e y (k : Read t head (at + 2) (byteAt t (at + 1)) (p .0) rs e) r′.
         let past : start + 3 < e = omega (arith, k .on) in
         then-tie t trace seen (h within e y r′ past) _ _ (λ c e′ y′ (k′ : e < e′) r″.
         made-tie t trace seen
-        (options-tie head n e′ y′ (rs .0, p .1 ++ rs .1) (at ∷ os) r″ (k .sign (inl (g .some)) (e′ + 2)) (told-more t os (p .1) (rs .1) at d (k .ranges)) (omega arith))
+        (options-tie head n e′ y′ (rs .0, p .1 ++ rs .1) (at ∷ os) r″ (k .sign (inl (g .some)) (e′ + 2))
+        (told-more t os (p .1) (rs .1) at d (k .ranges)) (omega arith))
         (λ os. (os .0, anOption′ (rs .1) c (os .1))) (λ os e″ (k″ : e′ ≤ e″). le-trans (omega (arith, k .on)) k″)))))

@@ -11,12 +11,13 @@ use lib.Dec.{ltb, eqb}
 use borrow.Author.Tests.{ne-eqb, lt-ltb, le-ltb}
 use Rattle.facts.proofs.Numbers.{lt-or-ge}
 use Rattle.rules.specs.Record.{Fragment, preamble, traceClass, clockClass, streamClass, eventClass, Record, fragment, recordOf, size}
-use Rattle.rules.specs.Faults.{pick, Seen, fragmentFault, recordFault}
+use Rattle.rules.specs.Faults.{pick, Ids, fragmentFault, recordFault}
 use Rattle.rules.specs.Parse.{missing}
 use Rattle.table_offsets.specs.Bodies.{noKind, bodyMark}
 use Rattle.table_offsets.specs.Check.{pickN, first, byteAt, u64, headFault, named, orderFault, lowest}
 use Rattle.table_offsets.proofs.TieBytes.{Rest}
-use Rattle.table_offsets.proofs.TieKinds.{Stands, nothing, aPreamble, aTrace, aClock, aStream, anEvent, aRoot, aClass, aRange, anOption, stands}
+use Rattle.table_offsets.proofs.TieKinds.{Stands, nothing, aPreamble, aTrace, aClock, aStream}
+use Rattle.table_offsets.proofs.TieKinds.{anEvent, aRoot, aClass, aRange, anOption, stands}
 use Rattle.table_offsets.proofs.TieHead.{head-whole, head-most, record-tested, record-fault}
 use Rattle.table_offsets.proofs.TieIds.{Sees}
 
@@ -47,9 +48,15 @@ event-order false false m = refl
 class-order : (t : List ℕ) (trace : Bool) (os : List ℕ) (at k : ℕ) → 16 ≤ k → orderFault t trace os at k ≡ 0
 unfolding orderFault pickN
 class-order t trace os at k h =
-    rw (ne-eqb k 1 (λ e. omega arith), ne-eqb k 2 (λ e. omega arith), ne-eqb k 3 (λ e. omega arith), ne-eqb k 4 (λ e. omega arith), ne-eqb k 5 (λ e. omega arith))
+    rw (
+      ne-eqb k 1 (λ e. omega arith),
+      ne-eqb k 2 (λ e. omega arith),
+      ne-eqb k 3 (λ e. omega arith),
+      ne-eqb k 4 (λ e. omega arith),
+      ne-eqb k 5 (λ e. omega arith),
+    )
 
-module _ (t : List ℕ) (q : Seen) (trace : Bool) (os : List ℕ) (s : Sees t q trace os) where
+module _ (t : List ℕ) (q : Ids) (trace : Bool) (os : List ℕ) (s : Sees t q trace os) where
   pub order-tie : (at k n : ℕ) (r : Record) → Stands t at k n r → (n ≡ noKind → ⊥) → (m : ℕ)
       → recordFault false q r m ≡ first (orderFault t trace os at k) m
   unfolding recordFault fragmentFault orderFault pick pickN first
@@ -92,24 +99,28 @@ pub lowest-head : (t : List ℕ) (trace : Bool) (os : List ℕ) (m at : ℕ) →
 unfolding lowest pickN
 lowest-head t trace os m at h = rw (lt-ltb m 4 h)
 
-lowest-late : (t : List ℕ) (trace : Bool) (os : List ℕ) (m at : ℕ) → 4 ≤ m → lowest t trace os m at ≡ first (orderFault t trace os at (byteAt t at)) m
+lowest-late : (t : List ℕ) (trace : Bool) (os : List ℕ) (m at : ℕ) → 4 ≤ m
+    → lowest t trace os m at ≡ first (orderFault t trace os at (byteAt t at)) m
 unfolding lowest pickN
 lowest-late t trace os m at h = rw (le-ltb m 4 h)
 
 -- the rules' number of a record
-pub number-tie : (t : List ℕ) (q : Seen) (trace : Bool) (os : List ℕ) → Sees t q trace os → (at : ℕ) (x : List ℕ) → Rest t at x
+pub number-tie : (t : List ℕ) (q : Ids) (trace : Bool) (os : List ℕ) → Sees t q trace os → (at : ℕ) (x : List ℕ) → Rest t at x
     → (more : Record → ℕ) → Late more
     → pick (missing x) 3 (recordFault (ltb (length x) (size x)) q (recordOf x) (more (recordOf x)))
     ≡ lowest t trace os (first (headFault t at) (more (recordOf x))) at
 unfolding first
-number-tie t q trace os s at x h more l = record-fault t at x h (λ short r. recordFault short q r (more (recordOf x))) (record-tested q (more (recordOf x))) ∙ by (headFault t at) refl
+number-tie t q trace os s at x h more l =
+    record-fault t at x h (λ short r. recordFault short q r (more (recordOf x))) (record-tested q (more (recordOf x)))
+    ∙ by (headFault t at) refl
   where
     late : (m : ℕ) → more (recordOf x) ≡ m → headFault t at ≡ 0 → first (orderFault t trace os at (byteAt t at)) m ≡ lowest t trace os m at
     late m p e = ⊎-elim
         (λ (g : m < 4).
         let y = l .high (recordOf x) (omega arith) in
         let z : m ≡ 0 = omega arith in
-        let o = late-order t trace os at (byteAt t at) (bodyMark (byteAt t at)) (recordOf x) more l (stands t at x h) (head-whole t at e .known) (omega arith) in
+        let o = late-order t trace os at (byteAt t at) (bodyMark (byteAt t at)) (recordOf x) more l (stands t at x h)
+        (head-whole t at e .known) (omega arith) in
         rw (o, z) (sym (lowest-head t trace os 0 at (omega arith))))
         (λ (g : 4 ≤ m). sym (lowest-late t trace os m at g))
         (lt-or-ge m 4)
@@ -117,6 +128,7 @@ number-tie t q trace os s at x h more l = record-fault t at x h (λ short r. rec
     by : (c : ℕ) → headFault t at ≡ c
         → first c (recordFault false q (recordOf x) (more (recordOf x))) ≡ lowest t trace os (first c (more (recordOf x))) at
     by zero e =
-        order-tie t q trace os s at (byteAt t at) (bodyMark (byteAt t at)) (recordOf x) (stands t at x h) (head-whole t at e .known) (more (recordOf x))
+        order-tie t q trace os s at (byteAt t at) (bodyMark (byteAt t at)) (recordOf x) (stands t at x h) (head-whole t at e .known)
+        (more (recordOf x))
         ∙ late (more (recordOf x)) refl e
     by (suc c) e = sym (lowest-head t trace os (suc c) at (omega (arith, head-most t at)))

@@ -11,13 +11,14 @@ use lib.Dec.{ltb, leb, eqb}
 use borrow.Author.Tests.{ltb-false, eqb-true, eq-eqb, ne-eqb}
 use Rattle.rules.specs.Class.{Sign, Range, key as rulesKey}
 use Rattle.rules.specs.Record.{Record, unknown, fragment, root, class, range, option, recordOf, behind}
-use Rattle.rules.specs.Faults.{pick, Seen, signOf, otherSign, meets, rangeFault as rulesFault}
+use Rattle.rules.specs.Faults.{pick, Ids, signOf, otherSign, meets, rangeFault as rulesFault}
 use Rattle.rules.specs.Parse.{good, then, Ranges, rangeOf, parseRanges}
 use Rattle.table_offsets.specs.Bodies.{noKind, known}
 use Rattle.table_offsets.specs.Check.{pickN, byteAt, u64, key, lowAt, highAt, meetsHere, meetsOne, meetsOption, meetsAny, boundsFault}
 use Rattle.table_offsets.specs.Check.{rangeFault, rangesAt}
 use Rattle.table_offsets.proofs.TieBytes.{Rest}
-use Rattle.table_offsets.proofs.TieKinds.{Stands, nothing, aPreamble, aTrace, aClock, aStream, anEvent, aRoot, aClass, aRange, anOption}
+use Rattle.table_offsets.proofs.TieKinds.{Stands, nothing, aPreamble, aTrace, aClock, aStream}
+use Rattle.table_offsets.proofs.TieKinds.{anEvent, aRoot, aClass, aRange, anOption}
 use Rattle.table_offsets.proofs.TieKinds.{stands, stands-as}
 use Rattle.table_offsets.proofs.TieHead.{Whole, rest-behind}
 use Rattle.table_offsets.proofs.TieIds.{Sees}
@@ -73,7 +74,8 @@ meets-append : (g : Sign) (l h : ℕ) (rs ss : List Range) → meets g l h (rs +
 unfolding meets
 meets-append g l h [] ss = sym (or-none (meets g l h ss))
 meets-append g l h (r ∷ rs) ss =
-    rw (meets-append g l h rs ss) (or-middle (leb (rulesKey g l) (rulesKey g (r .high)) && leb (rulesKey g (r .low)) (rulesKey g h)) (meets g l h ss) (meets g l h rs))
+    rw (meets-append g l h rs ss)
+    (or-middle (leb (rulesKey g l) (rulesKey g (r .high)) && leb (rulesKey g (r .low)) (rulesKey g h)) (meets g l h ss) (meets g l h rs))
   where
     or-middle : (a b c : Bool) → (a || (b || c)) ≡ (b || (a || c))
     or-middle true true c = refl
@@ -192,7 +194,8 @@ read-more t head at n e o p s k = record {
   sign = λ l. k .sign (inr (λ a. (ap signOf (sym (s .same)), rw (s .same) (s .sign))));
 }
 
-module _ (t : List ℕ) (q : Seen) (trace : Bool) (seen : List ℕ) (known : Sees t q trace seen) (head : ℕ) (os : List ℕ) (rs : List Range) (d : Told t os rs) where
+module _ (t : List ℕ) (q : Ids) (trace : Bool) (seen : List ℕ) (known : Sees t q trace seen) (head : ℕ) (os : List ℕ) (rs : List Range)
+    (d : Told t os rs) where
   behind-range : (n at : ℕ) (x : List ℕ) (o : Option Sign) → Rest t at x → Whole t at → Sound t head at
       → ((y : List ℕ) → Rest t (at + 18) y → Tied t trace seen (Read t head (at + 18) n (some (signOf (byteAt t (at + 1)))))
       (parseRanges q rs n (some (signOf (byteAt t (at + 1)))) y) (rangesAt t head os (at + 18) n))
@@ -202,7 +205,8 @@ module _ (t : List ℕ) (q : Seen) (trace : Bool) (seen : List ℕ) (known : See
   unfolding rangeOf
   behind-range n at x o h w s rec =
       let r = a-range t at _ _ (stands-as t at x h 33 (s .kind)) (w .known) in
-      rw (r .0) (made-tie t trace seen (rec (behind x) (rest-behind t at x h w 17 (r .1))) (λ p. (p .0, record { low = u64 t (at + 2); high = u64 t (at + 10) } ∷ p .1))
+      rw (r .0) (made-tie t trace seen (rec (behind x) (rest-behind t at x h w 17 (r .1)))
+      (λ p. (p .0, record { low = u64 t (at + 2); high = u64 t (at + 10) } ∷ p .1))
       (λ p e k. read-more t head at n e o p s k))
 
   pub ranges-tie : (n at : ℕ) (x : List ℕ) (o : Option Sign) → Rest t at x → Signed t head o at
@@ -213,4 +217,5 @@ module _ (t : List ℕ) (q : Seen) (trace : Bool) (seen : List ℕ) (known : See
       one-tie t trace seen q known at x h (rulesFault o rs) (range-late o rs) (laterFault t head os at (byteAt t at))
       (λ w. range-agrees t head at o os rs s d _ _ _ (stands t at x h) (w .known)) _ _ (λ w e.
       let g = sound-range t head os at e in
-      behind-range n at x o h w g (λ y r. ranges-tie n (at + 18) y (some (signOf (byteAt t (at + 1)))) r (ap signOf (sym (g .same)), rw (g .same) (g .sign))))
+      behind-range n at x o h w g
+      (λ y r. ranges-tie n (at + 18) y (some (signOf (byteAt t (at + 1)))) r (ap signOf (sym (g .same)), rw (g .same) (g .sign))))

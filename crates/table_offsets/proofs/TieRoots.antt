@@ -13,13 +13,15 @@ use Rattle.facts.specs.Bytes.{Bytes}
 use Rattle.facts.proofs.Truth.{and-left, and-right, and-none}
 use Rattle.rules.specs.Class.{Class}
 use Rattle.rules.specs.Record.{Record, unknown, fragment, root, class, range, option, recordOf, behind, size, layouts}
-use Rattle.rules.specs.Faults.{Seen, top, rootFault}
+use Rattle.rules.specs.Faults.{Ids, top, rootFault}
 use Rattle.rules.specs.Parse.{bad, good, then as rulesThen, one, isRoot, anyRoot, parseClass, parseRoots}
 use Rattle.table_offsets.specs.declared.Walk.the-variants.{Fine}
 use Rattle.table_offsets.specs.Bodies.{known, mark, noKind, bodyMark}
-use Rattle.table_offsets.specs.Check.{pickN, pickW, first, orElse, then, byteAt, headFault, rootHere, stray, under, rootAt, rootsAt, classAt}
+use Rattle.table_offsets.specs.Check.{pickN, pickW, first, orElse, then, byteAt, headFault}
+use Rattle.table_offsets.specs.Check.{rootHere, stray, under, rootAt, rootsAt, classAt}
 use Rattle.table_offsets.proofs.TieBytes.{Rest}
-use Rattle.table_offsets.proofs.TieKinds.{Stands, nothing, aPreamble, aTrace, aClock, aStream, anEvent, aRoot, aClass, aRange, anOption}
+use Rattle.table_offsets.proofs.TieKinds.{Stands, nothing, aPreamble, aTrace, aClock, aStream}
+use Rattle.table_offsets.proofs.TieKinds.{anEvent, aRoot, aClass, aRange, anOption}
 use Rattle.table_offsets.proofs.TieKinds.{stands, stands-as}
 use Rattle.table_offsets.proofs.TieHead.{head-whole, known-or-not, whole-at, missing-at, rest-behind}
 use Rattle.table_offsets.proofs.TieIds.{Sees}
@@ -35,7 +37,8 @@ bodyMark-root : bodyMark 6 ≡ 1
 unfolding bodyMark mark known layouts
 bodyMark-root = refl
 
-is-root : (t : List ℕ) (at m k n : ℕ) (r : Record) → Stands t at k n r → (n ≡ noKind → ⊥) → isRoot m r ≡ (eqb k 6 && eqb (byteAt t (at + 1)) m)
+is-root : (t : List ℕ) (at m k n : ℕ) (r : Record) → Stands t at k n r → (n ≡ noKind → ⊥)
+    → isRoot m r ≡ (eqb k 6 && eqb (byteAt t (at + 1)) m)
 unfolding isRoot
 is-root t at m k n r nothing h = absurd (h refl)
 is-root t at m k n r aPreamble h = refl
@@ -61,7 +64,8 @@ any-root t at k n r (aClass l u b e f c) h = sym (ne-eqb k 6 (λ g. omega arith)
 any-root t at k n r aRange h = refl
 any-root t at k n r anOption h = refl
 
-root-here : (t : List ℕ) (at : ℕ) (x : List ℕ) → Rest t at x → (n : ℕ) → (leb (size x) (length x) && isRoot n (recordOf x)) ≡ rootHere t n at
+root-here : (t : List ℕ) (at : ℕ) (x : List ℕ) → Rest t at x → (n : ℕ)
+    → (leb (size x) (length x) && isRoot n (recordOf x)) ≡ rootHere t n at
 unfolding rootHere isRoot
 root-here t at x r n = ⊎-elim
     (λ e. rw (e .1, ne-eqb (headFault t at) 0 (λ f. head-whole t at f .known (e .0))) (and-none (leb (size x) (length x))))
@@ -100,10 +104,12 @@ numbers m (suc n) = m ∷ numbers (m + 1) n
 abbrev pub Any : {A : Type 0} → A → ℕ → Type 0
 Any a e = Unit {0}
 
-module _ (t : List ℕ) (b : Bytes t) (q : Seen) (trace : Bool) (seen : List ℕ) (known : Sees t q trace seen) (timed uuid : Bool) where
-  pub stray-tie : (at : ℕ) (x : List ℕ) → Rest t at x → Tied t trace seen Any (parseRoots q timed uuid [] x) (orElse (stray t at) at (Fine at))
+module _ (t : List ℕ) (b : Bytes t) (q : Ids) (trace : Bool) (seen : List ℕ) (known : Sees t q trace seen) (timed uuid : Bool) where
+  pub stray-tie : (at : ℕ) (x : List ℕ) → Rest t at x
+      → Tied t trace seen Any (parseRoots q timed uuid [] x) (orElse (stray t at) at (Fine at))
   unfolding parseRoots stray
-  stray-tie at x r = rw (missing-at t at x r, any-root t at _ _ _ (stands t at x r) refl, parseRoots) (by (leb (length t) at) (eqb (byteAt t at) 6) refl)
+  stray-tie at x r = rw (missing-at t at x r, any-root t at _ _ _ (stands t at x r) refl, parseRoots)
+      (by (leb (length t) at) (eqb (byteAt t at) 6) refl)
     where
       by : (a c : Bool) → eqb (byteAt t at) 6 ≡ c → Tied t trace seen {A = List (Option Class)} Any
           (elim (not a && c) [ true ↦ one q rootFault (λ r x. bad 9 x) x | false ↦ good [] x ])
@@ -112,7 +118,8 @@ module _ (t : List ℕ) (b : Bytes t) (q : Seen) (trace : Bool) (seen : List ℕ
       by false false e = unfold pickN orElse in both-good tt r
       by false true e = unfold pickN rootFault in
           one-tie t trace seen q known at x r rootFault root-late (pickN (ltb (byteAt t (at + 1)) 6) 9 10)
-          (λ w. rw (a-root t at _ _ (stands-as t at x r 6 (eqb-true (byteAt t at) 6 e)) (w .known) .0) (pick-same (ltb (byteAt t (at + 1)) 6) 9 10))
+          (λ w. rw (a-root t at _ _ (stands-as t at x r 6 (eqb-true (byteAt t at) 6 e)) (w .known) .0)
+          (pick-same (ltb (byteAt t (at + 1)) 6) 9 10))
           _ _ (λ w h. absurd (pick-some (ltb (byteAt t (at + 1)) 6) h))
 
   pub roots-tie : (n m at : ℕ) (x : List ℕ) → Rest t at x
@@ -122,7 +129,8 @@ module _ (t : List ℕ) (b : Bytes t) (q : Seen) (trace : Bool) (seen : List ℕ
   roots-tie (suc n) m at x r = rw (root-here t at x r m, parseRoots) (by (rootHere t m at) refl (λ e y g. roots-tie n (m + 1) e y g))
     where
       by : (c : Bool) → rootHere t m at ≡ c
-          → ((e : ℕ) (y : List ℕ) → Rest t e y → Tied t trace seen Any (parseRoots q timed uuid (numbers (m + 1) n) y) (rootsAt t timed uuid (m + 1) e n))
+          → ((e : ℕ) (y : List ℕ) → Rest t e y
+          → Tied t trace seen Any (parseRoots q timed uuid (numbers (m + 1) n) y) (rootsAt t timed uuid (m + 1) e n))
           → Tied t trace seen {A = List (Option Class)} Any
           (elim c [
             | true ↦ rulesThen (parseClass q (record { root = m; timed = timed; uuid = uuid }) 8 top (behind x)) λ c x.

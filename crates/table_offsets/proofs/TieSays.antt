@@ -11,7 +11,8 @@ use Rattle.rules.specs.Record.{Says as Said}
 use Rattle.rules.specs.Faults.{pick, out, Spot, top, leading, isTop, isLeading, inside as within, Under as RulesUnder}
 use Rattle.rules.specs.Faults.{badNumber, badSlot, roles, roleOf, numberRole, blobRole, badRole}
 use Rattle.table_offsets.specs.declared.Under.{Under}
-use Rattle.table_offsets.specs.Check.{pickN, pickB, inside, lengthOk, countOk, numberFault, slotFault, magicOk, blobOk, clockOk, endOk}
+use Rattle.table_offsets.specs.Check.{pickN, pickB, inside, lengthOk, countOk, numberFault}
+use Rattle.table_offsets.specs.Check.{slotFault, magicOk, blobOk, clockOk, endOk}
 use Rattle.table_offsets.specs.Check.{numberOk, roleOk}
 use Rattle.facts.proofs.Cases.{Each, _▷_, below}
 use Rattle.table_offsets.proofs.TieKinds.{plain}
@@ -67,7 +68,8 @@ unfolding countOk pickB
 count-agrees k n = by (eqb k 28) (eqb k 31) (eqb k 32) refl refl refl
   where
     by : (a b c : Bool) → eqb k 28 ≡ a → eqb k 31 ≡ b → eqb k 32 ≡ c
-        → pickB a (leb n 64) (pickB b (leb n 16) (pickB c (inside n 1 32) true)) ≡ not ((a && ltb 64 n) || (b && ltb 16 n) || (c && out 1 32 n))
+        → pickB a (leb n 64) (pickB b (leb n 16) (pickB c (inside n 1 32) true))
+        ≡ not ((a && ltb 64 n) || (b && ltb 16 n) || (c && out 1 32 n))
     by true true c p q r = absurd (omega (arith, eqb-true k 28 p, eqb-true k 31 q))
     by true false true p q r = absurd (omega (arith, eqb-true k 28 p, eqb-true k 32 r))
     by true false false p q r = rw (or-none (ltb 64 n), or-none (ltb 64 n)) (sym (not-ltb 64 n))
@@ -94,9 +96,15 @@ first-of-tests false false false true true false false false false = refl
 pub number-agrees : (y : Said) → numberFault (plain y) ≡ pick (badNumber y) 10 0
 unfolding numberFault badNumber plain
 number-agrees y =
-    rw (length-agrees (y .kind) (y .length), inside-not-out (y .sets) 64 254, inside-not-out (y .reads) 64 254, count-agrees (y .kind) (y .count))
-    (first-of-tests (out 1 64 (y .length) || (eqb (y .kind) 20 && not (eqb (y .length) 32 || eqb (y .length) 64))) (ltb 1 (y .order)) (ltb 6 (y .align))
-    (out 64 254 (y .sets)) (out 64 254 (y .reads)) (ltb 11 (y .role)) (eqb (y .kind) 28 && ltb 64 (y .count)) (eqb (y .kind) 31 && ltb 16 (y .count))
+    rw (
+      length-agrees (y .kind) (y .length),
+      inside-not-out (y .sets) 64 254,
+      inside-not-out (y .reads) 64 254,
+      count-agrees (y .kind) (y .count),
+    )
+    (first-of-tests (out 1 64 (y .length) || (eqb (y .kind) 20 && not (eqb (y .length) 32 || eqb (y .length) 64))) (ltb 1 (y .order))
+    (ltb 6 (y .align)) (out 64 254 (y .sets)) (out 64 254 (y .reads)) (ltb 11 (y .role))
+    (eqb (y .kind) 28 && ltb 64 (y .count)) (eqb (y .kind) 31 && ltb 16 (y .count))
     (eqb (y .kind) 32 && out 1 32 (y .count)))
 
 -- what the tests of 10 leave for those of 11 and 12
@@ -113,9 +121,11 @@ passed false true false c d e h = (refl, refl)
 pub in-range : (y : Said) → badNumber y ≡ false → InRange y
 unfolding badNumber
 in-range y h =
-    let earlier : Bool = out 1 64 (y .length) || (eqb (y .kind) 20 && not (eqb (y .length) 32 || eqb (y .length) 64)) || ltb 1 (y .order) || ltb 6 (y .align)
+    let earlier : Bool = out 1 64 (y .length) || (eqb (y .kind) 20 && not (eqb (y .length) 32 || eqb (y .length) 64)) || ltb 1 (y .order)
+    || ltb 6 (y .align)
     || not (out 64 254 (y .sets)) in
-    let p = passed earlier (out 64 254 (y .reads)) (ltb 11 (y .role)) (eqb (y .kind) 28 && ltb 64 (y .count)) (eqb (y .kind) 31 && ltb 16 (y .count))
+    let p = passed earlier (out 64 254 (y .reads)) (ltb 11 (y .role)) (eqb (y .kind) 28 && ltb 64 (y .count))
+    (eqb (y .kind) 31 && ltb 16 (y .count))
     (eqb (y .kind) 32 && out 1 32 (y .count)) h in
     record { reads = p .0; role = ltb-false 11 (y .role) (p .1) }
 
@@ -130,7 +140,8 @@ not-read j b h = by (eqb j 255) refl
     by true e = rw (eqb-true j 255 e)
     by false e =
         let n = eqb-false j 255 e in
-        le-ltb 63 j (or-true (ltb j 64) (ltb 254 j) h (λ p. omega (arith, ltb-true j 64 p)) (λ p. absurd (n (omega (arith, ltb-true 254 j p)))))
+        le-ltb 63 j (or-true (ltb j 64) (ltb 254 j) h (λ p. omega (arith, ltb-true j 64 p))
+        (λ p. absurd (n (omega (arith, ltb-true 254 j p)))))
 
 two-tests : (a b : Bool) (n : ℕ) → pickN a n (pickN b n 0) ≡ pick (a || b) n 0
 unfolding pickN pick
@@ -138,12 +149,14 @@ two-tests true b n = refl
 two-tests false true n = refl
 two-tests false false n = refl
 
-pub slot-agrees : (r : ℕ) (y : Said) → y .reads < 256 → InRange y → slotFault r ((plain y) .sets) ((plain y) .reads) ≡ pick (badSlot (ltb r 2) y) 11 0
+pub slot-agrees : (r : ℕ) (y : Said) → y .reads < 256 → InRange y
+    → slotFault r ((plain y) .sets) ((plain y) .reads) ≡ pick (badSlot (ltb r 2) y) 11 0
 unfolding slotFault plain
 slot-agrees r y b h = by (ltb r 2)
   where
     by : (c : Bool)
-        → pickN c (pickN (ltb 15 (y .reads)) 11 (pickN (inside (y .sets) 16 254) 11 0)) (pickN (ltb 63 (y .reads)) 11 (pickN (ltb (y .sets) 16) 11 0))
+        → pickN c (pickN (ltb 15 (y .reads)) 11 (pickN (inside (y .sets) 16 254) 11 0))
+        (pickN (ltb 63 (y .reads)) 11 (pickN (ltb (y .sets) 16) 11 0))
         ≡ pick (badSlot c y) 11 0
     by true = unfold pickN badSlot in rw (inside-not-out (y .sets) 16 254) (two-tests (ltb 15 (y .reads)) (not (out 16 254 (y .sets))) 11)
     by false = unfold pickN badSlot in rw (not-read (y .reads) b (h .reads)) (two-tests (eqb (y .reads) 255) (ltb (y .sets) 16) 11)
@@ -181,6 +194,7 @@ module _ (u : Under) (z : Spot) (at : ℕ) (h : Spotted z (u .start) at) (y : Sa
       by : (c : Bool) → pickB c (blobOk (y .role) (u .root) (y .count) (u .uuid)) (numberOk (y .role) (plain y) u at)
           ≡ not (elim c [ true ↦ not (blobRole (ruled u) y) | false ↦ not (numberRole (roleOf (y .role)) (ruled u) z y) ])
       by true = unfold pickB in
-          pick-or (eqb (y .role) 0) _ ∙ ap (λ b. eqb (y .role) 0 || b) (and-last (eqb (y .role) 4) (eqb (u .root) 0) (eqb (y .count) 16) (u .uuid)) ∙ twice _
+          pick-or (eqb (y .role) 0) _
+          ∙ ap (λ b. eqb (y .role) 0 || b) (and-last (eqb (y .role) 4) (eqb (u .root) 0) (eqb (y .count) 16) (u .uuid)) ∙ twice _
       by false = unfold pickB in
           below (λ r. numberOk r (plain y) u at ≡ numberRole (roleOf r) (ruled u) z y) 12 number-role (y .role) (omega arith) ∙ twice _

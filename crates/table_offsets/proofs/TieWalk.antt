@@ -7,7 +7,7 @@ use Prim.Native.Nat.{ℕ, zero, suc}
 use native.Mathlib.Omega.{arith}
 use lib.Dec.{ltb}
 use Rattle.rules.specs.Record.{Record, recordOf, behind}
-use Rattle.rules.specs.Faults.{Seen}
+use Rattle.rules.specs.Faults.{Ids}
 use Rattle.rules.specs.Parse.{Parsed, bad, good, Parser, then as rulesThen, sound, one}
 use Rattle.table_offsets.specs.declared.Walk.{Walk}
 use Rattle.table_offsets.specs.declared.Walk.the-variants.{Fine, Bad}
@@ -47,7 +47,8 @@ module _ (t : List ℕ) (trace : Bool) (os : List ℕ) where
   made-tie (both-bad e r) f h = both-bad e r
   made-tie (both-good {a = a} {e = e} p r) f h = both-good (h a e p) r
 
-  sound-tie : {A : Type 0} {P : A → ℕ → Type 0} (at : ℕ) (x : List ℕ) → Rest t at x → (f : Parser A) (w : Walk) (c n : ℕ) → n ≡ lowest t trace os c at
+  sound-tie : {A : Type 0} {P : A → ℕ → Type 0} (at : ℕ) (x : List ℕ) → Rest t at x → (f : Parser A) (w : Walk) (c n : ℕ)
+      → n ≡ lowest t trace os c at
       → (c ≡ 0 → Tied t trace os P (f (behind x)) w) → Tied t trace os P (sound n x f) (orElse c at w)
   unfolding sound orElse
   sound-tie at x h f w zero zero e k = k refl
@@ -56,7 +57,7 @@ module _ (t : List ℕ) (trace : Bool) (os : List ℕ) where
   sound-tie at x h f w (suc c) (suc n) e k = both-bad e h
 
   -- a record whose numbers from 9 up are m, and what is behind it
-  pub one-tie : (q : Seen) → Sees t q trace os → {A : Type 0} {P : A → ℕ → Type 0} (at : ℕ) (x : List ℕ) → Rest t at x
+  pub one-tie : (q : Ids) → Sees t q trace os → {A : Type 0} {P : A → ℕ → Type 0} (at : ℕ) (x : List ℕ) → Rest t at x
       → (more : Record → ℕ) → Late more
       → (m : ℕ) → (Whole t at → more (recordOf x) ≡ m) → (f : Record → Parser A) (w : Walk)
       → (Whole t at → m ≡ 0 → Tied t trace os P (f (recordOf x) (behind x)) w)

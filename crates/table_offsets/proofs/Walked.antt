@@ -6,7 +6,9 @@ use Prim.Native.Nat.{ℕ, zero, suc, _+_, _-_, _<_, _≤_}
 use native.Mathlib.Omega.{arith}
 use borrow.Author.Tests.{le-ltb, eq-eqb}
 use lib.ListN.{length, getD, set}
-use Rattle.table_offsets.specs.Check.{pickN, pickW, headFault, numberAt, stray, highAt, lowAt, rangesAt, rangeFault, boundsFault, key, u64, membersAt, optionsAt, optionFault, latest, orElse, then, classAt, rootHere, rootAt, under, rootsAt}
+use Rattle.table_offsets.specs.Check.{pickN, pickW, headFault, numberAt, stray, highAt, lowAt, rangesAt, rangeFault}
+use Rattle.table_offsets.specs.Check.{boundsFault, key, u64, membersAt, optionsAt, optionFault}
+use Rattle.table_offsets.specs.Check.{latest, orElse, then, classAt, rootHere, rootAt, under, rootsAt}
 use Rattle.table_offsets.specs.declared.Walk.{Walk}
 use Rattle.table_offsets.specs.declared.Walk.the-variants.{Fine, Bad}
 use Rattle.table_offsets.proofs.Picked.{first-zero, else-zero, else-some}
@@ -58,7 +60,8 @@ module _ (w : Walk) (f : ℕ → Walk) (at n : ℕ) (so-far : w ≡ membersAt f 
 -- options, the first n of them done, their places the first of xs
 
 options-step : (f : ℕ → Walk) (t : List ℕ) (h : ℕ) (done : List ℕ) (at n : ℕ) → 0 < n → optionsAt f t h done at n
-    ≡ orElse (optionFault t at) at (then (rangesAt t h done (at + 2) (getD t (at + 1) 0)) λ p. then (f p) λ e. optionsAt f t h (at ∷ done) e (n - 1))
+    ≡ orElse (optionFault t at) at
+    (then (rangesAt t h done (at + 2) (getD t (at + 1) 0)) λ p. then (f p) λ e. optionsAt f t h (at ∷ done) e (n - 1))
 unfolding optionsAt
 options-step f t h done at zero p = absurd (omega arith)
 options-step f t h done at (suc n) p = let e : suc n - 1 ≡ n = omega arith in rw e
@@ -103,7 +106,8 @@ module _ (w : Walk) (f : ℕ → Walk) (t : List ℕ) (head : ℕ) (xs : List �
 
 -- roots
 
-pub root-there : (t : List ℕ) (timed uuid : Bool) (n at : ℕ) → rootHere t n at ≡ true → rootAt t timed uuid n at ≡ classAt (under timed uuid n (at + 2)) 8 t (at + 2)
+pub root-there : (t : List ℕ) (timed uuid : Bool) (n at : ℕ) → rootHere t n at ≡ true
+    → rootAt t timed uuid n at ≡ classAt (under timed uuid n (at + 2)) 8 t (at + 2)
 unfolding rootAt pickW
 root-there t timed uuid n at h = rw h
 
@@ -117,7 +121,8 @@ unfolding rootsAt
 roots-suc t timed uuid n at zero h = absurd (omega arith)
 roots-suc t timed uuid n at (suc m) h = let e : suc m - 1 ≡ m = omega arith in rw e
 
-pub roots-bad : (t : List ℕ) (timed uuid : Bool) (n at m a p : ℕ) → 0 < m → rootAt t timed uuid n at ≡ Bad a p → rootsAt t timed uuid n at m ≡ Bad a p
+pub roots-bad : (t : List ℕ) (timed uuid : Bool) (n at m a p : ℕ) → 0 < m → rootAt t timed uuid n at ≡ Bad a p
+    → rootsAt t timed uuid n at m ≡ Bad a p
 unfolding then
 roots-bad t timed uuid n at m a p h e = roots-suc t timed uuid n at m h ∙ rw e
 

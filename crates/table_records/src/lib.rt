@@ -1,11 +1,14 @@
-// The records of a class table: the papers' numbers, each named once, and a record by itself.
+// A record of a class table by itself.
 //
-// faults, limits, kinds   the numbers that refuse a table, the limits, the kinds and roots
-// bodies                  how long the body of each kind of record is
-// head_fault              whether a record is one and all there
-// record_says             what a class record says, all kinds in one form
+// bodies        how long the body of each kind of record is
+// head_fault    whether a record is one and all there
+// record_says   what a class record says, all kinds in one form
 use bodies::NO_KIND;
 use bodies::mark_of;
+use numbers::faults;
+use numbers::kinds;
+use numbers::limits;
+use numbers::roles;
 use table_bytes::byte;
 use table_bytes::two;
 use table_bytes::wide;
@@ -16,9 +19,6 @@ ghost use lib.ListN.{getD};
 ghost use Rattle.table_offsets.specs.Check.{headFault, bitsSay, say, saysAt};
 
 pub mod bodies;
-pub mod faults;
-pub mod kinds;
-pub mod limits;
 
 // Numbers 2 and 3 of the record at `at`, or 0.
 pub fn head_fault(table: &[u8], at: usize) -> u8
@@ -50,24 +50,18 @@ pub fn record_says(table: &[u8], at: usize) -> Says
     let b5 = byte(table, at + 5);
     let b12 = two(table, at + 1);
     match k {
-        kinds::BIT_ARRAY => fixed(
-            table,
-            at,
-            kinds::BIT_ARRAY,
-            limits::NO_SLOT,
-            limits::NO_ROLE,
-        ),
-        kinds::BOOLEAN => fixed(table, at, kinds::BOOLEAN, b4, limits::NO_ROLE),
+        kinds::BIT_ARRAY => fixed(table, at, kinds::BIT_ARRAY, limits::NO_SLOT, roles::NO_ROLE),
+        kinds::BOOLEAN => fixed(table, at, kinds::BOOLEAN, b4, roles::NO_ROLE),
         kinds::UNSIGNED => fixed(table, at, kinds::UNSIGNED, b4, b5),
-        kinds::SIGNED => fixed(table, at, kinds::SIGNED, b4, limits::NO_ROLE),
-        kinds::FLOAT => fixed(table, at, kinds::FLOAT, limits::NO_SLOT, limits::NO_ROLE),
+        kinds::SIGNED => fixed(table, at, kinds::SIGNED, b4, roles::NO_ROLE),
+        kinds::FLOAT => fixed(table, at, kinds::FLOAT, limits::NO_SLOT, roles::NO_ROLE),
         kinds::LEB128_UNSIGNED => plain(kinds::LEB128_UNSIGNED, b1, 0, b2, 1, 0),
-        kinds::LEB128_SIGNED => plain(kinds::LEB128_SIGNED, b1, 0, limits::NO_ROLE, 1, 0),
+        kinds::LEB128_SIGNED => plain(kinds::LEB128_SIGNED, b1, 0, roles::NO_ROLE, 1, 0),
         kinds::NULL_TERMINATED_STRING => plain(
             kinds::NULL_TERMINATED_STRING,
             limits::NO_SLOT,
             0,
-            limits::NO_ROLE,
+            roles::NO_ROLE,
             1,
             0,
         ),
@@ -75,7 +69,7 @@ pub fn record_says(table: &[u8], at: usize) -> Says
             kinds::STATIC_STRING,
             limits::NO_SLOT,
             0,
-            limits::NO_ROLE,
+            roles::NO_ROLE,
             b12,
             0,
         ),
@@ -84,7 +78,7 @@ pub fn record_says(table: &[u8], at: usize) -> Says
             kinds::DYNAMIC_STRING,
             limits::NO_SLOT,
             b1,
-            limits::NO_ROLE,
+            roles::NO_ROLE,
             1,
             0,
         ),
@@ -92,7 +86,7 @@ pub fn record_says(table: &[u8], at: usize) -> Says
             kinds::DYNAMIC_BLOB,
             limits::NO_SLOT,
             b1,
-            limits::NO_ROLE,
+            roles::NO_ROLE,
             1,
             0,
         ),
@@ -100,7 +94,7 @@ pub fn record_says(table: &[u8], at: usize) -> Says
             kinds::STRUCTURE,
             limits::NO_SLOT,
             0,
-            limits::NO_ROLE,
+            roles::NO_ROLE,
             wide(b1),
             b2,
         ),
@@ -108,7 +102,7 @@ pub fn record_says(table: &[u8], at: usize) -> Says
             kinds::STATIC_ARRAY,
             limits::NO_SLOT,
             0,
-            limits::NO_ROLE,
+            roles::NO_ROLE,
             b12,
             b3,
         ),
@@ -116,7 +110,7 @@ pub fn record_says(table: &[u8], at: usize) -> Says
             kinds::DYNAMIC_ARRAY,
             limits::NO_SLOT,
             b1,
-            limits::NO_ROLE,
+            roles::NO_ROLE,
             1,
             b2,
         ),
@@ -124,7 +118,7 @@ pub fn record_says(table: &[u8], at: usize) -> Says
             kinds::OPTIONAL,
             limits::NO_SLOT,
             b1,
-            limits::NO_ROLE,
+            roles::NO_ROLE,
             wide(b2),
             0,
         ),
@@ -132,7 +126,7 @@ pub fn record_says(table: &[u8], at: usize) -> Says
             kinds::VARIANT,
             limits::NO_SLOT,
             b1,
-            limits::NO_ROLE,
+            roles::NO_ROLE,
             wide(b2),
             0,
         ),

@@ -1,13 +1,84 @@
 -- The first number of the tests, in the order of the definition. A record that is whole and of a class kind can be read.
-use mathlib.Core.Path.{sym, _∙_}
+use mathlib.Core.Path.{_≡_, sym, _∙_}
+use mathlib.Core.Bool.{true}
 use native.Mathlib.Omega.{arith}
 use borrow.Author.Needs.{needs}
 use borrow.Author.Tests.{eq-eqb, ne-eqb}
-use Rattle.table_offsets.specs.Check.{classFault, sayFault, pickN}
+use Rattle.table_offsets.specs.Check.{byteAt, headFault, kindFault, numberFault, slotFault, roleOk, saysAt, classFault, sayFault, pickN}
 use Rattle.table_offsets.proofs.Picked.{first-zero, first-some}
 use Rattle.table_offsets.proofs.Sound.{head-fine, kind-fine}
 use Rattle.check_class.proofs.class_fault.Statement.{statement}
 use Rattle.check_class.proofs.class_fault.Tie as tie
+
+-- Places of the code: the record is whole; it is of a kind that may stand here; its numbers, its slots and its role are allowed
+
+abbrev AtStart : Type 0
+AtStart = tie.Start
+
+abbrev AtWhole : Type 0
+AtWhole = tie.Else1
+
+abbrev AtKind : Type 0
+AtKind = tie.Else2
+
+abbrev AtNumbers : Type 0
+AtNumbers = tie.Else3
+
+abbrev AtSlots : Type 0
+AtSlots = tie.Else4
+
+abbrev AtRole : Type 0
+AtRole = tie.Then5
+
+-- The way back
+
+abbrev start : AtWhole → AtStart
+start c = c .before .before .before
+
+abbrev whole : AtKind → AtWhole
+whole c = c .before .before .before
+
+abbrev kind : AtNumbers → AtKind
+kind c = c .before .before .before
+
+abbrev numbers : AtSlots → AtNumbers
+numbers c = c .before .before
+
+abbrev slots : AtRole → AtSlots
+slots c = c .before .before
+
+-- What is known at them
+
+no-head : (c : AtWhole) →
+    let a = start c .args in
+    headFault (a .table .now) (a .at) ≡ 0
+no-head c = sym (c .before .head-fault .ensures) ∙ c .if1 .left
+
+no-kind : (c : AtKind) →
+    let a = start (whole c) .args in
+    kindFault (byteAt (a .table .now) (a .at)) (a .under .start) (a .at) ≡ 0
+no-kind c = sym (c .before .kind-fault .ensures) ∙ c .if2 .left
+
+said : (c : AtNumbers) →
+    let a = start (whole (kind c)) .args in
+    saysAt (a .table .now) (a .at) ≡ c .before .before .record-says .result
+said c = sym (c .before .before .record-says .ensures)
+
+no-number : (c : AtNumbers) → numberFault (c .before .before .record-says .result) ≡ 0
+no-number c = sym (c .before .number-fault .ensures) ∙ c .if3 .left
+
+no-slot : (c : AtSlots) →
+    let y = numbers c .before .before .record-says .result in
+    slotFault (start (whole (kind (numbers c))) .args .under .root) (y .sets) (y .reads) ≡ 0
+no-slot c = sym (c .before .slot-fault .ensures) ∙ c .if4 .left
+
+role-fine : (c : AtRole) →
+    let n = numbers (slots c) in
+    let a = start (whole (kind n)) .args in
+    roleOk (n .before .before .record-says .result) (a .under) (a .at) ≡ true
+role-fine c = sym (c .before .role-ok .ensures) ∙ c .if5 .taken
+
+-- The record's head
 
 head-fault-requires : tie.Need-head-fault-requires
 head-fault-requires c κs = search needs
@@ -16,8 +87,10 @@ returns : tie.Need-returns
 unfolding classFault sayFault pickN
 returns c = simp (sym (c .before .head-fault .ensures), first-some _ (c .if1 .taken))
 
+-- Number 9
+
 shared-slice-read-kind-fault : tie.Need-shared-slice-read-kind-fault
-shared-slice-read-kind-fault c = head-fine _ _ (sym (c .before .before .head-fault .ensures) ∙ c .before .if1 .left) .0
+shared-slice-read-kind-fault c = head-fine _ _ (no-head (c .before)) .0
 
 kind-fault-requires : tie.Need-kind-fault-requires
 kind-fault-requires c κs = search needs
@@ -25,15 +98,15 @@ kind-fault-requires c κs = search needs
 returns-2 : tie.Need-returns-2
 unfolding classFault sayFault pickN
 returns-2 c =
-    let if1 = c .before .before .before .if1 in
-    let head-fault = c .before .before .before .before .head-fault in
-    simp (sym (head-fault .ensures), first-zero _ (if1 .left), sym (c .before .kind-fault .ensures), first-some _ (c .if2 .taken))
+    let w = c .before .before .before in
+    simp (first-zero _ (no-head w), sym (c .before .kind-fault .ensures), first-some _ (c .if2 .taken))
+
+-- Number 10
 
 record-says-requires : tie.Need-record-says-requires
 record-says-requires c κs =
-    let if1 = c .before .before .before .if1 in
-    let head-fault = c .before .before .before .before .head-fault in
-    let h = head-fine _ _ (sym (head-fault .ensures) ∙ if1 .left) .0 in (omega (arith, h), kind-fine _ _ _ (sym (c .before .kind-fault .ensures) ∙ c .if2 .left))
+    let h = head-fine _ _ (no-head (whole c)) .0 in
+    (omega (arith, h), kind-fine _ _ _ (no-kind c))
 
 number-fault-requires : tie.Need-number-fault-requires
 number-fault-requires c κs = search needs
@@ -41,12 +114,16 @@ number-fault-requires c κs = search needs
 returns-3 : tie.Need-returns-3
 unfolding classFault sayFault pickN
 returns-3 c =
-    let record-says = c .before .before .record-says in
-    let if2 = c .before .before .before .if2 in
-    let kind-fault = c .before .before .before .before .kind-fault in
-    let if1 = c .before .before .before .before .before .before .if1 in
-    let head-fault = c .before .before .before .before .before .before .before .head-fault in
-    simp (sym (head-fault .ensures), first-zero _ (if1 .left), sym (kind-fault .ensures), first-zero _ (if2 .left), sym (record-says .ensures), sym (c .before .number-fault .ensures), first-some _ (c .if3 .taken))
+    let k = c .before .before .before in
+    simp (
+      first-zero _ (no-head (whole k)),
+      first-zero _ (no-kind k),
+      sym (c .before .before .record-says .ensures),
+      sym (c .before .number-fault .ensures),
+      first-some _ (c .if3 .taken),
+    )
+
+-- Number 11
 
 slot-fault-requires : tie.Need-slot-fault-requires
 slot-fault-requires c κs = search needs
@@ -54,14 +131,18 @@ slot-fault-requires c κs = search needs
 returns-4 : tie.Need-returns-4
 unfolding classFault sayFault pickN
 returns-4 c =
-    let if3 = c .before .before .if3 in
-    let number-fault = c .before .before .before .number-fault in
-    let record-says = c .before .before .before .before .record-says in
-    let if2 = c .before .before .before .before .before .if2 in
-    let kind-fault = c .before .before .before .before .before .before .kind-fault in
-    let if1 = c .before .before .before .before .before .before .before .before .if1 in
-    let head-fault = c .before .before .before .before .before .before .before .before .before .head-fault in
-    simp (sym (head-fault .ensures), first-zero _ (if1 .left), sym (kind-fault .ensures), first-zero _ (if2 .left), sym (record-says .ensures), sym (number-fault .ensures), first-zero _ (if3 .left), sym (c .before .slot-fault .ensures), first-some _ (c .if4 .taken))
+    let n = c .before .before in
+    let k = kind n in
+    simp (
+      first-zero _ (no-head (whole k)),
+      first-zero _ (no-kind k),
+      said n,
+      first-zero _ (no-number n),
+      sym (c .before .slot-fault .ensures),
+      first-some _ (c .if4 .taken),
+    )
+
+-- Number 12
 
 role-ok-requires : tie.Need-role-ok-requires
 role-ok-requires c κs = search needs
@@ -69,46 +150,52 @@ role-ok-requires c κs = search needs
 returns-5 : tie.Need-returns-5
 unfolding classFault sayFault pickN
 returns-5 c =
-    let if4 = c .before .before .if4 in
-    let slot-fault = c .before .before .before .slot-fault in
-    let if3 = c .before .before .before .before .if3 in
-    let number-fault = c .before .before .before .before .before .number-fault in
-    let record-says = c .before .before .before .before .before .before .record-says in
-    let if2 = c .before .before .before .before .before .before .before .if2 in
-    let kind-fault = c .before .before .before .before .before .before .before .before .kind-fault in
-    let if1 = c .before .before .before .before .before .before .before .before .before .before .if1 in
-    let head-fault = c .before .before .before .before .before .before .before .before .before .before .before .head-fault in
-    simp (sym (head-fault .ensures), first-zero _ (if1 .left), sym (kind-fault .ensures), first-zero _ (if2 .left), sym (record-says .ensures), sym (number-fault .ensures), first-zero _ (if3 .left), sym (slot-fault .ensures), first-zero _ (if4 .left), sym (c .before .role-ok .ensures), c .if5 .left)
+    let s = c .before .before in
+    let n = numbers s in
+    let k = kind n in
+    simp (
+      first-zero _ (no-head (whole k)),
+      first-zero _ (no-kind k),
+      said n,
+      first-zero _ (no-number n),
+      first-zero _ (no-slot s),
+      sym (c .before .role-ok .ensures),
+      c .if5 .left,
+    )
+
+-- Number 14
 
 returns-6 : tie.Need-returns-6
 unfolding classFault sayFault pickN
 returns-6 c =
-    let role-ok = c .before .before .role-ok in
-    let if4 = c .before .before .before .if4 in
-    let slot-fault = c .before .before .before .before .slot-fault in
-    let if3 = c .before .before .before .before .before .if3 in
-    let number-fault = c .before .before .before .before .before .before .number-fault in
-    let record-says = c .before .before .before .before .before .before .before .record-says in
-    let if2 = c .before .before .before .before .before .before .before .before .if2 in
-    let kind-fault = c .before .before .before .before .before .before .before .before .before .kind-fault in
-    let if1 = c .before .before .before .before .before .before .before .before .before .before .before .if1 in
-    let head-fault = c .before .before .before .before .before .before .before .before .before .before .before .before .head-fault in
-    simp (sym (head-fault .ensures), first-zero _ (if1 .left), sym (kind-fault .ensures), first-zero _ (if2 .left), sym (record-says .ensures), sym (number-fault .ensures), first-zero _ (if3 .left), sym (slot-fault .ensures), first-zero _ (if4 .left), sym (role-ok .ensures), c .before .if5 .taken, eq-eqb _ _ (c .if6 .taken))
+    let s = slots (c .before) in
+    let n = numbers s in
+    let k = kind n in
+    simp (
+      first-zero _ (no-head (whole k)),
+      first-zero _ (no-kind k),
+      said n,
+      first-zero _ (no-number n),
+      first-zero _ (no-slot s),
+      role-fine (c .before),
+      eq-eqb _ _ (c .if6 .taken),
+    )
 
 returns-7 : tie.Need-returns-7
 unfolding classFault sayFault pickN
 returns-7 c =
-    let role-ok = c .before .before .role-ok in
-    let if4 = c .before .before .before .if4 in
-    let slot-fault = c .before .before .before .before .slot-fault in
-    let if3 = c .before .before .before .before .before .if3 in
-    let number-fault = c .before .before .before .before .before .before .number-fault in
-    let record-says = c .before .before .before .before .before .before .before .record-says in
-    let if2 = c .before .before .before .before .before .before .before .before .if2 in
-    let kind-fault = c .before .before .before .before .before .before .before .before .before .kind-fault in
-    let if1 = c .before .before .before .before .before .before .before .before .before .before .before .if1 in
-    let head-fault = c .before .before .before .before .before .before .before .before .before .before .before .before .head-fault in
-    simp (sym (head-fault .ensures), first-zero _ (if1 .left), sym (kind-fault .ensures), first-zero _ (if2 .left), sym (record-says .ensures), sym (number-fault .ensures), first-zero _ (if3 .left), sym (slot-fault .ensures), first-zero _ (if4 .left), sym (role-ok .ensures), c .before .if5 .taken, ne-eqb _ _ (c .if6 .left))
+    let s = slots (c .before) in
+    let n = numbers s in
+    let k = kind n in
+    simp (
+      first-zero _ (no-head (whole k)),
+      first-zero _ (no-kind k),
+      said n,
+      first-zero _ (no-number n),
+      first-zero _ (no-slot s),
+      role-fine (c .before),
+      ne-eqb _ _ (c .if6 .left),
+    )
 
 pub class-fault-spec : {M : Type 1} → statement M
 class-fault-spec =

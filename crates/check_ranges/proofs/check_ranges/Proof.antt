@@ -9,7 +9,8 @@ use Rattle.check_ranges.proofs.check_ranges.Statement.{statement}
 use Rattle.check_ranges.proofs.check_ranges.Tie as tie
 
 abbrev Inv-loop : tie.InvT-loop
-Inv-loop t first done n at count next₀ todo₀ next todo = rangesAt t first (latest done n) at count ≡ rangesAt t first (latest done n) next todo
+Inv-loop t first done n at count next₀ todo₀ next todo =
+    rangesAt t first (latest done n) at count ≡ rangesAt t first (latest done n) next todo
 
 abbrev μ-loop : tie.MeasureT-loop
 μ-loop t first done n at count next₀ todo₀ next todo = todo

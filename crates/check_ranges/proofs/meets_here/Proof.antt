@@ -34,7 +34,8 @@ returns-2 c =
     let if1 = c .before .before .if1 in
     let key′ = c .before .before .before .key in
     let number = c .before .before .before .before .number in
-    simp (sym (number .ensures .0), sym (key′ .ensures), le-leb _ _ (if1 .left), sym (c .before .number2 .ensures .0), sym (c .key2 .ensures))
+    let number2 = c .before .number2 in
+    simp (sym (number .ensures .0), sym (key′ .ensures), le-leb _ _ (if1 .left), sym (number2 .ensures .0), sym (c .key2 .ensures))
 
 pub meets-here-spec : {M : Type 1} → statement M
 meets-here-spec =

@@ -8,7 +8,8 @@ use Rattle.check_ranges.proofs.meets_one.Statement.{statement}
 use Rattle.check_ranges.proofs.meets_one.Tie as tie
 
 abbrev Inv-loop : tie.InvT-loop
-Inv-loop t sign low high at n next₀ todo₀ next todo = (next + 18 * todo ≡ at + 18 * n) × (meetsOne t sign low high at n ≡ meetsOne t sign low high next todo)
+Inv-loop t sign low high at n next₀ todo₀ next todo =
+    (next + 18 * todo ≡ at + 18 * n) × (meetsOne t sign low high at n ≡ meetsOne t sign low high next todo)
 
 abbrev μ-loop : tie.MeasureT-loop
 μ-loop t sign low high at n next₀ todo₀ next todo = todo

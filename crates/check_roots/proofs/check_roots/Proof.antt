@@ -10,10 +10,35 @@ use Rattle.check_roots.proofs.check_roots.Statement.{statement}
 use Rattle.check_roots.proofs.check_roots.Tie as tie
 
 abbrev Inv-loop : tie.InvT-loop
-Inv-loop t timed uuid first count at next₀ n₀ todo₀ next n todo = (n + todo ≡ first + count) × (rootsAt t timed uuid first at count ≡ rootsAt t timed uuid n next todo)
+Inv-loop t timed uuid first count at next₀ n₀ todo₀ next n todo =
+    (n + todo ≡ first + count) × (rootsAt t timed uuid first at count ≡ rootsAt t timed uuid n next todo)
 
 abbrev μ-loop : tie.MeasureT-loop
 μ-loop t timed uuid first count at next₀ n₀ todo₀ next n todo = todo
+
+-- Places of the code: a turn's start; its root walked
+
+abbrev AtLoop : Type 0
+AtLoop = tie.At-loop Inv-loop μ-loop
+
+abbrev AtTurn : Type 0
+AtTurn = tie.In-loop Inv-loop μ-loop
+
+abbrev AtRoot : Type 0
+AtRoot = tie.After-check-root Inv-loop μ-loop
+
+-- The way back
+
+abbrev start : AtLoop → tie.Start Inv-loop μ-loop
+start c = c .before .before
+
+abbrev loop : AtTurn → AtLoop
+loop c = c .before
+
+abbrev turn : AtRoot → AtTurn
+turn c = c .before
+
+-- The turns
 
 loop-holds : tie.Need-loop-holds Inv-loop μ-loop
 loop-holds c = (refl, refl)
@@ -26,16 +51,17 @@ enum-known-r c = search needs
 
 returns : tie.Need-returns Inv-loop μ-loop
 returns c =
-    let check-root = c .before .before .before .check-root in
-    let loop-test = c .before .before .before .before .loop-test in
-    let loop = c .before .before .before .before .before .loop in
-    sym (loop .inv .1 ∙ roots-bad _ _ _ _ _ _ _ _ (loop-test .taken) (sym (check-root .ensures) ∙ c .before .r .given .1))
+    let r = c .before .before .before in
+    let so-far = loop (turn r) .loop .inv .1 in
+    sym (so-far ∙ roots-bad _ _ _ _ _ _ _ _ (turn r .loop-test .taken) (sym (r .check-root .ensures) ∙ c .before .r .given .1))
 
 enum-known-r-2 : tie.Need-enum-known-r-2 Inv-loop μ-loop
 enum-known-r-2 c = search needs
 
 add-n : tie.Need-add-n Inv-loop μ-loop
-add-n c = omega (arith, c .before .before .before .before .before .before .before .pre, c .before .before .before .before .before .loop .inv .0)
+add-n c =
+    let l = loop (turn (c .before .before .before)) in
+    omega (arith, start l .pre, l .loop .inv .0)
 
 sub-todo : tie.Need-sub-todo Inv-loop μ-loop
 sub-todo c = omega arith
@@ -45,10 +71,10 @@ loop-less c = omega arith
 
 loop-again : tie.Need-loop-again Inv-loop μ-loop
 loop-again c =
-    let check-root = c .before .before .before .check-root in
-    let loop-test = c .before .before .before .before .loop-test in
-    let loop = c .before .before .before .before .before .loop in
-    (omega (arith, loop .inv .0), loop .inv .1 ∙ roots-fine _ _ _ _ _ _ _ (loop-test .taken) (sym (check-root .ensures) ∙ c .before .r2 .given .1))
+    let r = c .before .before .before in
+    let l = loop (turn r) .loop in
+    let walked = sym (r .check-root .ensures) ∙ c .before .r2 .given .1 in
+    (omega (arith, l .inv .0), l .inv .1 ∙ roots-fine _ _ _ _ _ _ _ (turn r .loop-test .taken) walked)
 
 stray-requires : tie.Need-stray-requires Inv-loop μ-loop
 stray-requires c κs = search needs

@@ -68,7 +68,8 @@ unfolding rootsOf pickW
 returns-4 c =
     let match = c .before .match in
     let byte = c .before .before .byte in
-    simp (sym (byte .ensures), ne-eqb _ _ (match .rest .0 .0 .1), ne-eqb _ _ (match .rest .0 .1), ne-eqb _ _ (match .rest .1), c .check-roots4 .ensures)
+    let other = match .rest in
+    simp (sym (byte .ensures), ne-eqb _ _ (other .0 .0 .1), ne-eqb _ _ (other .0 .1), ne-eqb _ _ (other .1), c .check-roots4 .ensures)
 
 pub roots-of-spec : {M : Type 1} → statement M
 roots-of-spec =

@@ -14,6 +14,39 @@ Inv-loop table sizes at₀ at = Ahead (isTrace table) table sizes at
 abbrev μ-loop : tie.MeasureT-loop
 μ-loop table sizes at₀ at = length table - at
 
+-- Places of the code, in its order: all is given; a round begins; a fragment is there; it is another; its size is known
+
+abbrev AtStart : Type 0
+AtStart = tie.Start Inv-loop μ-loop
+
+abbrev AtLoop : Type 0
+AtLoop = tie.At-loop Inv-loop μ-loop
+
+abbrev AtFragment : Type 0
+AtFragment = tie.In-loop Inv-loop μ-loop
+
+abbrev AtOther : Type 0
+AtOther = tie.Else1 Inv-loop μ-loop
+
+abbrev AtSize : Type 0
+AtSize = tie.After-size-at Inv-loop μ-loop
+
+-- The way back
+
+abbrev start : AtLoop → AtStart
+start c = c .before .before .before
+
+abbrev loop : AtFragment → AtLoop
+loop c = c .before
+
+abbrev fragment : AtOther → AtFragment
+fragment c = c .before .before
+
+abbrev other : AtSize → AtOther
+other c = c .before
+
+-- The fragments, from the first on
+
 loop-holds : tie.Need-loop-holds Inv-loop μ-loop
 loop-holds c = ahead-start (c .before .before .pre)
 
@@ -21,19 +54,29 @@ is-trace-class-requires : tie.Need-is-trace-class-requires Inv-loop μ-loop
 is-trace-class-requires c κs = omega arith
 
 returns : tie.Need-returns Inv-loop μ-loop
-returns c = ahead-hit (c .before .before .loop-test .taken) (c .before .before .before .loop .inv) (sym (c .before .is-trace-class .ensures) ∙ c .if1 .taken)
+returns c =
+    let f = c .before .before in
+    ahead-hit (f .loop-test .taken) (loop f .loop .inv) (sym (c .before .is-trace-class .ensures) ∙ c .if1 .taken)
 
 size-at-requires : tie.Need-size-at-requires Inv-loop μ-loop
-size-at-requires c κs = omega (arith, c .before .before .before .before .before .before .pre .room)
+size-at-requires c κs = omega (arith, start (loop (fragment c)) .pre .room)
 
 add-at : tie.Need-add-at Inv-loop μ-loop
-add-at c = omega (arith, c .before .before .before .before .before .before .before .pre .limit, c .size-at .ensures .1)
+add-at c = omega (arith, start (loop (fragment (other c))) .pre .limit, c .size-at .ensures .1)
 
 loop-less : tie.Need-loop-less Inv-loop μ-loop
-loop-less c = omega (arith, ahead-onward (c .before .before .before .loop-test .taken) (c .before .before .before .before .loop .inv) (c .size-at .ensures .0))
+loop-less c =
+    let f = fragment (other c) in
+    omega (arith, ahead-onward (f .loop-test .taken) (loop f .loop .inv) (c .size-at .ensures .0))
 
 loop-again : tie.Need-loop-again Inv-loop μ-loop
-loop-again c = ahead-next (c .before .before .before .loop-test .taken) (c .before .before .before .before .loop .inv) (sym (c .before .before .is-trace-class .ensures) ∙ c .before .if1 .left) (c .size-at .ensures .0)
+loop-again c =
+    let o = other c in
+    let f = fragment o in
+    let no = sym (o .before .is-trace-class .ensures) ∙ o .if1 .left in
+    ahead-next (f .loop-test .taken) (loop f .loop .inv) no (c .size-at .ensures .0)
+
+-- None is left
 
 returns-2 : tie.Need-returns-2 Inv-loop μ-loop
 returns-2 c = ahead-end (c .loop-test .left) (c .before .loop .inv)

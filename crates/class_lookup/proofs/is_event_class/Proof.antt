@@ -27,7 +27,13 @@ u64-at-requires-2 c κs = omega (arith, opening-there 5 (c .before .before .befo
 
 returns : tie.Need-returns
 unfolding isEvent u8
-returns c = rw (eq-eqb _ _ (c .before .before .before .if1 .taken), ← c .before .before .u64-at .ensures, ← c .u64-at2 .ensures, eq-eqb _ _ (c .before .if2 .taken))
+returns c =
+    rw (
+      eq-eqb _ _ (c .before .before .before .if1 .taken),
+      ← c .before .before .u64-at .ensures,
+      ← c .u64-at2 .ensures,
+      eq-eqb _ _ (c .before .if2 .taken),
+    )
 
 returns-2 : tie.Need-returns-2
 unfolding isEvent u8

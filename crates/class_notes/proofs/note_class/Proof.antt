@@ -7,24 +7,73 @@ use Rattle.rules.specs.Record.{u8}
 use Rattle.class_layout.specs.Notes.{notes, sizeTo}
 use Rattle.class_layout.proofs.Reached.{note-low, note-high, note-class, not-first}
 
+-- Places of the code, in its order: all is given; the kind was read; it is a class's; where the class ends is known; so is its size
+
+abbrev AtStart : Type 0
+AtStart = tie.Start
+
+abbrev AtKind : Type 0
+AtKind = tie.After-shared-slice-known2
+
+abbrev AtClass : Type 0
+AtClass = tie.Else2
+
+abbrev AtReach : Type 0
+AtReach = tie.After-reach-of
+
+abbrev AtSize : Type 0
+AtSize = tie.After-size-to
+
+-- The way back
+
+abbrev start : AtKind → AtStart
+start c = c .before .before .before .before
+
+abbrev kind : AtClass → AtKind
+kind c = c .before .before
+
+abbrev class : AtReach → AtClass
+class c = c .before .before .before
+
+abbrev reach : AtSize → AtReach
+reach c = c .before
+
+abbrev given : AtClass → AtStart
+given c = start (kind c)
+
+-- No class
+
 shared-slice-read-kind : tie.Need-shared-slice-read-kind
 shared-slice-read-kind c = search needs
 
 returns : tie.Need-returns
 unfolding u8
-returns c = note-low (c .before .before .before .before .before .args .table .now) (c .before .before .before .before .before .args .at) (notes (c .before .before .before .before .before .args .sizes .now) (c .before .before .before .before .before .args .aligns .now)) (c .if1 .taken)
+returns c =
+    let a = start (c .before) .args in
+    note-low (a .table .now) (a .at) (notes (a .sizes .now) (a .aligns .now)) (c .if1 .taken)
 
 returns-2 : tie.Need-returns-2
 unfolding u8
-returns-2 c = note-high (c .before .before .before .before .before .before .args .table .now) (c .before .before .before .before .before .before .args .at) (notes (c .before .before .before .before .before .before .args .sizes .now) (c .before .before .before .before .before .before .args .aligns .now)) (c .if2 .taken)
+returns-2 c =
+    let a = start (c .before .before) .args in
+    note-high (a .table .now) (a .at) (notes (a .sizes .now) (a .aligns .now)) (c .if2 .taken)
+
+-- A class: its size and its exponent
 
 reach-of-requires : tie.Need-reach-of-requires
 unfolding u8
-reach-of-requires c κs = (c .before .before .before .before .before .before .before .before .pre .1, c .before .before .before .before .before .before .before .before .pre .0 .2, c .before .before .before .if1 .left, c .before .before .if2 .left)
+reach-of-requires c κs =
+    let k = c .before .before in
+    let p = given k .pre in
+    (p .1, p .0 .2, k .before .if1 .left, k .if2 .left)
 
 size-to-requires : tie.Need-size-to-requires
 unfolding u8
-size-to-requires c κs = (not-first (c .before .before .before .before .before .before .before .before .before .args .table .now) (c .before .before .before .before .before .before .before .before .before .args .at) (c .before .before .before .before .before .before .before .before .before .pre .0 .3) (c .before .before .before .before .if1 .left), c .before .before .before .before .before .before .before .before .before .pre .0 .2, c .reach-of .ensures .onward)
+size-to-requires c κs =
+    let k = class c in
+    let a = given k .args in
+    let p = given k .pre in
+    (not-first (a .table .now) (a .at) (p .0 .3) (k .before .if1 .left), p .0 .2, c .reach-of .ensures .onward)
 
 mul-sizes : tie.Need-mul-sizes
 mul-sizes c = search needs
@@ -43,7 +92,13 @@ same-length-2 c = search needs
 
 returns-3 : tie.Need-returns-3
 unfolding u8
-returns-3 c = note-class (c .before .before .before .before .before .before .before .before .before .before .args .table .now) (c .before .before .before .before .before .before .before .before .before .before .args .at) (notes (c .before .before .before .before .before .before .before .before .before .before .args .sizes .now) (c .before .before .before .before .before .before .before .before .before .before .args .aligns .now)) (c .before .before .before .before .before .if1 .left) (c .before .before .before .before .if2 .left) (c .size-to .ensures ∙ ap (sizeTo (c .before .before .before .before .before .before .before .before .before .before .args .table .now) (c .before .before .before .before .before .before .before .before .before .before .args .at)) (c .before .reach-of .ensures .end)) (c .before .reach-of .ensures .align)
+returns-3 c =
+    let r = reach c .reach-of .ensures in
+    let k = class (reach c) in
+    let a = given k .args in
+    let t = a .table .now in
+    note-class t (a .at) (notes (a .sizes .now) (a .aligns .now)) (k .before .if1 .left) (k .if2 .left)
+    (c .size-to .ensures ∙ ap (sizeTo t (a .at)) (r .end)) (r .align)
 
 pub note-class-spec : {M : Type 1} → statement M
 note-class-spec =

@@ -13,6 +13,27 @@ Inv-loop sizes aligns at count next₀ align₀ left₀ next align left = Member
 abbrev μ-loop : tie.MeasureT-loop
 μ-loop sizes aligns at count next₀ align₀ left₀ next align left = left
 
+-- Places of the code: all is given; a round begins; the larger exponent was taken
+
+abbrev AtStart : Type 0
+AtStart = tie.Start Inv-loop μ-loop
+
+abbrev AtLoop : Type 0
+AtLoop = tie.At-loop Inv-loop μ-loop
+
+abbrev AtAlign : Type 0
+AtAlign = tie.After-larger Inv-loop μ-loop
+
+-- The way back
+
+abbrev start : AtLoop → AtStart
+start c = c .before .before .before
+
+abbrev loop : AtAlign → AtLoop
+loop c = c .before .before .before
+
+-- The members
+
 loop-holds : tie.Need-loop-holds Inv-loop μ-loop
 loop-holds c = members-start
 
@@ -23,7 +44,7 @@ larger-requires : tie.Need-larger-requires Inv-loop μ-loop
 larger-requires c κs = search needs
 
 end-noted-requires : tie.Need-end-noted-requires Inv-loop μ-loop
-end-noted-requires c κs = omega (arith, c .before .before .before .before .before .before .pre, c .before .before .before .loop .inv .near)
+end-noted-requires c κs = omega (arith, start (loop c) .pre, loop c .loop .inv .near)
 
 sub-left : tie.Need-sub-left Inv-loop μ-loop
 sub-left c = omega arith
@@ -32,7 +53,12 @@ loop-less : tie.Need-loop-less Inv-loop μ-loop
 loop-less c = omega arith
 
 loop-again : tie.Need-loop-again Inv-loop μ-loop
-loop-again c = members-next _ (c .before .before .before .loop-test .taken) (c .before .larger .ensures ∙ ap (max (c .before .before .before .before .loop .align)) (c .before .before .byte .ensures)) (c .end-noted .ensures .0) (c .end-noted .ensures .1) (c .before .before .before .before .loop .inv)
+loop-again c =
+    let a = c .before in
+    let l = loop a .loop in
+    let e = c .end-noted .ensures in
+    members-next _ (a .before .before .loop-test .taken) (a .larger .ensures ∙ ap (max (l .align)) (a .before .byte .ensures)) (e .0) (e .1)
+    (l .inv)
 
 returns : tie.Need-returns Inv-loop μ-loop
 returns c = members-done _ (c .loop-test .left) (c .before .loop .inv)

@@ -8,7 +8,28 @@ use Rattle.places.proofs.align.Reads as align-reads
 use Rattle.places.proofs.bits_in.Reads as bits-in-reads
 use native.Mathlib.Omega.{arith}
 use Rattle.leaf_find_bytes.proofs.Found.{blob-past, blob-short, blob-at}
-use Rattle.leaf_find_number.specs.Found.{alignedAt}
+use Rattle.frame.specs.Framed.{alignedAt}
+
+-- Places of the code, in its order: the place is aligned; it is inside the bound; the bits of so many bytes are known
+
+abbrev AtAligned : Type 0
+AtAligned = tie.After-align
+
+abbrev AtInside : Type 0
+AtInside = tie.Else1
+
+abbrev AtBits : Type 0
+AtBits = tie.After-bits-in
+
+-- The way back from each to the one before
+
+abbrev to-aligned : AtInside → AtAligned
+to-aligned c = c .before .before .before
+
+abbrev to-inside : AtBits → AtInside
+to-inside c = c .before
+
+-- The needs: alignment and the bound
 
 align-requires : tie.Need-align-requires
 align-requires c κs = search needs
@@ -16,6 +37,8 @@ align-requires c κs = search needs
 returns : tie.Need-returns
 unfolding alignedAt
 returns c = blob-past _ _ _ (c .before .before .before .align .ensures) _ (c .if1 .taken)
+
+-- The bytes
 
 bits-in-requires : tie.Need-bits-in-requires
 bits-in-requires c κs = search needs
@@ -25,11 +48,19 @@ add-if2 c = search needs
 
 returns-2 : tie.Need-returns-2
 unfolding alignedAt
-returns-2 c = blob-short _ _ _ (c .before .before .before .before .before .before .before .align .ensures) _ (omega (arith, c .before .before .before .before .if1 .left)) (omega (arith, c .if2 .taken, c .before .before .before .bits-in .ensures))
+returns-2 c =
+    let bits = c .before .before .before in
+    let inside = to-inside bits in
+    blob-short _ _ _ (to-aligned inside .align .ensures) _ (omega (arith, inside .if1 .left))
+    (omega (arith, c .if2 .taken, bits .bits-in .ensures))
 
 returns-3 : tie.Need-returns-3
 unfolding alignedAt
-returns-3 c = rw (c .before .before .before .bits-in .ensures) (blob-at _ _ _ (c .before .before .before .before .before .before .before .align .ensures) _ (omega (arith, c .if2 .left, c .before .before .before .bits-in .ensures)))
+returns-3 c =
+    let bits = c .before .before .before in
+    let aligned = to-aligned (to-inside bits) in
+    rw (c .before .before .before .bits-in .ensures)
+    (blob-at _ _ _ (aligned .align .ensures) _ (omega (arith, c .if2 .left, bits .bits-in .ensures)))
 
 pub find-blob-spec : {M : Type 1} → statement M
 find-blob-spec =

@@ -9,8 +9,34 @@ use Rattle.leaf_see_bytes.proofs.plain.Reads as plain-reads
 use Rattle.leaf_see_bytes.proofs.same.Reads as same-reads
 use mathlib.Core.Path.{refl}
 use Rattle.leaf_after.specs.Seeing.{seen}
-use Rattle.leaf_see_bytes.specs.Within.{Within}
-use Rattle.leaf_see_bytes.proofs.Uuid.{uuid-seen, other-seen}
+use Rattle.leaf_see_bytes.proofs.Uuid.{found-within, uuid-seen, other-seen}
+
+-- Places of the code, in its order: all is given; a BLOB was found; its first byte is known; whether its bytes are the UUID's was asked
+
+abbrev AtStart : Type 0
+AtStart = tie.Start
+
+abbrev AtFound : Type 0
+AtFound = tie.After-found2
+
+abbrev AtByte : Type 0
+AtByte = tie.After-bytes-before
+
+abbrev AtAsked : Type 0
+AtAsked = tie.After-same
+
+-- The way back from each to the one before
+
+abbrev to-start : AtFound → AtStart
+to-start c = c .before .before .before .before
+
+abbrev to-found : AtByte → AtFound
+to-found c = c .before .before
+
+abbrev to-byte : AtAsked → AtByte
+to-byte c = c .before
+
+-- The needs: what was found
 
 enum-known-found : tie.Need-enum-known-found
 enum-known-found c = search needs
@@ -18,19 +44,27 @@ enum-known-found c = search needs
 enum-known-found-2 : tie.Need-enum-known-found-2
 enum-known-found-2 c = search needs
 
+-- The bytes
+
 bytes-before-requires : tie.Need-bytes-before-requires
 bytes-before-requires c κs = search needs
 
 same-requires : tie.Need-same-requires
-unfolding Within
-same-requires c κs = rw (c .bytes-before .ensures) (rw (c .before .before .found2 .given .1) at (c .before .before .before .before .before .before .pre))
+same-requires c κs =
+    let found = to-found c in
+    found-within _ (found .found2 .given .1) (c .bytes-before .ensures) (to-start found .pre)
+
+-- What is seen
 
 plain-requires : tie.Need-plain-requires
 plain-requires c κs = search needs
 
 returns : tie.Need-returns
-unfolding seen
-returns c = rw (c .plain .ensures, c .before .before .before .before .before .found2 .given .1) (uuid-seen _ _ _ _ _ _ (c .before .before .before .bytes-before .ensures) (c .before .before .same .ensures) (c .before .if1 .taken))
+returns c =
+    let asked = c .before .before in
+    let byte = to-byte asked in
+    rw (c .plain .ensures)
+    (uuid-seen _ _ _ _ _ _ (to-found byte .found2 .given .1) (byte .bytes-before .ensures) (asked .same .ensures) (c .before .if1 .taken))
 
 cast-t13 : tie.Need-cast-t13
 cast-t13 c = search needs
@@ -40,8 +74,10 @@ unfolding seen
 returns-2 c = rw (c .before .found .given .1) refl
 
 returns-3 : tie.Need-returns-3
-unfolding seen
-returns-3 c = rw (c .before .before .before .before .found2 .given .1) (other-seen _ _ _ _ _ _ (c .before .before .bytes-before .ensures) (c .before .same .ensures) (c .if1 .left))
+returns-3 c =
+    let asked = c .before in
+    let byte = to-byte asked in
+    other-seen _ _ _ _ _ _ (to-found byte .found2 .given .1) (byte .bytes-before .ensures) (asked .same .ensures) (c .if1 .left)
 
 pub uuid-blob-spec : {M : Type 1} → statement M
 uuid-blob-spec =

@@ -14,14 +14,25 @@ Inv-loop t at n i₀ v₀ i v = (i ≤ n) × ((v ≡ numberAt t (at + i) (n - i)
 abbrev μ-loop : tie.MeasureT-loop
 μ-loop t at n i₀ v₀ i v = i
 
+-- The way back from a turn's start
+
+abbrev start : tie.At-loop Inv-loop μ-loop → tie.Start Inv-loop μ-loop
+start c = c .before .before
+
+-- The turns
+
 loop-holds : tie.Need-loop-holds Inv-loop μ-loop
-loop-holds c = (omega arith, (sym (number-none _ _ _), let e : c .before .args .n - c .before .args .n ≡ 0 = omega arith in rw e (omega arith)))
+loop-holds c =
+    let n = c .before .args .n in
+    (omega arith, (sym (number-none _ _ _), let e : n - n ≡ 0 = omega arith in rw e (omega arith)))
 
 sub-i : tie.Need-sub-i Inv-loop μ-loop
 sub-i c = omega arith
 
 mul-v : tie.Need-mul-v Inv-loop μ-loop
-mul-v c = omega (arith, power-most (c .before .before .before .args .n - c .before .loop .i) (omega (arith, c .before .before .before .pre)))
+mul-v c =
+    let l = c .before in
+    omega (arith, power-most (start l .args .n - l .loop .i) (omega (arith, start l .pre)))
 
 add-byte : tie.Need-add-byte Inv-loop μ-loop
 add-byte c = omega arith
@@ -34,10 +45,8 @@ wide64-requires c κs = search needs
 
 add-v : tie.Need-add-v Inv-loop μ-loop
 add-v c =
-    let loop = c .before .before .before .loop in
-    let args = c .before .before .before .before .before .args in
-    let pre = c .before .before .before .before .before .pre in
-    omega (arith, power-most (args .n - loop .i) (omega (arith, pre)), c .wide64 .ensures .1)
+    let l = c .before .before .before in
+    omega (arith, power-most (start l .args .n - l .loop .i) (omega (arith, start l .pre)), c .wide64 .ensures .1)
 
 loop-less : tie.Need-loop-less Inv-loop μ-loop
 loop-less c = omega arith
@@ -46,11 +55,13 @@ loop-again : tie.Need-loop-again Inv-loop μ-loop
 loop-again c =
     let loop-test = c .before .before .loop-test in
     let loop = c .before .before .before .loop in
-    let args = c .before .before .before .before .before .args in
-    let i = loop .i in let n = args .n in (
+    let args = start (c .before .before .before) .args in
+    let i = loop .i in
+    let n = args .n in
+    let step = number-step (args .table .now) (args .at) i n (loop-test .taken) (loop .inv .0) in (
       omega arith,
       (
-        rw (number-step (args .table .now) (args .at) i n (loop-test .taken) (loop .inv .0), ← loop .inv .1 .0, c .wide64 .ensures .0, c .before .byte .ensures),
+        rw (step, ← loop .inv .1 .0, c .wide64 .ensures .0, c .before .byte .ensures),
         rw (power-step i n (loop-test .taken) (loop .inv .0)) (omega (arith, c .wide64 .ensures .1, loop .inv .1 .1)),
       ),
     )
@@ -58,8 +69,9 @@ loop-again c =
 returns : tie.Need-returns Inv-loop μ-loop
 returns c =
     let loop = c .before .loop in
-    let args = c .before .before .before .args in
-    let e : loop .i ≡ 0 = omega arith in let f : args .at + loop .i ≡ args .at = omega arith in
+    let args = start (c .before) .args in
+    let e : loop .i ≡ 0 = omega arith in
+    let f : args .at + loop .i ≡ args .at = omega arith in
     let g : args .n - loop .i ≡ args .n = omega arith in
     (rw (f, g) at (loop .inv .1 .0), rw g at (loop .inv .1 .1))
 

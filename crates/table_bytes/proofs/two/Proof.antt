@@ -32,7 +32,10 @@ unfolding u16
 returns c =
     let wide = c .before .before .wide in
     let byte = c .before .before .before .byte in
-    (simp (sym (byte .ensures), sym (c .before .byte2 .ensures), sym (wide .ensures .0), sym (c .wide2 .ensures .0)), omega (arith, wide .ensures .1, c .wide2 .ensures .1))
+    let byte2 = c .before .byte2 in (
+      simp (sym (byte .ensures), sym (byte2 .ensures), sym (wide .ensures .0), sym (c .wide2 .ensures .0)),
+      omega (arith, wide .ensures .1, c .wide2 .ensures .1),
+    )
 
 pub two-spec : {M : Type 1} → statement M
 two-spec =

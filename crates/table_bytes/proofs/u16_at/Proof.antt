@@ -2,11 +2,18 @@
 use borrow.Author.Needs.{needs}
 use Rattle.table_bytes.proofs.u16_at.Statement.{statement}
 use Rattle.table_bytes.proofs.u16_at.Tie as tie
-use Rattle.table_bytes.proofs.u16_at.Reads as reads
-use Rattle.table_bytes.proofs.u16_at.Lts as lts
-use Rattle.table_bytes.proofs.wide.Reads as wide-reads
 use native.Mathlib.Omega.{arith}
 use Rattle.table_bytes.proofs.Eight.{two}
+
+-- The way back from the second byte to the first, and to the start
+
+abbrev start : tie.After-wide → tie.Start
+start c = c .before .before .before
+
+abbrev first : tie.After-wide2 → tie.After-wide
+first c = c .before .before
+
+-- The bytes and their sum
 
 shared-slice-read-wide : tie.Need-shared-slice-read-wide
 shared-slice-read-wide c = search needs
@@ -30,7 +37,11 @@ add-result : tie.Need-add-result
 add-result c = search needs
 
 returns : tie.Need-returns
-returns c = (omega (arith, two (c .before .before .before .before .before .args .table .now) (c .before .before .before .before .before .args .at) (c .before .before .before .before .before .pre), c .before .before .wide .ensures .0, c .wide2 .ensures .0), omega (arith, c .before .before .wide .ensures .1, c .wide2 .ensures .1))
+returns c =
+    let low = first c .wide .ensures in
+    let high = c .wide2 .ensures in
+    let s = start (first c) in
+    (omega (arith, two (s .args .table .now) (s .args .at) (s .pre), low .0, high .0), omega (arith, low .1, high .1))
 
 pub u16-at-spec : {M : Type 1} → statement M
 u16-at-spec =

@@ -5,6 +5,60 @@ use Rattle.table_bytes.proofs.u64_at.Tie as tie
 use native.Mathlib.Omega.{arith}
 use Rattle.table_bytes.proofs.Eight.{eight}
 
+-- Places of the code: so many bytes are read
+
+abbrev AtFirst : Type 0
+AtFirst = tie.After-wide64
+
+abbrev AtSecond : Type 0
+AtSecond = tie.After-wide642
+
+abbrev AtThird : Type 0
+AtThird = tie.After-wide643
+
+abbrev AtFourth : Type 0
+AtFourth = tie.After-wide644
+
+abbrev AtFifth : Type 0
+AtFifth = tie.After-wide645
+
+abbrev AtSixth : Type 0
+AtSixth = tie.After-wide646
+
+abbrev AtSeventh : Type 0
+AtSeventh = tie.After-wide647
+
+abbrev AtEighth : Type 0
+AtEighth = tie.After-wide648
+
+-- The way back
+
+abbrev start : AtFirst → tie.Start
+start c = c .before .before .before
+
+abbrev first : AtSecond → AtFirst
+first c = c .before .before
+
+abbrev second : AtThird → AtSecond
+second c = c .before .before
+
+abbrev third : AtFourth → AtThird
+third c = c .before .before
+
+abbrev fourth : AtFifth → AtFourth
+fourth c = c .before .before
+
+abbrev fifth : AtSixth → AtFifth
+fifth c = c .before .before
+
+abbrev sixth : AtSeventh → AtSixth
+sixth c = c .before .before
+
+abbrev seventh : AtEighth → AtSeventh
+seventh c = c .before .before
+
+-- The bytes and their products
+
 shared-slice-read-wide64 : tie.Need-shared-slice-read-wide64
 shared-slice-read-wide64 c = search needs
 
@@ -117,7 +171,27 @@ add-result-7 : tie.Need-add-result-7
 add-result-7 c = search needs
 
 returns : tie.Need-returns
-returns c = omega (arith, eight (c .before .before .before .before .before .before .before .before .before .before .before .before .before .before .before .before .before .args .table .now) (c .before .before .before .before .before .before .before .before .before .before .before .before .before .before .before .before .before .args .at) (c .before .before .before .before .before .before .before .before .before .before .before .before .before .before .before .before .before .pre), c .before .before .before .before .before .before .before .before .before .before .before .before .before .before .wide64 .ensures .0, c .before .before .before .before .before .before .before .before .before .before .before .before .wide642 .ensures .0, c .before .before .before .before .before .before .before .before .before .before .wide643 .ensures .0, c .before .before .before .before .before .before .before .before .wide644 .ensures .0, c .before .before .before .before .before .before .wide645 .ensures .0, c .before .before .before .before .wide646 .ensures .0, c .before .before .wide647 .ensures .0, c .wide648 .ensures .0)
+returns c =
+    let h = seventh c in
+    let g = sixth h in
+    let f = fifth g in
+    let e = fourth f in
+    let d = third e in
+    let b = second d in
+    let a = first b in
+    let s = start a in
+    omega (
+      arith,
+      eight (s .args .table .now) (s .args .at) (s .pre),
+      a .wide64 .ensures .0,
+      b .wide642 .ensures .0,
+      d .wide643 .ensures .0,
+      e .wide644 .ensures .0,
+      f .wide645 .ensures .0,
+      g .wide646 .ensures .0,
+      h .wide647 .ensures .0,
+      c .wide648 .ensures .0,
+    )
 
 pub u64-at-spec : {M : Type 1} → statement M
 u64-at-spec =

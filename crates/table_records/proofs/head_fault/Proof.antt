@@ -32,7 +32,8 @@ returns-3 c =
     let if2 = c .before .before .if2 in
     let mark-of = c .before .before .before .mark-of in
     let if1 = c .before .before .before .before .before .if1 in
-    simp (lt-leb _ _ (if1 .left), sym (mark-of .ensures), ne-eqb _ _ (if2 .left), le-leb _ _ (rw (c .before .wide .ensures .0) at (c .if3 .taken)))
+    let body = rw (c .before .wide .ensures .0) at (c .if3 .taken) in
+    simp (lt-leb _ _ (if1 .left), sym (mark-of .ensures), ne-eqb _ _ (if2 .left), le-leb _ _ body)
 
 returns-4 : tie.Need-returns-4
 unfolding headFault pickN
@@ -40,7 +41,8 @@ returns-4 c =
     let if2 = c .before .before .if2 in
     let mark-of = c .before .before .before .mark-of in
     let if1 = c .before .before .before .before .before .if1 in
-    simp (lt-leb _ _ (if1 .left), sym (mark-of .ensures), ne-eqb _ _ (if2 .left), lt-leb _ _ (rw (c .before .wide .ensures .0) at (c .if3 .left)))
+    let body = rw (c .before .wide .ensures .0) at (c .if3 .left) in
+    simp (lt-leb _ _ (if1 .left), sym (mark-of .ensures), ne-eqb _ _ (if2 .left), lt-leb _ _ body)
 
 pub head-fault-spec : {M : Type 1} → statement M
 head-fault-spec =

@@ -25,7 +25,8 @@ returns-4 c =
     let if2 = c .before .before .if2 in
     let if1 = c .before .before .before .if1 in
     let args = c .before .before .before .before .args in
-    simp (eq-eqb _ _ (if1 .left), eq-eqb _ _ (if2 .left), eq-eqb _ _ (c .before .if3 .left), ne-eqb (args .at) (args .start + 3) (omega arith))
+    let far = ne-eqb (args .at) (args .start + 3) (omega arith) in
+    simp (eq-eqb _ _ (if1 .left), eq-eqb _ _ (if2 .left), eq-eqb _ _ (c .before .if3 .left), far)
 
 returns-5 : tie.Need-returns-5
 unfolding magicOk

@@ -7,7 +7,12 @@ use Rattle.check_roots.proofs.cycle.check_members.Reads as check-member
 use Rattle.check_roots.proofs.cycle.+check_class+check_members+check_options.Lts-check_members as check-members-lts
 use Rattle.check_roots.proofs.cycle.check_options.Reads as check-options
 use Rattle.check_roots.proofs.cycle.+check_class+check_members+check_options.Lts-check_options as check-options-lts
-use Rattle.check_roots.proofs.cycle.+check_class+check_members+check_options.Proof.Measures.{μ-check-class, μ-check-members, μ-check-options, check-class-at, check-members-at, check-options-at, check-class-calls, check-members-calls, check-options-calls}
+use Rattle.check_roots.proofs.cycle.+check_class+check_members+check_options.Proof.Measures.{μ-check-class, check-class-at}
+use Rattle.check_roots.proofs.cycle.+check_class+check_members+check_options.Proof.Measures.{μ-check-members, check-members-at}
+use Rattle.check_roots.proofs.cycle.+check_class+check_members+check_options.Proof.Measures.{μ-check-options, check-options-at}
+use Rattle.check_roots.proofs.cycle.+check_class+check_members+check_options.Proof.Measures.{check-class-calls}
+use Rattle.check_roots.proofs.cycle.+check_class+check_members+check_options.Proof.Measures.{check-members-calls}
+use Rattle.check_roots.proofs.cycle.+check_class+check_members+check_options.Proof.Measures.{check-options-calls}
 use Rattle.check_roots.proofs.cycle.+check_class+check_members+check_options.Proof.Class as class
 use Rattle.check_roots.proofs.cycle.+check_class+check_members+check_options.Proof.Members as members
 use Rattle.check_roots.proofs.cycle.+check_class+check_members+check_options.Proof.Options as options

@@ -1,43 +1,109 @@
 -- The place is aligned, and its entry written unless that lies past the bound.
 use borrow.Author.Needs.{needs}
+use mathlib.Core.Path.{_≡_}
 use native.Mathlib.Omega.{arith}
 use lib.ListN.{getD}
-use Prim.Native.Nat.{_^_}
+use Prim.Native.Nat.{ℕ, _^_}
 use Rattle.rules.specs.Record.{u8}
-use Rattle.leaf_find_number.specs.Found.{alignedAt}
+use Rattle.frame.specs.Framed.{alignedAt}
 use Rattle.field_inside.proofs.Entering.{entered-past, entered-fits}
 use Rattle.field_inside.proofs.opening.enter_structure.Statement.{statement}
 use Rattle.field_inside.proofs.opening.enter_structure.Tie as tie
 
+-- Places of the code, in its order: all is given; the alignment can be read; it was; the place is aligned; it is not past the bound; the
+-- count was read; the entry is written
+
+abbrev AtStart : Type 0
+AtStart = tie.Start
+
+abbrev AtNoted : Type 0
+AtNoted = tie.After-shared-slice-known3
+
+abbrev AtAlignment : Type 0
+AtAlignment = tie.After-wide64
+
+abbrev AtAligned : Type 0
+AtAligned = tie.After-align
+
+abbrev AtWithin : Type 0
+AtWithin = tie.Else1
+
+abbrev AtCount : Type 0
+AtCount = tie.After-wide642
+
+abbrev AtListed : Type 0
+AtListed = tie.After-list-holder
+
+-- The way back from each to the one before
+
+abbrev to-start : AtNoted → AtStart
+to-start c = c .before .before .before .before
+
+abbrev to-noted : AtAlignment → AtNoted
+to-noted c = c .before
+
+abbrev to-alignment : AtAligned → AtAlignment
+to-alignment c = c .before
+
+abbrev to-aligned : AtWithin → AtAligned
+to-aligned c = c .before .before .before
+
+abbrev to-within : AtCount → AtWithin
+to-within c = c .before .before
+
+abbrev to-count : AtListed → AtCount
+to-count c = c .before .before
+
+abbrev aligned-start : AtAligned → AtStart
+aligned-start c = to-start (to-noted (to-alignment c))
+
+abbrev within-start : AtWithin → AtStart
+within-start c = aligned-start (to-aligned c)
+
+-- What is known at them
+
+-- the alignment noted of the class, in bits
+abbrev bits : AtStart → ℕ
+bits c = 2 ^ getD (c .args .aligns .now) (c .args .at) 0
+
+placed : (c : AtAligned) →
+    let s = aligned-start c in
+    c .align .result ≡ alignedAt (s .args .frame) (bits s) (s .args .from)
+unfolding alignedAt
+placed c = rw (to-alignment c .wide64 .ensures .0) at (c .align .ensures)
+
+-- The place
+
 shared-slice-read-wide64 : tie.Need-shared-slice-read-wide64
-shared-slice-read-wide64 c = c .before .before .before .before .pre .0 .1
+shared-slice-read-wide64 c = to-start c .pre .0 .1
 
 wide64-requires : tie.Need-wide64-requires
 wide64-requires c κs = search needs
 
 align-requires : tie.Need-align-requires
 align-requires c κs =
-    let p = c .before .before .before .before .before .pre in
+    let p = to-start (to-noted c) .pre in
     (p .1 .0 .0, omega (arith, p .0 .2, c .wide64 .ensures .0), p .1 .0 .1)
 
 returns : tie.Need-returns
-unfolding alignedAt
 returns c =
-    let a = c .before .before .before .before .before .before .before .before .before .args in
-    entered-past (a .frame) (2 ^ getD (a .aligns .now) (a .at) 0) (a .from) _ (a .list .now)
-    (rw (c .before .before .before .before .wide64 .ensures .0) at (c .before .before .before .align .ensures)) (c .if1 .taken)
+    let d = c .before .before .before in
+    let a = aligned-start d .args in
+    entered-past (a .frame) (bits (aligned-start d)) (a .from) _ (a .list .now) (placed d) (c .if1 .taken)
+
+-- Its entry
 
 add-wide64 : tie.Need-add-wide64
-add-wide64 c = omega (arith, c .before .before .before .before .before .before .before .before .before .pre .0 .0)
+add-wide64 c = omega (arith, within-start c .pre .0 .0)
 
 shared-slice-read-wide64-2 : tie.Need-shared-slice-read-wide64-2
-shared-slice-read-wide64-2 c = omega (arith, c .before .before .before .before .before .before .before .before .before .before .pre .0 .0)
+shared-slice-read-wide64-2 c = omega (arith, within-start (c .before) .pre .0 .0)
 
 wide64-requires-2 : tie.Need-wide64-requires-2
 wide64-requires-2 c κs = search needs
 
 list-holder-requires : tie.Need-list-holder-requires
-list-holder-requires c κs = c .before .before .before .before .before .before .before .before .before .before .before .before .pre .1 .1
+list-holder-requires c κs = within-start (to-within (c .before)) .pre .1 .1
 
 same-length : tie.Need-same-length
 same-length c = c .before .before .list-holder .kept .1 .1 .1 .0
@@ -45,10 +111,11 @@ same-length c = c .before .before .list-holder .kept .1 .1 .1 .0
 returns-2 : tie.Need-returns-2
 unfolding alignedAt u8
 returns-2 c =
-    let a = c .before .before .before .before .before .before .before .before .before .before .before .before .before .before .before .args in
-    entered-fits (a .frame) (2 ^ getD (a .aligns .now) (a .at) 0) (a .from) _ (a .list .now)
-    (rw (c .before .before .before .before .before .before .before .before .before .before .wide64 .ensures .0) at (c .before .before .before .before .before .before .before .before .before .align .ensures)) (c .before .before .before .before .before .before .if1 .left)
-    (rw (c .before .before .before .before .wide642 .ensures .0) at (c .before .before .list-holder .ensures))
+    let l = c .before .before in
+    let w = to-within (to-count l) in
+    let a = within-start w .args in
+    entered-fits (a .frame) (bits (within-start w)) (a .from) _ (a .list .now) (placed (to-aligned w)) (w .if1 .left)
+    (rw (to-count l .wide642 .ensures .0) at (l .list-holder .ensures))
 
 pub enter-structure-spec : {M : Type 1} → statement M
 enter-structure-spec = tie.close

@@ -10,32 +10,84 @@ use Rattle.field_inside.proofs.Entering.{opened-by}
 use Rattle.field_inside.proofs.opening.open_field.Statement.{statement}
 use Rattle.field_inside.proofs.opening.open_field.Tie as tie
 
+-- Places of the code, in its order: all is given; the kind can be read; the field was looked at; it holds members, and its entry is
+-- written; or elements, and its entry is written
+
+abbrev AtStart : Type 0
+AtStart = tie.Start
+
+abbrev AtKind : Type 0
+AtKind = tie.After-shared-slice-known4
+
+abbrev AtTold : Type 0
+AtTold = tie.After-look
+
+abbrev AtMembers : Type 0
+AtMembers = tie.After-there
+
+abbrev AtMembersListed : Type 0
+AtMembersListed = tie.After-list-holder
+
+abbrev AtElements : Type 0
+AtElements = tie.After-there2
+
+abbrev AtElementsListed : Type 0
+AtElementsListed = tie.After-list-holder2
+
+-- The way back from each to the one before
+
+abbrev to-start : AtKind → AtStart
+to-start c = c .before .before .before .before .before
+
+abbrev told-start : AtTold → AtStart
+told-start c = to-start (c .before)
+
+abbrev members-told : AtMembers → AtTold
+members-told c = c .before .before
+
+abbrev to-members : AtMembersListed → AtMembers
+to-members c = c .before .before .before
+
+abbrev elements-told : AtElements → AtTold
+elements-told c = c .before .before
+
+abbrev to-elements : AtElementsListed → AtElements
+to-elements c = c .before .before .before
+
+-- Looked at
+
 shared-slice-read-kind : tie.Need-shared-slice-read-kind
-shared-slice-read-kind c = omega (arith, record-there (c .before .before .before .before .before .pre .0))
+shared-slice-read-kind c = omega (arith, record-there (to-start c .pre .0))
 
 look-requires : tie.Need-look-requires
-look-requires c κs = let p = c .before .before .before .before .before .pre in (p .0, p .1 .0)
+look-requires c κs = (to-start c .pre .0, to-start c .pre .1 .0)
 
 enum-known-why : tie.Need-enum-known-why
 enum-known-why c = search needs
+
+-- It holds members
 
 enum-known-there : tie.Need-enum-known-there
 enum-known-there c = search needs
 
 list-holder-requires : tie.Need-list-holder-requires
-list-holder-requires c κs = c .before .before .before .before .before .before .before .before .before .before .pre .1 .1
+list-holder-requires c κs = told-start (members-told (c .before .before)) .pre .1 .1
 
 went-in-requires : tie.Need-went-in-requires
 went-in-requires c κs = search needs
+
+-- It holds elements
 
 enum-known-there-2 : tie.Need-enum-known-there-2
 enum-known-there-2 c = search needs
 
 list-holder-requires-2 : tie.Need-list-holder-requires-2
-list-holder-requires-2 c κs = c .before .before .before .before .before .before .before .before .before .before .pre .1 .1
+list-holder-requires-2 c κs = told-start (elements-told (c .before .before)) .pre .1 .1
 
 went-in-requires-2 : tie.Need-went-in-requires-2
 went-in-requires-2 c κs = search needs
+
+-- What is said of each
 
 returns : tie.Need-returns
 unfolding openedAs listOpened
@@ -47,8 +99,10 @@ same-length c = c .before .before .before .list-holder .kept .1 .1 .1 .0
 returns-2 : tie.Need-returns-2
 unfolding openedAs listOpened u8
 returns-2 c =
-    let q = opened-by _ _ _ _ (c .before .before .before .before .before .before .before .before .look .ensures) (c .before .before .before .before .before .before .there .given .1) in
-    (c .went-in .ensures ∙ q .0, c .before .before .before .list-holder .ensures ∙ q .1)
+    let l = c .before .before .before in
+    let m = to-members l in
+    let q = opened-by _ _ _ _ (members-told m .look .ensures) (m .there .given .1) in
+    (c .went-in .ensures ∙ q .0, l .list-holder .ensures ∙ q .1)
 
 same-length-2 : tie.Need-same-length-2
 same-length-2 c = c .before .before .before .list-holder2 .kept .1 .1 .1 .0
@@ -56,8 +110,10 @@ same-length-2 c = c .before .before .before .list-holder2 .kept .1 .1 .1 .0
 returns-3 : tie.Need-returns-3
 unfolding openedAs listOpened u8
 returns-3 c =
-    let q = opened-by _ _ _ _ (c .before .before .before .before .before .before .before .before .look .ensures) (c .before .before .before .before .before .before .there2 .given .1) in
-    (c .went-in2 .ensures ∙ q .0, c .before .before .before .list-holder2 .ensures ∙ q .1)
+    let l = c .before .before .before in
+    let m = to-elements l in
+    let q = opened-by _ _ _ _ (elements-told m .look .ensures) (m .there2 .given .1) in
+    (c .went-in2 .ensures ∙ q .0, l .list-holder2 .ensures ∙ q .1)
 
 pub open-field-spec : {M : Type 1} → statement M
 open-field-spec = tie.close

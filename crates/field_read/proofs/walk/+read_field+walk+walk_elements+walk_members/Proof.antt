@@ -1,6 +1,7 @@
--- A field that holds others is its entry and then a walk; a walk is a loop over a run, and each of its rounds is a law of Round.
--- The measure is three times the depth left, one more for the loop, and two more for each walk; that of the loop is the room left.
-
+-- What the four functions of a field that holds others read is what the rules read, and what stopped hands back what came. Such a field is
+-- its entry, and then a walk of what is inside, one depth less; a walk is a loop over a run, and each of its rounds is a law of Round,
+-- taken through Told. The measure is three times the depth left, one more for the loop, and two more for each walk; that of the loop is the
+-- room left.
 use Prim.Native.Nat.{ℕ, _<_}
 use borrow.Fn.Kinds.{In}
 use borrow.Fn.PlainCycle.{Measures, is, falls, and}
@@ -43,46 +44,52 @@ use Rattle.listing.proofs.role.apply.Reads as apply-reads
 use Rattle.table_bytes.proofs.wide.Reads as wide-reads
 use Rattle.field_read.proofs.walk.+read_field+walk+walk_elements+walk_members.{statement}
 use Rattle.field_read.proofs.walk.+read_field+walk+walk_elements+walk_members.Tie.{close}
-use Rattle.rules.specs.Slots.{slotAt, setSlot}
-use Rattle.field_inside.proofs.Slots.{content-met, past-unset}
-use Rattle.leaf_read.specs.Reads.{leafSlot}
+use borrow.Fn.Kinds.{Out}
+use borrow.Author.Needs.{needs}
 use borrow.Author.Tests.{not-true, not-false}
-use Rattle.class_layout.specs.Trees.{whole}
+use mathlib.Core.Path.{_≡_, refl, sym, _∙_}
+use mathlib.Core.Bool.{true}
+use mathlib.Core.List.{List}
+use mathlib.Core.Logic.{_⊎_, inl, inr, ⊎-elim}
+use native.Mathlib.Omega.{arith}
+use Prim.Native.Nat.{_+_, _*_, _^_, _≤_}
+use lib.ListN.{length}
 use Rattle.rules.specs.declared.Content.{Content}
-use Rattle.field_inside.specs.Inside.{slotReadAt}
-use Rattle.field_inside.proofs.Noted.{opens}
-use Rattle.field_read.proofs.Holds as Holds
-use Rattle.field_read.proofs.Holds.{Closed, slot-within, can-look, open-refused, open-members, open-elements, members-open, elements-open, closed-reads}
-use Rattle.field_read.proofs.Turns.{call, classRead}
-use mathlib.Core.Logic.{⊎-elim}
+use Rattle.rules.specs.declared.Stop.{Stop}
+use Rattle.rules.specs.Limits.{slotCount}
+use Rattle.rules.specs.Record.{u8}
+use Rattle.rules.specs.Slots.{slotAt, setSlot}
 use Rattle.rules.specs.Step.{_⨾_}
 use Rattle.rules.specs.Faults.{roleOf}
 use Rattle.rules.specs.Field.{role}
-use Rattle.listing.proofs.Parts.{merged}
-use Rattle.class_layout.proofs.InPlace.{members-few}
-use Rattle.facts.proofs.Slots.{no-slot}
-use borrow.Fn.Kinds.{Out}
-use borrow.Author.Needs.{needs}
-use mathlib.Core.Path.{_≡_, refl, sym, _∙_}
-use native.Mathlib.Omega.{arith}
-use Prim.Native.Nat.{_+_, _*_, _^_, _≤_}
-use mathlib.Core.List.{[]}
-use lib.ListN.{length}
-use Rattle.rules.specs.Limits.{slotCount}
-use Rattle.rules.specs.Record.{u8}
-use Rattle.class_layout.specs.Notes.{notes}
-use Rattle.field_read.specs.Reads.{stateAt}
 use Rattle.facts.specs.Bytes.{Bytes}
+use Rattle.class_layout.specs.Trees.{whole}
+use Rattle.class_layout.specs.Notes.{notes}
+use Rattle.class_layout.proofs.InPlace.{members-few}
 use Rattle.class_layout.proofs.Standing.{depth-some, kind-high, leaf-whole}
 use Rattle.class_layout.proofs.Turns.{whole-inside}
-use Rattle.listing.proofs.Parts.{part-length, lent-room}
+use Rattle.frame.specs.Framed.{envOf}
+use Rattle.leaf_read.specs.Reads.{leafSlot}
+use Rattle.leaf_read.specs.Leaves.{contentOf}
+use Rattle.listing.proofs.Parts.{part-length, lent-room, merged}
+use Rattle.field_inside.specs.Inside.{slotReadAt}
+use Rattle.field_inside.proofs.Noted.{opens, slot-within}
+use Rattle.field_inside.proofs.Slots.{content-met, past-unset}
+use Rattle.field_runs.specs.declared.Run.{Run}
 use Rattle.field_runs.specs.Run.{countOf}
-use Rattle.field_runs.proofs.Cases.{forward-some, open-free}
-use Rattle.field_runs.proofs.Ahead.{forward-same, sort-stands, taken-first, taken-same, members-stand, elements-stand}
+use Rattle.field_runs.specs.Ahead.{ahead}
+use Rattle.field_runs.proofs.Ahead.{members-stand, elements-stand}
 use Rattle.field_runs.proofs.Ahead.{members-reads as members-reads-ahead, elements-reads as elements-reads-ahead}
-use Rattle.field_read.proofs.Round.{Loop, left, Kept, Round, workLeft, round-falls, same-round, round-full, first-there}
-use Rattle.field_read.proofs.Round.{LeavesRound, leaves-round, stored, no-role, RoleRound, role-round}
-use Rattle.field_read.proofs.Round.{Holder, CodeRound, code-round, EnterRound, enter-round, FieldRound, field-round}
+use Rattle.field_read.specs.Reads.{FieldReads, stoppedField, stateAt}
+use Rattle.field_read.proofs.Holds as Holds
+use Rattle.field_read.proofs.Holds.{Closed, can-look, open-refused, open-members, open-elements, members-open, elements-open}
+use Rattle.field_read.proofs.Holds.{closed-same, closed-reads}
+use Rattle.field_read.proofs.Turns.{call, classRead}
+use Rattle.field_read.proofs.Round.{Loop, left, Kept, Round, Stops, workLeft, round-falls, round-full, LeavesRound, no-role}
+use Rattle.field_read.proofs.Round.{RoleRound, Holder, CodeRound, EnterRound, FieldRound}
+use Rattle.field_read.proofs.Told.{forward-round, forward-left, first-whole, leaves-in-row, leaves-did, leaves-due, role-did}
+use Rattle.field_read.proofs.Told.{taken-round, FirstAt, taken-next, holds-first, entered-did, entered-run, inside-did, inside-run}
+use Rattle.field_read.proofs.Told.{field-did, field-run}
 use Rattle.field_read.proofs.Walks.{walkLoop, walk-start, walk-stopped, walk-end}
 
 abbrev μ-read-field : Measures 6 read-field-kinds.ps ℕ
@@ -145,117 +152,191 @@ abbrev In-read-field : (t : ℕ)
     → (read-field-lts.Claims → In 6 read-field-kinds.ps → Out 6 read-field-kinds.ps read-field-kinds.r → Type 0) → Type 0
 In-read-field t N = N (read-field-calls t) (read-field-at t) read-field.Post
 
-read-field-slot-read-requires : (t : ℕ) → In-read-field t read-field-lts.Need-slot-read-requires
-read-field-slot-read-requires t c κs =
-    let p = c .before .before .before .before .before .before .pre .1 in
-    (omega (arith, p .1 .0 .0), kind-high _ _ _ (p .0), slot-within _ _ _ (p .0) (p .1 .0 .0))
+-- read_field
 
-read-field-mul-slot : (t : ℕ) → In-read-field t read-field-lts.Need-mul-slot
-read-field-mul-slot t c = omega arith
+module _ (t : ℕ) where
+  -- Places of the code: what came is known; the content of the slot that it reads is met; its entry is listed; it goes inside; the fields
+  -- inside are read
 
-read-field-array-copy-out-slot : (t : ℕ) → In-read-field t read-field-lts.Need-array-copy-out-slot
-read-field-array-copy-out-slot t c = omega arith
+  abbrev AtGiven : Type 0
+  AtGiven = In-read-field t read-field-lts.Start
 
-field-holder : (t : ℕ) (c : In-read-field t read-field-lts.Joined1) →
-    let a = c .before .before .before .before .before .before .before .before .args in
-    Holds.Holder (a .stream .now) (a .uuid .now) (a .frame) (a .table .now) (notes (a .sizes .now) (a .aligns .now)) (a .left) (a .at)
-    (c .if1 .content) (a .st) (a .t10) (a .list .now)
-unfolding slotAt
-field-holder t c =
-    let s = c .before .before .before .before .before .before .before .before in
-    let p = s .pre .1 in
-    let many = s .good .1 .1 .1 .1 .1 .1 .1 .1 .1 .0 .1 .0 .1 in
-    record {
-      stands = p .0;
-      holds = p .1 .0 .0;
-      room = p .1 .0 .1;
-      small = omega (arith, s .good .1 .1 .1 .1 .1 .1 .1 .1 .1 .1 .0);
-      noted = p .1 .1 .0;
-      framed = p .1 .1 .1;
-      many = many;
-      told = content-met (s .args .t10) many (c .before .slot-read .ensures .0) (λ y. y .2) (λ y. (y .0 .left, y .1)) (c .if1 .came);
-    }
+  abbrev AtKnown : Type 0
+  AtKnown = In-read-field t read-field-lts.After-slice-known
 
-read-field-open-field-requires : (t : ℕ) → In-read-field t read-field-lts.Need-open-field-requires
-read-field-open-field-requires t c κs =
-    let h = field-holder t (c .before) in
-    (can-look h, ((h .framed .begun, omega (arith, h .framed .within, h .framed .ends, h .framed .small)), h .room))
+  abbrev AtMet : Type 0
+  AtMet = In-read-field t read-field-lts.Joined1
 
-read-field-refused-requires : (t : ℕ) → In-read-field t read-field-lts.Need-refused-requires
-read-field-refused-requires t c κs = search needs
+  abbrev AtEntry : Type 0
+  AtEntry = In-read-field t read-field-lts.After-open-field
 
-read-field-same-length : (t : ℕ) → In-read-field t read-field-lts.Need-same-length
-read-field-same-length t c = c .before .before .before .before .before .open-field .kept .1 .1 .1 .1 .1 .1 .1 .0
+  abbrev AtInside : Type 0
+  AtInside = In-read-field t read-field-lts.After-at-place
 
-read-field-returns : (t : ℕ) → In-read-field t read-field-lts.Need-returns
-read-field-returns t c =
-    let o = c .before .before .before .before .before .open-field .ensures in
-    rw (c .refused .ensures) (open-refused (field-holder t (c .before .before .before .before .before .before .before)) (o .0) (o .1) (not-true _ (c .before .if2 .taken)))
+  abbrev AtClosed : Type 0
+  AtClosed = In-read-field t read-field-lts.Joined3
 
-read-field-at-place-requires : (t : ℕ) → In-read-field t read-field-lts.Need-at-place-requires
-read-field-at-place-requires t c κs = search needs
+  -- and the ways back
 
-read-field-sub-walk-elements : (t : ℕ) → In-read-field t read-field-lts.Need-sub-walk-elements
-read-field-sub-walk-elements t c = omega (arith, depth-some _ _ _ (field-holder t (c .before .before .before .before .before .before .before .before) .stands))
+  abbrev known-given : AtKnown → AtGiven
+  known-given c = c .before .before .before .before .before .before
 
-read-field-sub-walk-elements-2 : (t : ℕ) → In-read-field t read-field-lts.Need-sub-walk-elements-2
-read-field-sub-walk-elements-2 t c = omega (arith, c .before .before .before .before .before .before .open-field .kept .1 .1 .1 .1 .1 .1 .1 .0, field-holder t (c .before .before .before .before .before .before .before .before) .room)
+  abbrev met-known : AtMet → AtKnown
+  met-known c = c .before .before
 
-read-field-part-walk-elements-start : (t : ℕ) → In-read-field t read-field-lts.Need-part-walk-elements-start
-read-field-part-walk-elements-start t c = omega (arith, c .before .before .before .before .before .before .open-field .kept .1 .1 .1 .1 .1 .1 .1 .0, field-holder t (c .before .before .before .before .before .before .before .before) .room)
+  abbrev met-given : AtMet → AtGiven
+  met-given c = known-given (met-known c)
 
-read-field-part-walk-elements-end : (t : ℕ) → In-read-field t read-field-lts.Need-part-walk-elements-end
-read-field-part-walk-elements-end t c = omega arith
+  abbrev entry-met : AtEntry → AtMet
+  entry-met c = c .before .before
 
-read-field-walk-elements-requires : (t : ℕ) → In-read-field t read-field-lts.Need-walk-elements-requires
-read-field-walk-elements-requires t c κs =
-    let h = field-holder t (c .before .before .before .before .before .before .before .before .before) in
-    let o = c .before .before .before .before .before .before .before .open-field .ensures in
-    let inside = open-elements h (o .0) (o .1) (not-false _ (c .before .before .before .if2 .left)) (c .before .if3 .taken) in
-    (omega (arith, c .before .before .before .before .before .before .before .before .before .before .before .before .before .before .before .before .before .pre .0, depth-some _ _ _ (h .stands)), (inside .0, (h .noted, rw (c .before .before .at-place .ensures) (inside .1))))
+  abbrev inside-entry : AtInside → AtEntry
+  inside-entry c = c .before .before .before .before .before
 
-read-field-sub-walk-members : (t : ℕ) → In-read-field t read-field-lts.Need-sub-walk-members
-read-field-sub-walk-members t c = omega (arith, depth-some _ _ _ (field-holder t (c .before .before .before .before .before .before .before .before) .stands))
+  abbrev inside-met : AtInside → AtMet
+  inside-met c = entry-met (inside-entry c)
 
-read-field-sub-walk-members-2 : (t : ℕ) → In-read-field t read-field-lts.Need-sub-walk-members-2
-read-field-sub-walk-members-2 t c = omega (arith, c .before .before .before .before .before .before .open-field .kept .1 .1 .1 .1 .1 .1 .1 .0, field-holder t (c .before .before .before .before .before .before .before .before) .room)
+  abbrev inside-given : AtInside → AtGiven
+  inside-given c = met-given (inside-met c)
 
-read-field-part-walk-members-start : (t : ℕ) → In-read-field t read-field-lts.Need-part-walk-members-start
-read-field-part-walk-members-start t c = omega (arith, c .before .before .before .before .before .before .open-field .kept .1 .1 .1 .1 .1 .1 .1 .0, field-holder t (c .before .before .before .before .before .before .before .before) .room)
+  abbrev closed-inside : AtClosed → AtInside
+  closed-inside c = c .before
 
-read-field-part-walk-members-end : (t : ℕ) → In-read-field t read-field-lts.Need-part-walk-members-end
-read-field-part-walk-members-end t c = omega arith
+  abbrev closed-given : AtClosed → AtGiven
+  closed-given c = inside-given (closed-inside c)
 
-read-field-walk-members-requires : (t : ℕ) → In-read-field t read-field-lts.Need-walk-members-requires
-read-field-walk-members-requires t c κs =
-    let h = field-holder t (c .before .before .before .before .before .before .before .before .before) in
-    let o = c .before .before .before .before .before .before .before .open-field .ensures in
-    let inside = open-members h (o .0) (o .1) (not-false _ (c .before .before .before .if2 .left)) (c .before .if3 .left) in
-    (omega (arith, c .before .before .before .before .before .before .before .before .before .before .before .before .before .before .before .before .before .pre .0, depth-some _ _ _ (h .stands)), (inside .0, (h .noted, rw (c .before .before .at-place .ensures) (inside .1))))
+  -- What is known at them
 
--- what the fields inside did, members or elements
-field-closed : (t : ℕ) (c : In-read-field t read-field-lts.Joined3) →
-    let a = c .before .before .before .before .before .before .before .before .before .before .before .before .before .before .before .before .args in
-    Closed (call (a .stream .now) (a .uuid .now) (a .frame) (classRead (a .left) (a .table .now) (a .at)) (a .st) (a .t10) (a .list .now))
-    (c .if3 .list) (c .if3 .r)
-field-closed t c =
-    let h = field-holder t (c .before .before .before .before .before .before .before .before) in
-    let o = c .before .before .before .before .before .before .open-field .ensures in
-    let on = not-false _ (c .before .before .if2 .left) in
-    let at = c .before .at-place .ensures in
-    ⊎-elim
-    (λ y. rw (y .5, y .6) (elements-open h (o .0) (o .1) on (y .0 .taken) (rw (at) at (y .2 .ensures))))
-    (λ y. rw (y .5, y .6) (members-open h (o .0) (o .1) on (y .0 .left) (rw (at) at (y .2 .ensures))))
-    (c .if3 .came)
+  field-holder : (c : AtMet) →
+      let a = met-given c .args in
+      Holds.Holder (a .stream .now) (a .uuid .now) (a .frame) (a .table .now) (notes (a .sizes .now) (a .aligns .now)) (a .left) (a .at)
+      (c .if1 .content) (a .st) (a .t10) (a .list .now)
+  unfolding slotAt
+  field-holder c =
+      let s = met-given c in
+      let p = s .pre .1 in
+      let many = s .good .1 .1 .1 .1 .1 .1 .1 .1 .1 .0 .1 .0 .1 in
+      record {
+        stands = p .0;
+        holds = p .1 .0 .0;
+        room = p .1 .0 .1;
+        small = omega (arith, s .good .1 .1 .1 .1 .1 .1 .1 .1 .1 .1 .0);
+        noted = p .1 .1 .0;
+        framed = p .1 .1 .1;
+        many = many;
+        told = content-met (s .args .t10) many (c .before .slot-read .ensures .0) (λ y. y .2) (λ y. (y .0 .left, y .1)) (c .if1 .came);
+      }
 
-read-field-behind-entry-requires : (t : ℕ) → In-read-field t read-field-lts.Need-behind-entry-requires
-read-field-behind-entry-requires t c κs = omega (arith, field-closed t c .fits)
+  was-opened : (c : AtInside) → inside-entry c .open-field .result .on ≡ true
+  was-opened c = not-false _ (c .before .if2 .left)
 
-read-field-same-length-2 : (t : ℕ) → In-read-field t read-field-lts.Need-same-length-2
-read-field-same-length-2 t c = field-closed t (c .before) .same
+  -- what is inside is lent the list behind its entry
+  entry-fits : (c : AtInside) → 4 ≤ length (inside-entry c .open-field .last .1 .1 .1 .1 .1 .1 .1 .0)
+  entry-fits c = omega (arith, inside-entry c .open-field .kept .1 .1 .1 .1 .1 .1 .1 .0, field-holder (inside-met c) .room)
 
-read-field-returns-2 : (t : ℕ) → In-read-field t read-field-lts.Need-returns-2
-read-field-returns-2 t c = rw (c .behind-entry .ensures) (closed-reads (field-closed t (c .before)))
+  one-depth : (c : AtInside) → 1 ≤ inside-given c .args .left
+  one-depth c = omega (arith, depth-some _ _ _ (field-holder (inside-met c) .stands))
+
+  -- The slot that it reads, and its entry
+
+  read-field-slot-read-requires : In-read-field t read-field-lts.Need-slot-read-requires
+  read-field-slot-read-requires c κs =
+      let p = known-given c .pre .1 in
+      (omega (arith, p .1 .0 .0), kind-high _ _ _ (p .0), slot-within _ _ _ (p .0) (p .1 .0 .0))
+
+  read-field-mul-slot : In-read-field t read-field-lts.Need-mul-slot
+  read-field-mul-slot c = omega arith
+
+  read-field-array-copy-out-slot : In-read-field t read-field-lts.Need-array-copy-out-slot
+  read-field-array-copy-out-slot c = omega arith
+
+  read-field-open-field-requires : In-read-field t read-field-lts.Need-open-field-requires
+  read-field-open-field-requires c κs =
+      let h = field-holder (c .before) in
+      (can-look h, ((h .framed .begun, omega (arith, h .framed .within, h .framed .ends, h .framed .small)), h .room))
+
+  read-field-refused-requires : In-read-field t read-field-lts.Need-refused-requires
+  read-field-refused-requires c κs = search needs
+
+  read-field-same-length : In-read-field t read-field-lts.Need-same-length
+  read-field-same-length c = c .before .before .before .before .before .open-field .kept .1 .1 .1 .1 .1 .1 .1 .0
+
+  read-field-returns : In-read-field t read-field-lts.Need-returns
+  read-field-returns c =
+      let e = c .before .before .before .before .before in
+      let o = e .open-field .ensures in
+      rw (c .refused .ensures) (open-refused (field-holder (entry-met e)) (o .0) (o .1) (not-true _ (c .before .if2 .taken)))
+
+  -- The fields inside
+
+  read-field-at-place-requires : In-read-field t read-field-lts.Need-at-place-requires
+  read-field-at-place-requires c κs = search needs
+
+  read-field-sub-walk-elements : In-read-field t read-field-lts.Need-sub-walk-elements
+  read-field-sub-walk-elements c = omega (arith, one-depth (c .before))
+
+  read-field-sub-walk-elements-2 : In-read-field t read-field-lts.Need-sub-walk-elements-2
+  read-field-sub-walk-elements-2 c = omega (arith, entry-fits (c .before))
+
+  read-field-part-walk-elements-start : In-read-field t read-field-lts.Need-part-walk-elements-start
+  read-field-part-walk-elements-start c = omega (arith, entry-fits (c .before))
+
+  read-field-part-walk-elements-end : In-read-field t read-field-lts.Need-part-walk-elements-end
+  read-field-part-walk-elements-end c = omega arith
+
+  read-field-walk-elements-requires : In-read-field t read-field-lts.Need-walk-elements-requires
+  read-field-walk-elements-requires c κs =
+      let i = c .before .before in
+      let h = field-holder (inside-met i) in
+      let o = inside-entry i .open-field .ensures in
+      let inside = open-elements h (o .0) (o .1) (was-opened i) (c .before .if3 .taken) in
+      (omega (arith, inside-given i .pre .0, one-depth i), (inside .0, (h .noted, rw (c .before .before .at-place .ensures) (inside .1))))
+
+  read-field-sub-walk-members : In-read-field t read-field-lts.Need-sub-walk-members
+  read-field-sub-walk-members c = omega (arith, one-depth (c .before))
+
+  read-field-sub-walk-members-2 : In-read-field t read-field-lts.Need-sub-walk-members-2
+  read-field-sub-walk-members-2 c = omega (arith, entry-fits (c .before))
+
+  read-field-part-walk-members-start : In-read-field t read-field-lts.Need-part-walk-members-start
+  read-field-part-walk-members-start c = omega (arith, entry-fits (c .before))
+
+  read-field-part-walk-members-end : In-read-field t read-field-lts.Need-part-walk-members-end
+  read-field-part-walk-members-end c = omega arith
+
+  read-field-walk-members-requires : In-read-field t read-field-lts.Need-walk-members-requires
+  read-field-walk-members-requires c κs =
+      let i = c .before .before in
+      let h = field-holder (inside-met i) in
+      let o = inside-entry i .open-field .ensures in
+      let inside = open-members h (o .0) (o .1) (was-opened i) (c .before .if3 .left) in
+      (omega (arith, inside-given i .pre .0, one-depth i), (inside .0, (h .noted, rw (c .before .before .at-place .ensures) (inside .1))))
+
+  -- what they did, members or elements
+  field-closed : (c : AtClosed) →
+      let a = closed-given c .args in
+      Closed (call (a .stream .now) (a .uuid .now) (a .frame) (classRead (a .left) (a .table .now) (a .at)) (a .st) (a .t10) (a .list .now))
+      (c .if3 .list) (c .if3 .r)
+  field-closed c =
+      let i = closed-inside c in
+      let h = field-holder (inside-met i) in
+      let o = inside-entry i .open-field .ensures in
+      let at = c .before .at-place .ensures in
+      ⊎-elim
+      (λ y. closed-same (y .5) (y .6) (elements-open h (o .0) (o .1) (was-opened i) (y .0 .taken) (rw (at) at (y .2 .ensures))))
+      (λ y. closed-same (y .5) (y .6) (members-open h (o .0) (o .1) (was-opened i) (y .0 .left) (rw (at) at (y .2 .ensures))))
+      (c .if3 .came)
+
+  read-field-behind-entry-requires : In-read-field t read-field-lts.Need-behind-entry-requires
+  read-field-behind-entry-requires c κs = omega (arith, field-closed c .fits)
+
+  read-field-same-length-2 : In-read-field t read-field-lts.Need-same-length-2
+  read-field-same-length-2 c = field-closed (c .before) .same
+
+  read-field-returns-2 : In-read-field t read-field-lts.Need-returns-2
+  read-field-returns-2 c = rw (c .behind-entry .ensures) (closed-reads (field-closed (c .before)))
+
+-- walk
 
 abbrev walk-calls : ℕ → walk-lts.Claims
 walk-calls t = (
@@ -306,613 +387,922 @@ walk-calls t = (
 )
 
 abbrev walk-Inv-loop : walk-lts.InvT-loop
-walk-Inv-loop table sizes aligns uuid stream frame left st given list₀ state₀ place₀ order₀ slots₀ used₀ run₀ list state place order slots used run =
+walk-Inv-loop table sizes aligns uuid stream frame left st given list₀ state₀ place₀ order₀ slots₀ used₀ run₀ list state place order slots
+    used run =
     (length given ≡ slotCount)
     × Round (walkLoop stream uuid frame left table (notes sizes aligns) run₀ st given list₀) run list used (stateAt place order state) slots
 
 abbrev walk-μ-loop : walk-lts.MeasureT-loop
-walk-μ-loop table sizes aligns uuid stream frame left st given list₀ state₀ place₀ order₀ slots₀ used₀ run₀ list state place order slots used run =
-    workLeft (length list) used 0
+walk-μ-loop table sizes aligns uuid stream frame left st given list₀ state₀ place₀ order₀ slots₀ used₀ run₀ list state place order slots
+    used run = workLeft (length list) used 0
 
 abbrev In-walk : (t : ℕ)
-    → (walk-lts.Claims → In 6 walk-kinds.ps → Out 6 walk-kinds.ps walk-kinds.r → walk-lts.InvT-loop → walk-lts.MeasureT-loop → Type 0) → Type 0
+    → (walk-lts.Claims → In 6 walk-kinds.ps → Out 6 walk-kinds.ps walk-kinds.r → walk-lts.InvT-loop → walk-lts.MeasureT-loop → Type 0)
+    → Type 0
 In-walk t N = N (walk-calls t) (walk-at t) walk.Post walk-Inv-loop walk-μ-loop
 
--- Places: a round's start, where something is left
-abbrev AtRound : ℕ → Type 0
-AtRound t = In-walk t walk-lts.Else1
-
-abbrev walk-of : (t : ℕ) → AtRound t → Loop
-walk-of t c =
-    let a = c .before .before .before .before .before .before .before .before .before .before .before .args in
-    walkLoop (a .stream .now) (a .uuid .now) (a .frame) (a .left) (a .table .now) (notes (a .sizes .now) (a .aligns .now)) (a .begun) (a .st)
-    (a .given) (a .list .now)
-
-round : (t : ℕ) (c : AtRound t) →
-    let l = c .before .before .before .loop in
-    Round (walk-of t c) (c .before .before .forward .result) (l .list) (l .used) (stateAt (l .place) (l .order) (l .state)) (l .slots)
-round t c =
-    let i = c .before .before .before .loop .inv .1 in
-    rw (c .before .before .forward .ensures) (same-round (forward-same _ _ _ (i .stands)) i)
-
-some-left : (t : ℕ) (c : AtRound t) → 0 < countOf (c .before .before .forward .result)
-some-left t c =
-    rw (c .before .before .forward .ensures)
-    (forward-some _ (rw (c .before .before .forward .ensures) at (sym (c .before .is-over .ensures) ∙ c .if1 .left)))
-
-within : (t : ℕ) (c : AtRound t) →
-    let l = c .before .before .before .loop in
-    let ws = c .before .before .before .before .before .before .before .before .before .before .before .args .list .now in
-    (l .used ≤ length (l .list)) × (length (l .list) ≡ length ws) × (8 * length ws < 2 ^ 63)
-within t c =
-    let p = c .before .before .before .loop .inv .1 .part in
-    (omega (arith, part-length p, p .room), part-length p, omega (arith, c .before .before .before .before .before .before .before .before .before .before .before .good .1 .1 .1 .1 .1 .1 .1 .1 .1 .1 .0))
-
-bytes : (t : ℕ) (c : AtRound t) → Bytes (c .before .before .before .before .before .before .before .before .before .before .before .args .stream .now)
-bytes t c i = omega (arith, c .before .before .before .before .before .before .shared-slice-known5 .given i)
-
-walk-loop-holds : (t : ℕ) → In-walk t walk-lts.Need-loop-holds
-walk-loop-holds t c =
-    let a = c .before .before .before .before .before .before .before in
-    let many = a .good .1 .1 .1 .1 .1 .1 .1 .1 .1 .0 .1 .0 .1 in
-    (many, walk-start _ _ _ _ _ _ _ _ _ _ (a .pre .1 .0) (a .pre .1 .1 .0) (a .pre .1 .1 .1) many)
-
-walk-forward-requires : (t : ℕ) → In-walk t walk-lts.Need-forward-requires
-walk-forward-requires t c κs = search needs
-
-walk-is-over-requires : (t : ℕ) → In-walk t walk-lts.Need-is-over-requires
-walk-is-over-requires t c κs = search needs
-
-walk-at-requires : (t : ℕ) → In-walk t walk-lts.Need-at-requires
-walk-at-requires t c κs = search needs
-
-walk-same-length : (t : ℕ) → In-walk t walk-lts.Need-same-length
-walk-same-length t c = part-length (c .before .before .before .before .loop .inv .1 .part)
-
-walk-returns : (t : ℕ) → In-walk t walk-lts.Need-returns
-walk-returns t c =
-    let i = c .before .before .before .before .loop .inv .1 in
-    rw (c .at .ensures) (walk-end _ _ _ _ _ _ _ _ _ _ (same-round (forward-same _ _ _ (i .stands)) i)
-    (rw (c .before .before .before .forward .ensures) at (sym (c .before .before .is-over .ensures) ∙ c .before .if1 .taken)))
-
-walk-sub-if2 : (t : ℕ) → In-walk t walk-lts.Need-sub-if2
-walk-sub-if2 t c = within t c .0
-
-walk-refused-requires : (t : ℕ) → In-walk t walk-lts.Need-refused-requires
-walk-refused-requires t c κs = search needs
-
-walk-same-length-2 : (t : ℕ) → In-walk t walk-lts.Need-same-length-2
-walk-same-length-2 t c = part-length (c .before .before .before .before .before .loop .inv .1 .part)
-
-walk-returns-2 : (t : ℕ) → In-walk t walk-lts.Need-returns-2
-walk-returns-2 t c =
-    let k = c .before .before in
-    rw (c .refused .ensures) (walk-stopped _ _ _ _ _ _ _ _ _ (c .before .before .before .before .before .loop .inv .0) (round-full (round t k) (some-left t k) (c .before .if2 .taken)))
-
-walk-first-requires : (t : ℕ) → In-walk t walk-lts.Need-first-requires
-walk-first-requires t c κs = search needs
-
-walk-shared-slice-read-kind : (t : ℕ) → In-walk t walk-lts.Need-shared-slice-read-kind
-walk-shared-slice-read-kind t c =
-    let k = c .before .before .before in
-    rw (c .before .first .ensures) (whole-inside _ _ _ (first-there (round t k) (some-left t k)))
-
-walk-leaf-slot-requires : (t : ℕ) → In-walk t walk-lts.Need-leaf-slot-requires
-unfolding u8
-walk-leaf-slot-requires t c κs =
-    let k = c .before .before .before .before in
-    rw (c .before .before .first .ensures) (leaf-whole _ _ _ (first-there (round t k) (some-left t k)) (rw (c .before .before .first .ensures) at (c .if3 .taken)), rw (c .before .before .first .ensures) at (c .if3 .taken))
-
-walk-mul-slot : (t : ℕ) → In-walk t walk-lts.Need-mul-slot
-walk-mul-slot t c = omega arith
-
-walk-array-copy-out-slot : (t : ℕ) → In-walk t walk-lts.Need-array-copy-out-slot
-walk-array-copy-out-slot t c = omega arith
-
-walk-count-requires : (t : ℕ) → In-walk t walk-lts.Need-count-requires
-walk-count-requires t c κs = search needs
-
-walk-is-element-requires : (t : ℕ) → In-walk t walk-lts.Need-is-element-requires
-walk-is-element-requires t c κs = search needs
-
--- the content of the slot that the leaf reads
-leaf-told : (t : ℕ) (c : In-walk t walk-lts.Joined4) → slotAt (c .before .before .before .before .before .before .before .before .before .loop .slots) (leafSlot (c .before .before .before .before .before .before .before .before .before .before .before .before .before .before .before .before .before .args .table .now) (c .before .before .before .before .first .result)) ≡ c .if4 .content
-unfolding slotAt
-leaf-told t c =
-    let l = c .before .before .before .before .before .before .before .before .before .loop in
-    content-met (l .slots) (l .inv .1 .many) (c .before .leaf-slot .ensures) (λ y. y .2) (λ y. (y .0 .left, y .1)) (c .if4 .came)
-
-walk-mul-read-leaves : (t : ℕ) → In-walk t walk-lts.Need-mul-read-leaves
-walk-mul-read-leaves t c = omega (arith, within t (c .before .before .before .before .before .before .before .before))
-
-walk-sub-read-leaves : (t : ℕ) → In-walk t walk-lts.Need-sub-read-leaves
-walk-sub-read-leaves t c = omega (arith, within t (c .before .before .before .before .before .before .before .before))
-
-walk-part-read-leaves-start : (t : ℕ) → In-walk t walk-lts.Need-part-read-leaves-start
-walk-part-read-leaves-start t c = omega (arith, within t (c .before .before .before .before .before .before .before .before))
-
-walk-part-read-leaves-end : (t : ℕ) → In-walk t walk-lts.Need-part-read-leaves-end
-walk-part-read-leaves-end t c = omega arith
-
-walk-read-leaves-requires : (t : ℕ) → In-walk t walk-lts.Need-read-leaves-requires
-unfolding u8
-walk-read-leaves-requires t c κs =
-    let k = c .before .before .before .before .before .before .before .before .before in
-    let l = k .before .before .before .loop in
-    let h = round t k in
-    let first = c .before .before .before .before .before .before .before .first .ensures in
-    let kind = rw (first) at (c .before .before .before .before .before .if3 .taken) in
-    let told = leaf-told t (c .before .before .before) in
-    let noted = h .noted in
-    rw (c .before .is-element .ensures, first, c .before .before .count .ensures) (
-      record { depth = _; stands = sort-stands _ _ _ (h .stands) (some-left t k) },
-      (
-        (kind, omega (arith, some-left t k), omega (arith, lent-room (l .used) (l .list), c .before .before .before .before .before .before .before .before .if2 .left)),
-        ((noted .sized .room, λ d p v. noted .classes d p v .size), (h .framed, past-unset (l .slots) _ (h .many) (rw (first) at told))),
-      ),
-    )
-
--- what the leaves did
-abbrev AtLeaves : ℕ → Type 0
-AtLeaves t = In-walk t walk-lts.After-read-leaves
-
-leaves : (t : ℕ) (c : AtLeaves t) →
-    let k = c .before .before .before .before .before .before .before .before .before .before in
-    let l = k .before .before .before .loop in
-    LeavesRound (walk-of t k) (k .before .before .forward .result) (l .list) (l .used) (stateAt (l .place) (l .order) (l .state)) (l .slots)
-    (c .read-leaves .result) (c .read-leaves .last .1 .1 .1 .1 .1 .1 .1 .1 .1 .1 .1 .0)
-unfolding u8
-leaves t c =
-    let k = c .before .before .before .before .before .before .before .before .before .before in
-    let first = c .before .before .before .before .before .before .before .before .first .ensures in
-    let kind = rw (first) at (c .before .before .before .before .before .before .if3 .taken) in
-    let told = rw (first) at (leaf-told t (c .before .before .before .before)) in
-    let did = rw (c .before .before .is-element .ensures, first, c .before .before .before .count .ensures) at (c .read-leaves .ensures) in
-    leaves-round (round t k) (some-left t k) (bytes t k) _ kind (c .before .before .before .before .before .before .before .before .before .if2 .left) told (did .0) (did .1)
-
-walk-add-used : (t : ℕ) → In-walk t walk-lts.Need-add-used
-walk-add-used t c = omega (arith, leaves t (c .before .before .before) .room, within t (c .before .before .before .before .before .before .before .before .before .before .before .before .before))
-
-walk-refused-requires-2 : (t : ℕ) → In-walk t walk-lts.Need-refused-requires-2
-walk-refused-requires-2 t c κs = search needs
-
-walk-same-length-3 : (t : ℕ) → In-walk t walk-lts.Need-same-length-3
-walk-same-length-3 t c = leaves t (c .before .before .before .before .before .before .before) .same
-
-walk-returns-3 : (t : ℕ) → In-walk t walk-lts.Need-returns-3
-walk-returns-3 t c =
-    let y = leaves t (c .before .before .before .before .before .before .before) in
-    rw (c .refused2 .ensures) (walk-stopped _ _ _ _ _ _ _ _ _ (c .before .before .before .before .before .before .before .before .before .before .before .before .before .before .before .before .before .before .before .before .loop .inv .0) (y .stops (not-true _ (c .before .if5 .taken))))
-
-walk-behind-requires : (t : ℕ) → In-walk t walk-lts.Need-behind-requires
-walk-behind-requires t c κs =
-    let k = c .before .before .before .before .before .before .before .before .before .before .before .before .before .before .before .before in
-    let there = whole-inside _ _ _ (leaves t (c .before .before .before .before .before .before) .stand (not-false _ (c .if5 .left))) in
-    (omega (arith, there, round t k .noted .sized .room), omega (arith, there, k .before .before .before .before .before .before .before .before .before .before .before .good .0))
-
-walk-cast-to : (t : ℕ) → In-walk t walk-lts.Need-cast-to
-walk-cast-to t c = omega arith
-
-walk-shared-slice-read-content-of : (t : ℕ) → In-walk t walk-lts.Need-shared-slice-read-content-of
-walk-shared-slice-read-content-of t c = whole-inside _ _ _ (leaves t (c .before .before .before .before .before .before .before .before .before .before) .stand (not-false _ (c .before .before .before .before .if5 .left)))
-
-walk-content-of-requires : (t : ℕ) → In-walk t walk-lts.Need-content-of-requires
-walk-content-of-requires t c κs = search needs
-
-walk-mul-slots : (t : ℕ) → In-walk t walk-lts.Need-mul-slots
-walk-mul-slots t c = omega arith
-
-walk-array-set-from-slots : (t : ℕ) → In-walk t walk-lts.Need-array-set-from-slots
-walk-array-set-from-slots t c = omega arith
-
--- the slots behind the leaves, as they are told and joined
-leaves-due : (t : ℕ) (c : In-walk t walk-lts.Joined6) →
-    let k = c .before .before .before .before .before .before .before .before .before .before .before .before .before .before .before .before .before .before .before in
-    let l = k .before .before .before .loop in
-    let y = c .before .before .before .before .before .before .before .before .before .read-leaves in
-    let q = y .result in
-    let r = c .before .before .behind .result in
-    Kept (walk-of t k) (role (roleOf (q .role)) (q .width) (q .value) ⨾ left (walk-of t k) r) r
-    (merged (l .used) (l .list) (y .last .1 .1 .1 .1 .1 .1 .1 .1 .1 .1 .1 .0)) (l .used + q .used)
-    (stateAt (q .place) (q .order) (l .state)) (c .if6 .slots)
-unfolding u8 setSlot
-leaves-due t c =
-    let k = c .before .before .before .before .before .before .before .before .before .before .before .before .before .before .before .before .before .before .before in
-    let l = k .before .before .before .loop in
-    let q = c .before .before .before .before .before .before .before .before .before .read-leaves .result in
-    let on = not-false _ (c .before .before .before .if5 .left) in
-    let h = stored _ _ (leaves t (c .before .before .before .before .before .before .before .before .before) .goes on) in
-    rw (c .before .before .behind .ensures)
-    (⊎-elim (λ y. rw (y .3, y .2 .ensures) h) (λ y. rw (y .1) (rw (no-slot (l .slots) (q .slot) _ (k .before .before .before .loop .inv .1 .many) (y .0 .left)) at h))
-    (c .if6 .came))
-
-walk-at-requires-2 : (t : ℕ) → In-walk t walk-lts.Need-at-requires-2
-walk-at-requires-2 t c κs = search needs
-
-walk-mul-apply : (t : ℕ) → In-walk t walk-lts.Need-mul-apply
-walk-mul-apply t c = omega (arith, leaves t (c .before .before .before .before .before .before .before .before .before .before .before) .room, within t (c .before .before .before .before .before .before .before .before .before .before .before .before .before .before .before .before .before .before .before .before .before))
-
-walk-sub-apply : (t : ℕ) → In-walk t walk-lts.Need-sub-apply
-walk-sub-apply t c = omega (arith, leaves t (c .before .before .before .before .before .before .before .before .before .before .before) .room, within t (c .before .before .before .before .before .before .before .before .before .before .before .before .before .before .before .before .before .before .before .before .before))
-
-walk-part-apply-start : (t : ℕ) → In-walk t walk-lts.Need-part-apply-start
-walk-part-apply-start t c = omega (arith, leaves t (c .before .before .before .before .before .before .before .before .before .before .before) .room, within t (c .before .before .before .before .before .before .before .before .before .before .before .before .before .before .before .before .before .before .before .before .before))
-
-walk-part-apply-end : (t : ℕ) → In-walk t walk-lts.Need-part-apply-end
-walk-part-apply-end t c = omega arith
-
-walk-apply-requires : (t : ℕ) → In-walk t walk-lts.Need-apply-requires
-walk-apply-requires t c κs = leaves t (c .before .before .before .before .before .before .before .before .before .before .before .before) .stamp (not-false _ (c .before .before .before .before .before .before .if5 .left))
-
--- what the last leaf's role did
-applied : (t : ℕ) (c : In-walk t walk-lts.After-apply) →
-    let k = c .before .before .before .before .before .before .before .before .before .before .before .before .before .before .before .before .before .before .before .before .before .before .before in
-    let l = k .before .before .before .loop in
-    let y = c .before .before .before .before .before .before .before .before .before .before .before .before .before .read-leaves in
-    let q = y .result in
-    let r = c .before .before .before .before .before .before .behind .result in
-    RoleRound (walk-of t k) (left (walk-of t k) r) r (merged (l .used) (l .list) (y .last .1 .1 .1 .1 .1 .1 .1 .1 .1 .1 .1 .0)) (l .used + q .used)
-    (stateAt (q .place) (q .order) (l .state)) (c .before .before .before .before .if6 .slots) (c .apply .result) (c .apply .last .1 .1 .1 .1 .0)
-applied t c = role-round _ _ _ (leaves-due t (c .before .before .before .before)) (rw (c .before .before .at2 .ensures) at (c .apply .ensures))
-
-walk-add-used-2 : (t : ℕ) → In-walk t walk-lts.Need-add-used-2
-walk-add-used-2 t c = omega (arith, applied t (c .before .before .before) .room, within t (c .before .before .before .before .before .before .before .before .before .before .before .before .before .before .before .before .before .before .before .before .before .before .before .before .before .before))
-
-walk-enum-known-went : (t : ℕ) → In-walk t walk-lts.Need-enum-known-went
-walk-enum-known-went t c = search needs
-
-walk-stopped-requires : (t : ℕ) → In-walk t walk-lts.Need-stopped-requires
-walk-stopped-requires t c κs = search needs
-
-walk-same-length-4 : (t : ℕ) → In-walk t walk-lts.Need-same-length-4
-walk-same-length-4 t c = applied t (c .before .before .before .before .before .before .before) .same
-
-walk-returns-4 : (t : ℕ) → In-walk t walk-lts.Need-returns-4
-walk-returns-4 t c =
-    rw (c .stopped .ensures) (walk-stopped _ _ _ _ _ _ _ _ _ (c .before .before .before .before .before .before .before .before .before .before .before .before .before .before .before .before .before .before .before .before .before .before .before .before .before .before .before .before .before .before .before .before .before .loop .inv .0) (applied t (c .before .before .before .before .before .before .before) .stops _ (c .before .before .went .given .1)))
-
-walk-enum-told : (t : ℕ) → In-walk t walk-lts.Need-enum-told
-walk-enum-told t c = search needs
-
-walk-loop-less : (t : ℕ) → In-walk t walk-lts.Need-loop-less
-walk-loop-less t c =
-    let l = c .before .before .before .before .before .before .before .before .before .before .before .before .before .before .before .before .before .before .before .before .before .before .before .before .before .before .before .before .before .before .before .before .loop in
-    let y = leaves t (c .before .before .before .before .before .before .before .before .before .before .before .before .before .before .before .before .before .before .before) in
-    let used = l .used + c .before .before .before .before .before .before .before .before .before .before .before .before .before .before .before .before .before .before .before .read-leaves .result .used + c .before .before .before .before .before .before .apply .result .used in
-    round-falls (length (l .list)) _ (l .used) used 0 0 (applied t (c .before .before .before .before .before .before) .same ∙ sym (within t (c .before .before .before .before .before .before .before .before .before .before .before .before .before .before .before .before .before .before .before .before .before .before .before .before .before .before .before .before .before) .1))
-    (omega (arith, applied t (c .before .before .before .before .before .before) .room, within t (c .before .before .before .before .before .before .before .before .before .before .before .before .before .before .before .before .before .before .before .before .before .before .before .before .before .before .before .before .before) .1)) (omega (arith, y .some (not-false _ (c .before .before .before .before .before .before .before .before .before .before .before .before .before .if5 .left))))
-
-walk-loop-again : (t : ℕ) → In-walk t walk-lts.Need-loop-again
-walk-loop-again t c =
-    (c .before .before .before .before .before .before .before .before .before .before .before .before .before .before .before .before .before .before .before .before .before .before .before .before .before .before .before .before .before .before .before .before .loop .inv .0, applied t (c .before .before .before .before .before .before) .goes (c .before .enum-told .given .1))
-
-walk-loop-less-2 : (t : ℕ) → In-walk t walk-lts.Need-loop-less-2
-walk-loop-less-2 t c =
-    let l = c .before .before .before .before .before .before .before .before .before .before .before .before .before .before .before .before .before .before .before .before .before .before .before .loop in
-    let y = leaves t (c .before .before .before .before .before .before .before .before .before .before) in
-    round-falls (length (l .list)) _ (l .used) (l .used + c .before .before .before .before .before .before .before .before .before .before .read-leaves .result .used) 0 0 (y .same ∙ sym (within t (c .before .before .before .before .before .before .before .before .before .before .before .before .before .before .before .before .before .before .before .before) .1))
-    (omega (arith, y .room, within t (c .before .before .before .before .before .before .before .before .before .before .before .before .before .before .before .before .before .before .before .before) .1)) (omega (arith, y .some (not-false _ (c .before .before .before .before .if5 .left))))
-
-walk-loop-again-2 : (t : ℕ) → In-walk t walk-lts.Need-loop-again-2
-walk-loop-again-2 t c =
-    (c .before .before .before .before .before .before .before .before .before .before .before .before .before .before .before .before .before .before .before .before .before .before .before .loop .inv .0, no-role _ _ _ (c .if7 .left) (leaves-due t (c .before)))
-
--- a field that holds others, taken as a member
-abbrev AtHolder : ℕ → Type 0
-AtHolder t = In-walk t walk-lts.After-taken
-
-holder-round : (t : ℕ) (c : AtHolder t) →
-    let k = c .before .before .before .before .before in
-    let l = k .before .before .before .loop in
-    Round (walk-of t k) (c .taken .result) (l .list) (l .used) (stateAt (l .place) (l .order) (l .state)) (l .slots)
-holder-round t c =
-    let k = c .before .before .before .before .before in
-    rw (c .taken .ensures) (same-round (taken-same _ _ _ (round t k .stands) (some-left t k)) (round t k))
-
-holder-next : (t : ℕ) (c : AtHolder t) → (0 < c .taken .result .todo) × (c .taken .result .next ≡ c .before .before .before .first .result)
-holder-next t c = rw (c .taken .ensures, c .before .before .before .first .ensures) (taken-first 0 [] _ (some-left t (c .before .before .before .before .before)))
-
-holder-there : (t : ℕ) (c : AtHolder t) → whole (c .before .before .before .before .before .before .before .before .before .before .before .before .before .before .before .before .args .left) (c .before .before .before .before .before .before .before .before .before .before .before .before .before .before .before .before .args .table .now) (c .before .before .before .first .result)
-holder-there t c = rw (c .before .before .before .first .ensures) (first-there (round t (c .before .before .before .before .before)) (some-left t (c .before .before .before .before .before)))
-
-holder : (t : ℕ) (c : AtHolder t) (x : Content) →
-    let k = c .before .before .before .before .before in
-    let l = k .before .before .before .loop in
-    slotAt (l .slots) (slotReadAt (k .before .before .before .before .before .before .before .before .before .before .before .args .table .now) (c .before .before .before .first .result)) ≡ x
-    → Holder (walk-of t k) (c .taken .result) (l .list) (l .used) (stateAt (l .place) (l .order) (l .state)) (l .slots) x
-unfolding u8
-holder t c x told =
-    let next = holder-next t c in
-    record {
-      round = holder-round t c;
-      some = next .0;
-      kind = rw (next .1) (c .before .if3 .left);
-      room = c .before .before .before .before .if2 .left;
-      told = rw (next .1) told;
-    }
-
-walk-taken-requires : (t : ℕ) → In-walk t walk-lts.Need-taken-requires
-walk-taken-requires t c κs = some-left t (c .before .before .before .before)
-
-walk-mul-enter-structure : (t : ℕ) → In-walk t walk-lts.Need-mul-enter-structure
-walk-mul-enter-structure t c = omega (arith, within t (c .before .before .before .before .before .before))
-
-walk-sub-enter-structure : (t : ℕ) → In-walk t walk-lts.Need-sub-enter-structure
-walk-sub-enter-structure t c = omega (arith, within t (c .before .before .before .before .before .before))
-
-walk-part-enter-structure-start : (t : ℕ) → In-walk t walk-lts.Need-part-enter-structure-start
-walk-part-enter-structure-start t c = omega (arith, within t (c .before .before .before .before .before .before))
-
-walk-part-enter-structure-end : (t : ℕ) → In-walk t walk-lts.Need-part-enter-structure-end
-walk-part-enter-structure-end t c = omega arith
-
-walk-enter-structure-requires : (t : ℕ) → In-walk t walk-lts.Need-enter-structure-requires
-unfolding u8
-walk-enter-structure-requires t c κs =
-    let k = c .before .before in
-    let h = holder-round t k in
-    let there = holder-there t k in
-    let o = opens _ _ (h .noted) _ _ there (k .before .if3 .left) in (
-      (slot-within _ _ _ there (k .before .if3 .left), omega (arith, whole-inside _ _ _ there, o .aligns), o .align),
-      (
-        (h .framed .begun, omega (arith, h .framed .within, h .framed .ends, h .framed .small)),
-        omega (arith, lent-room (k .before .before .before .before .before .before .before .before .loop .used) (k .before .before .before .before .before .before .before .before .loop .list), k .before .before .before .before .if2 .left),
-      ),
-    )
-
--- a structure that was entered
-structure : (t : ℕ) (c : In-walk t walk-lts.After-enter-structure) →
-    let k = c .before .before .before .before .before .before .before .before in
-    let l = k .before .before .before .loop in
-    EnterRound (walk-of t k) (c .before .before .before .taken .result) (l .list) (l .used) (stateAt (l .place) (l .order) (l .state)) (l .slots)
-    (c .enter-structure .result) (c .enter-structure .last .1 .1 .1 .1 .1 .0)
-unfolding u8
-structure t c =
-    let h = c .before .before .before in
-    let next = holder-next t h .1 in
-    let did = rw (sym next) at (c .enter-structure .ensures) in
-    enter-round (holder t h _ refl) (rw (next) (c .before .before .if8 .taken)) (did .0) (did .1)
-
-walk-refused-requires-3 : (t : ℕ) → In-walk t walk-lts.Need-refused-requires-3
-walk-refused-requires-3 t c κs = search needs
-
-walk-same-length-5 : (t : ℕ) → In-walk t walk-lts.Need-same-length-5
-walk-same-length-5 t c = structure t (c .before .before .before .before .before) .same
-
-walk-returns-5 : (t : ℕ) → In-walk t walk-lts.Need-returns-5
-walk-returns-5 t c =
-    let y = structure t (c .before .before .before .before .before) in
-    rw (c .refused3 .ensures) (walk-stopped _ _ _ _ _ _ _ _ _ (c .before .before .before .before .before .before .before .before .before .before .before .before .before .before .before .before .loop .inv .0)
-    (y .stops (not-true _ (c .before .if9 .taken))))
-
-walk-add-opened : (t : ℕ) → In-walk t walk-lts.Need-add-opened
-unfolding u8
-walk-add-opened t c =
-    let there = holder-there t (c .before .before .before .before .before .before .before .before) in
-    omega (arith, slot-within _ _ _ there (c .before .before .before .before .before .before .before .before .before .if3 .left), c .before .before .before .before .before .before .before .before .before .before .before .before .before .before .before .before .before .before .before .before .before .before .before .before .good .0)
-
-walk-add-wide : (t : ℕ) → In-walk t walk-lts.Need-add-wide
-unfolding u8
-walk-add-wide t c =
-    let there = holder-there t (c .before .before .before .before .before .before .before .before) in
-    omega (arith, slot-within _ _ _ there (c .before .before .before .before .before .before .before .before .before .if3 .left), c .before .before .before .before .before .before .before .before .before .before .before .before .before .before .before .before .before .before .before .before .before .before .before .before .good .0)
-
-walk-shared-slice-read-wide : (t : ℕ) → In-walk t walk-lts.Need-shared-slice-read-wide
-unfolding u8
-walk-shared-slice-read-wide t c =
-    let there = holder-there t (c .before .before .before .before .before .before .before .before .before) in
-    omega (arith, slot-within _ _ _ there (c .before .before .before .before .before .before .before .before .before .before .if3 .left))
-
-walk-wide-requires : (t : ℕ) → In-walk t walk-lts.Need-wide-requires
-walk-wide-requires t c κs = search needs
-
-walk-opened-requires : (t : ℕ) → In-walk t walk-lts.Need-opened-requires
-walk-opened-requires t c κs =
-    let h = holder-round t (c .before .before .before .before .before .before .before .before .before .before) in
-    let some = holder-next t (c .before .before .before .before .before .before .before .before .before .before) .0 in
-    (some, omega (arith, members-few _ _ _ _ (h .stands .members), c .wide .ensures .1, c .before .before .before .before .before .before .before .before .before .before .before .before .before .before .before .before .before .before .before .before .before .before .before .before .before .before .good .0))
-
-walk-add-used-3 : (t : ℕ) → In-walk t walk-lts.Need-add-used-3
-walk-add-used-3 t c = omega (arith, within t (c .before .before .before .before .before .before .before .before .before .before .before .before .before .before .before .before), c .before .before .before .before .before .before .before .before .before .before .before .before .before .before .before .if2 .left)
-
-walk-loop-less-3 : (t : ℕ) → In-walk t walk-lts.Need-loop-less-3
-walk-loop-less-3 t c =
-    let l = c .before .before .before .before .before .before .before .before .before .before .before .before .before .before .before .before .before .before .before .loop in
-    round-falls (length (l .list)) _ (l .used) (l .used + 4) 0 0 (structure t (c .before .before .before .before .before .before .before .before) .same ∙ sym (within t (c .before .before .before .before .before .before .before .before .before .before .before .before .before .before .before .before) .1))
-    (omega (arith, c .before .before .before .before .before .before .before .before .before .before .before .before .before .before .before .if2 .left)) (omega arith)
-
-walk-loop-again-3 : (t : ℕ) → In-walk t walk-lts.Need-loop-again-3
-unfolding u8
-walk-loop-again-3 t c =
-    let h = c .before .before .before .before .before .before .before .before .before .before .before in
-    let next = holder-next t h .1 in
-    let went = structure t (c .before .before .before .before .before .before .before .before) .goes (not-false _ (c .before .before .before .before .if9 .left)) in
-    (c .before .before .before .before .before .before .before .before .before .before .before .before .before .before .before .before .before .before .before .loop .inv .0, rw (c .opened .ensures, c .before .wide .ensures .0, sym next) went)
-
-walk-slot-read-requires : (t : ℕ) → In-walk t walk-lts.Need-slot-read-requires
-unfolding u8
-walk-slot-read-requires t c κs =
-    let k = c .before in
-    let there = holder-there t k in
-    (omega (arith, k .before .if3 .left), kind-high _ _ _ there, slot-within _ _ _ there (k .before .if3 .left))
-
-walk-mul-slot-2 : (t : ℕ) → In-walk t walk-lts.Need-mul-slot-2
-walk-mul-slot-2 t c = omega arith
-
-walk-array-copy-out-slot-2 : (t : ℕ) → In-walk t walk-lts.Need-array-copy-out-slot-2
-walk-array-copy-out-slot-2 t c = omega arith
-
--- the content of the slot that the field reads
-holder-told : (t : ℕ) (c : In-walk t walk-lts.Joined10) →
-    slotAt (c .before .before .before .before .before .before .before .before .before .before .before .loop .slots) (slotReadAt (c .before .before .before .before .before .before .before .before .before .before .before .before .before .before .before .before .before .before .before .args .table .now) (c .before .before .before .before .before .before .first .result)) ≡ c .if10 .content
-unfolding slotAt
-holder-told t c =
-    let l = c .before .before .before .before .before .before .before .before .before .before .before .loop in
-    content-met (l .slots) (l .inv .1 .many) (c .before .slot-read .ensures .0) (λ y. y .2) (λ y. (y .0 .left, y .1)) (c .if10 .came)
-
-walk-is-open-requires : (t : ℕ) → In-walk t walk-lts.Need-is-open-requires
-walk-is-open-requires t c κs = search needs
-
-walk-mul-open-field : (t : ℕ) → In-walk t walk-lts.Need-mul-open-field
-walk-mul-open-field t c = omega (arith, within t (c .before .before .before .before .before .before .before .before .before .before))
-
-walk-sub-open-field : (t : ℕ) → In-walk t walk-lts.Need-sub-open-field
-walk-sub-open-field t c = omega (arith, within t (c .before .before .before .before .before .before .before .before .before .before))
-
-walk-part-open-field-start : (t : ℕ) → In-walk t walk-lts.Need-part-open-field-start
-walk-part-open-field-start t c = omega (arith, within t (c .before .before .before .before .before .before .before .before .before .before))
-
-walk-part-open-field-end : (t : ℕ) → In-walk t walk-lts.Need-part-open-field-end
-walk-part-open-field-end t c = omega arith
-
-walk-open-field-requires : (t : ℕ) → In-walk t walk-lts.Need-open-field-requires
-unfolding u8
-walk-open-field-requires t c κs =
-    let k = c .before .before .before .before .before .before in
-    let h = holder-round t k in (
-      opens _ _ (h .noted) _ _ (holder-there t k) (k .before .if3 .left),
-      (
-        (h .framed .begun, omega (arith, h .framed .within, h .framed .ends, h .framed .small)),
-        omega (arith, lent-room (k .before .before .before .before .before .before .before .before .loop .used) (k .before .before .before .before .before .before .before .before .loop .list), k .before .before .before .before .if2 .left),
-      ),
-    )
-
--- a field that was opened
-opening : (t : ℕ) (c : In-walk t walk-lts.After-open-field) →
-    let k = c .before .before .before .before .before .before .before .before .before .before .before .before in
-    let l = k .before .before .before .loop in
-    CodeRound (walk-of t k) (c .before .before .before .before .before .before .before .taken .result) (l .list) (l .used) (stateAt (l .place) (l .order) (l .state)) (l .slots)
-    (c .open-field .result) (c .open-field .last .1 .1 .1 .1 .1 .1 .1 .0)
-unfolding u8
-opening t c =
-    let h = c .before .before .before .before .before .before .before in
-    let next = holder-next t h .1 in
-    let did = rw (sym next) at (c .open-field .ensures) in
-    let free = sym (c .before .before .before .is-open .ensures) ∙ c .before .before .if11 .taken in
-    code-round (holder t h _ (holder-told t (c .before .before .before .before))) (λ x y. sym (open-free _ _ (rw (next) at y)) ∙ free) (did .0) (did .1)
-
-walk-refused-requires-4 : (t : ℕ) → In-walk t walk-lts.Need-refused-requires-4
-walk-refused-requires-4 t c κs = search needs
-
-walk-same-length-6 : (t : ℕ) → In-walk t walk-lts.Need-same-length-6
-walk-same-length-6 t c = opening t (c .before .before .before .before .before) .same
-
-walk-returns-6 : (t : ℕ) → In-walk t walk-lts.Need-returns-6
-walk-returns-6 t c =
-    let y = opening t (c .before .before .before .before .before) in
-    rw (c .refused4 .ensures) (walk-stopped _ _ _ _ _ _ _ _ _ (c .before .before .before .before .before .before .before .before .before .before .before .before .before .before .before .before .before .before .before .before .loop .inv .0)
-    (y .stops (not-true _ (c .before .if12 .taken))))
-
-walk-into-requires : (t : ℕ) → In-walk t walk-lts.Need-into-requires
-walk-into-requires t c κs =
-    let k = c .before .before .before .before .before .before .before .before .before .before .before .before in
-    let h = holder-round t k in
-    let next = holder-next t k in
-    let there = whole-inside _ _ _ (holder-there t k) in (
-      next .0,
-      (λ off. omega (arith, members-few _ _ _ _ (h .stands .members), opening t (c .before .before .before .before .before) .few off, c .before .before .before .before .before .before .before .before .before .before .before .before .before .before .before .before .before .before .before .before .before .before .before .before .before .before .before .before .good .0)),
-      omega (arith, next .1, there, h .noted .sized .room),
-      omega (arith, next .1, there, c .before .before .before .before .before .before .before .before .before .before .before .before .before .before .before .before .before .before .before .before .before .before .before .before .before .before .before .before .good .0),
-    )
-
-walk-add-used-4 : (t : ℕ) → In-walk t walk-lts.Need-add-used-4
-walk-add-used-4 t c = omega (arith, within t (c .before .before .before .before .before .before .before .before .before .before .before .before .before .before .before .before .before .before), c .before .before .before .before .before .before .before .before .before .before .before .before .before .before .before .before .before .if2 .left)
-
-walk-loop-less-4 : (t : ℕ) → In-walk t walk-lts.Need-loop-less-4
-walk-loop-less-4 t c =
-    let l = c .before .before .before .before .before .before .before .before .before .before .before .before .before .before .before .before .before .before .before .before .before .loop in
-    round-falls (length (l .list)) _ (l .used) (l .used + 4) 0 0 (opening t (c .before .before .before .before .before .before) .same ∙ sym (within t (c .before .before .before .before .before .before .before .before .before .before .before .before .before .before .before .before .before .before) .1))
-    (omega (arith, c .before .before .before .before .before .before .before .before .before .before .before .before .before .before .before .before .before .if2 .left)) (omega arith)
-
-walk-loop-again-4 : (t : ℕ) → In-walk t walk-lts.Need-loop-again-4
-unfolding u8
-walk-loop-again-4 t c =
-    let next = holder-next t (c .before .before .before .before .before .before .before .before .before .before .before .before .before) .1 in
-    let went = opening t (c .before .before .before .before .before .before) .goes (not-false _ (c .before .before .if12 .left)) in
-    (c .before .before .before .before .before .before .before .before .before .before .before .before .before .before .before .before .before .before .before .before .before .loop .inv .0, rw (c .into .ensures, sym next) went)
-
-walk-at-requires-3 : (t : ℕ) → In-walk t walk-lts.Need-at-requires-3
-walk-at-requires-3 t c κs = search needs
-
-walk-mul-read-field : (t : ℕ) → In-walk t walk-lts.Need-mul-read-field
-walk-mul-read-field t c = omega (arith, within t (c .before .before .before .before .before .before .before .before .before .before .before))
-
-walk-sub-read-field : (t : ℕ) → In-walk t walk-lts.Need-sub-read-field
-walk-sub-read-field t c = omega (arith, within t (c .before .before .before .before .before .before .before .before .before .before .before))
-
-walk-part-read-field-start : (t : ℕ) → In-walk t walk-lts.Need-part-read-field-start
-walk-part-read-field-start t c = omega (arith, within t (c .before .before .before .before .before .before .before .before .before .before .before))
-
-walk-part-read-field-end : (t : ℕ) → In-walk t walk-lts.Need-part-read-field-end
-walk-part-read-field-end t c = omega arith
-
-walk-read-field-requires : (t : ℕ) → In-walk t walk-lts.Need-read-field-requires
-unfolding u8
-walk-read-field-requires t c κs =
-    let k = c .before .before .before .before .before .before .before in
-    let h = holder-round t k in
-    let kind = k .before .if3 .left in (
-      omega (arith, c .before .before .before .before .before .before .before .before .before .before .before .before .before .before .before .before .before .before .before .before .before .before .before .pre .0),
-      (
-        holder-there t k,
+module _ (t : ℕ) where
+  -- Places of the code: the stream's bytes are known; in front of the loop; a round's start, its run forward; a field left, room for it,
+  -- its class; leaves read, what is due of the last, its role done; a field that holds others, entered, told its slot, opened, or read
+  -- by itself
+
+  abbrev AtStart : Type 0
+  AtStart = In-walk t walk-lts.Start
+
+  abbrev AtStream : Type 0
+  AtStream = In-walk t walk-lts.After-shared-slice-known5
+
+  abbrev AtFront : Type 0
+  AtFront = In-walk t walk-lts.After-place
+
+  abbrev AtLoop : Type 0
+  AtLoop = In-walk t walk-lts.At-loop
+
+  abbrev AtForward : Type 0
+  AtForward = In-walk t walk-lts.After-forward
+
+  abbrev AtField : Type 0
+  AtField = In-walk t walk-lts.Else1
+
+  abbrev AtRoom : Type 0
+  AtRoom = In-walk t walk-lts.Else2
+
+  abbrev AtClass : Type 0
+  AtClass = In-walk t walk-lts.After-first
+
+  abbrev AtLeaf : Type 0
+  AtLeaf = In-walk t walk-lts.Joined4
+
+  abbrev AtLeaves : Type 0
+  AtLeaves = In-walk t walk-lts.After-read-leaves
+
+  abbrev AtBehind : Type 0
+  AtBehind = In-walk t walk-lts.After-behind
+
+  abbrev AtDue : Type 0
+  AtDue = In-walk t walk-lts.Joined6
+
+  abbrev AtApplied : Type 0
+  AtApplied = In-walk t walk-lts.After-apply
+
+  abbrev AtHolder : Type 0
+  AtHolder = In-walk t walk-lts.After-taken
+
+  abbrev AtEntered : Type 0
+  AtEntered = In-walk t walk-lts.After-enter-structure
+
+  abbrev AtTold : Type 0
+  AtTold = In-walk t walk-lts.Joined10
+
+  abbrev AtOpened : Type 0
+  AtOpened = In-walk t walk-lts.After-open-field
+
+  abbrev AtRead : Type 0
+  AtRead = In-walk t walk-lts.After-read-field
+
+  -- and the ways back
+
+  abbrev stream-start : AtStream → AtStart
+  stream-start c = c .before .before .before .before .before
+
+  abbrev front-stream : AtFront → AtStream
+  front-stream c = c .before .before
+
+  abbrev front-start : AtFront → AtStart
+  front-start c = stream-start (front-stream c)
+
+  abbrev loop-front : AtLoop → AtFront
+  loop-front c = c .before
+
+  abbrev loop-stream : AtLoop → AtStream
+  loop-stream c = front-stream (loop-front c)
+
+  abbrev loop-start : AtLoop → AtStart
+  loop-start c = front-start (loop-front c)
+
+  abbrev forward-loop : AtForward → AtLoop
+  forward-loop c = c .before
+
+  abbrev field-forward : AtField → AtForward
+  field-forward c = c .before .before
+
+  abbrev field-loop : AtField → AtLoop
+  field-loop c = forward-loop (field-forward c)
+
+  abbrev room-field : AtRoom → AtField
+  room-field c = c .before
+
+  abbrev class-room : AtClass → AtRoom
+  class-room c = c .before
+
+  abbrev class-field : AtClass → AtField
+  class-field c = room-field (class-room c)
+
+  abbrev class-loop : AtClass → AtLoop
+  class-loop c = field-loop (class-field c)
+
+  abbrev leaf-class : AtLeaf → AtClass
+  leaf-class c = c .before .before .before .before
+
+  abbrev leaf-room : AtLeaf → AtRoom
+  leaf-room c = class-room (leaf-class c)
+
+  abbrev leaf-field : AtLeaf → AtField
+  leaf-field c = class-field (leaf-class c)
+
+  abbrev leaf-loop : AtLeaf → AtLoop
+  leaf-loop c = class-loop (leaf-class c)
+
+  abbrev leaves-leaf : AtLeaves → AtLeaf
+  leaves-leaf c = c .before .before .before .before
+
+  abbrev leaves-class : AtLeaves → AtClass
+  leaves-class c = leaf-class (leaves-leaf c)
+
+  abbrev leaves-room : AtLeaves → AtRoom
+  leaves-room c = leaf-room (leaves-leaf c)
+
+  abbrev leaves-field : AtLeaves → AtField
+  leaves-field c = leaf-field (leaves-leaf c)
+
+  abbrev leaves-loop : AtLeaves → AtLoop
+  leaves-loop c = leaf-loop (leaves-leaf c)
+
+  abbrev behind-leaves : AtBehind → AtLeaves
+  behind-leaves c = c .before .before .before .before .before .before .before
+
+  abbrev behind-loop : AtBehind → AtLoop
+  behind-loop c = leaves-loop (behind-leaves c)
+
+  abbrev due-behind : AtDue → AtBehind
+  due-behind c = c .before .before
+
+  abbrev due-leaves : AtDue → AtLeaves
+  due-leaves c = behind-leaves (due-behind c)
+
+  abbrev due-loop : AtDue → AtLoop
+  due-loop c = behind-loop (due-behind c)
+
+  abbrev applied-due : AtApplied → AtDue
+  applied-due c = c .before .before .before .before
+
+  abbrev applied-behind : AtApplied → AtBehind
+  applied-behind c = due-behind (applied-due c)
+
+  abbrev applied-leaves : AtApplied → AtLeaves
+  applied-leaves c = due-leaves (applied-due c)
+
+  abbrev applied-loop : AtApplied → AtLoop
+  applied-loop c = due-loop (applied-due c)
+
+  abbrev holder-class : AtHolder → AtClass
+  holder-class c = c .before .before .before
+
+  abbrev holder-room : AtHolder → AtRoom
+  holder-room c = class-room (holder-class c)
+
+  abbrev holder-field : AtHolder → AtField
+  holder-field c = class-field (holder-class c)
+
+  abbrev holder-loop : AtHolder → AtLoop
+  holder-loop c = class-loop (holder-class c)
+
+  abbrev entered-holder : AtEntered → AtHolder
+  entered-holder c = c .before .before .before
+
+  abbrev entered-room : AtEntered → AtRoom
+  entered-room c = holder-room (entered-holder c)
+
+  abbrev entered-loop : AtEntered → AtLoop
+  entered-loop c = holder-loop (entered-holder c)
+
+  abbrev told-holder : AtTold → AtHolder
+  told-holder c = c .before .before .before
+
+  abbrev told-class : AtTold → AtClass
+  told-class c = holder-class (told-holder c)
+
+  abbrev told-room : AtTold → AtRoom
+  told-room c = holder-room (told-holder c)
+
+  abbrev told-loop : AtTold → AtLoop
+  told-loop c = holder-loop (told-holder c)
+
+  abbrev opened-told : AtOpened → AtTold
+  opened-told c = c .before .before .before .before
+
+  abbrev opened-holder : AtOpened → AtHolder
+  opened-holder c = told-holder (opened-told c)
+
+  abbrev opened-class : AtOpened → AtClass
+  opened-class c = told-class (opened-told c)
+
+  abbrev opened-room : AtOpened → AtRoom
+  opened-room c = told-room (opened-told c)
+
+  abbrev opened-loop : AtOpened → AtLoop
+  opened-loop c = told-loop (opened-told c)
+
+  abbrev read-told : AtRead → AtTold
+  read-told c = c .before .before .before .before .before
+
+  abbrev read-holder : AtRead → AtHolder
+  read-holder c = told-holder (read-told c)
+
+  abbrev read-class : AtRead → AtClass
+  read-class c = told-class (read-told c)
+
+  abbrev read-loop : AtRead → AtLoop
+  read-loop c = told-loop (read-told c)
+
+  -- What is known at them
+
+  abbrev walk-of : AtLoop → Loop
+  walk-of c =
+      let a = loop-start c .args in
+      walkLoop (a .stream .now) (a .uuid .now) (a .frame) (a .left) (a .table .now) (notes (a .sizes .now) (a .aligns .now)) (a .begun)
+      (a .st) (a .given) (a .list .now)
+
+  -- a round whose run is r
+  abbrev Now : AtLoop → Run → Type 0
+  Now c r = let l = c .loop in Round (walk-of c) r (l .list) (l .used) (stateAt (l .place) (l .order) (l .state)) (l .slots)
+
+  now : (c : AtLoop) → Now c (c .loop .run)
+  now c = c .loop .inv .1
+
+  -- what stopped hands back what came
+  stopped : (c : AtLoop) {v : Stop} {n : ℕ} {ws : List ℕ} → Stops (walk-of c) v n ws →
+      let a = loop-start c .args in
+      FieldReads (ahead (a .left) (a .table .now) (envOf (a .stream .now) (a .uuid .now) (a .frame)) (a .begun)) (a .st) (a .given)
+      (stoppedField v n (a .st) (a .given)) (a .list .now) ws
+  stopped c stops = walk-stopped _ _ _ _ _ _ _ _ _ (c .loop .inv .0) stops
+
+  within : (c : AtLoop) →
+      let l = c .loop in
+      let n = length (loop-start c .args .list .now) in
+      (l .used ≤ length (l .list)) × (length (l .list) ≡ n) × (8 * n < 2 ^ 63)
+  within c =
+      let p = now c .part in
+      (omega (arith, part-length p, p .room), part-length p, omega (arith, loop-start c .good .1 .1 .1 .1 .1 .1 .1 .1 .1 .1 .0))
+
+  -- the run, with what it had put off in front where nothing else was left
+  forwarded : (c : AtForward) → Now (forward-loop c) (c .forward .result)
+  forwarded c = forward-round (c .forward .ensures) (now (forward-loop c))
+
+  here : (c : AtField) → Now (field-loop c) (field-forward c .forward .result)
+  here c = forwarded (field-forward c)
+
+  some-left : (c : AtField) → 0 < countOf (field-forward c .forward .result)
+  some-left c = forward-left _ (field-forward c .forward .ensures) (sym (c .before .is-over .ensures) ∙ c .if1 .left)
+
+  class-there : (c : AtClass) →
+      let a = loop-start (class-loop c) .args in
+      whole (a .left) (a .table .now) (c .first .result)
+  class-there c = first-whole (c .first .ensures) (here (class-field c)) (some-left (class-field c))
+
+  table-fits : (c : AtLoop) → length (loop-start c .args .table .now) < 2 ^ 62
+  table-fits c = omega (arith, loop-start c .good .0)
+
+  bytes : (c : AtLoop) → Bytes (loop-start c .args .stream .now)
+  bytes c i = omega (arith, loop-stream c .shared-slice-known5 .given i)
+
+  -- The loop's start and its end
+
+  walk-loop-holds : In-walk t walk-lts.Need-loop-holds
+  walk-loop-holds c =
+      let s = front-start c in
+      let many = s .good .1 .1 .1 .1 .1 .1 .1 .1 .1 .0 .1 .0 .1 in
+      (many, walk-start _ _ _ _ _ _ _ _ _ _ (s .pre .1 .0) (s .pre .1 .1 .0) (s .pre .1 .1 .1) many)
+
+  walk-forward-requires : In-walk t walk-lts.Need-forward-requires
+  walk-forward-requires c κs = search needs
+
+  walk-is-over-requires : In-walk t walk-lts.Need-is-over-requires
+  walk-is-over-requires c κs = search needs
+
+  walk-at-requires : In-walk t walk-lts.Need-at-requires
+  walk-at-requires c κs = search needs
+
+  walk-same-length : In-walk t walk-lts.Need-same-length
+  walk-same-length c =
+      let past = c .before .before .before .before in
+      part-length (now past .part)
+
+  walk-returns : In-walk t walk-lts.Need-returns
+  walk-returns c =
+      let past = c .before .before .before in
+      let over = sym (c .before .before .is-over .ensures) ∙ c .before .if1 .taken in
+      rw (c .at .ensures) (walk-end _ _ _ _ _ _ _ _ _ _ (forwarded past) over)
+
+  -- No room (40)
+
+  walk-sub-if2 : In-walk t walk-lts.Need-sub-if2
+  walk-sub-if2 c = within (field-loop c) .0
+
+  walk-refused-requires : In-walk t walk-lts.Need-refused-requires
+  walk-refused-requires c κs = search needs
+
+  walk-same-length-2 : In-walk t walk-lts.Need-same-length-2
+  walk-same-length-2 c = part-length (now (field-loop (c .before .before)) .part)
+
+  walk-returns-2 : In-walk t walk-lts.Need-returns-2
+  walk-returns-2 c =
+      let k = c .before .before in
+      rw (c .refused .ensures) (stopped (field-loop k) (round-full (here k) (some-left k) (c .before .if2 .taken)))
+
+  -- Leaves
+
+  walk-first-requires : In-walk t walk-lts.Need-first-requires
+  walk-first-requires c κs = search needs
+
+  walk-shared-slice-read-kind : In-walk t walk-lts.Need-shared-slice-read-kind
+  walk-shared-slice-read-kind c = whole-inside _ _ _ (class-there (c .before))
+
+  walk-leaf-slot-requires : In-walk t walk-lts.Need-leaf-slot-requires
+  unfolding u8
+  walk-leaf-slot-requires c κs =
+      let past = c .before .before in
+      (leaf-whole _ _ _ (class-there past) (c .if3 .taken), c .if3 .taken)
+
+  walk-mul-slot : In-walk t walk-lts.Need-mul-slot
+  walk-mul-slot c = omega arith
+
+  walk-array-copy-out-slot : In-walk t walk-lts.Need-array-copy-out-slot
+  walk-array-copy-out-slot c = omega arith
+
+  walk-count-requires : In-walk t walk-lts.Need-count-requires
+  walk-count-requires c κs = search needs
+
+  walk-is-element-requires : In-walk t walk-lts.Need-is-element-requires
+  walk-is-element-requires c κs = search needs
+
+  -- the content of the slot that the leaf reads
+  leaf-told : (c : AtLeaf) →
+      slotAt (leaf-loop c .loop .slots) (leafSlot (loop-start (leaf-loop c) .args .table .now) (leaf-class c .first .result))
+      ≡ c .if4 .content
+  unfolding slotAt
+  leaf-told c =
+      content-met (leaf-loop c .loop .slots) (now (leaf-loop c) .many) (c .before .leaf-slot .ensures) (λ y. y .2)
+      (λ y. (y .0 .left, y .1)) (c .if4 .came)
+
+  walk-mul-read-leaves : In-walk t walk-lts.Need-mul-read-leaves
+  walk-mul-read-leaves c =
+      let past = c .before .before in
+      omega (arith, within (leaf-loop past))
+
+  walk-sub-read-leaves : In-walk t walk-lts.Need-sub-read-leaves
+  walk-sub-read-leaves c =
+      let past = c .before .before in
+      omega (arith, within (leaf-loop past))
+
+  walk-part-read-leaves-start : In-walk t walk-lts.Need-part-read-leaves-start
+  walk-part-read-leaves-start c =
+      let past = c .before .before in
+      omega (arith, within (leaf-loop past))
+
+  walk-part-read-leaves-end : In-walk t walk-lts.Need-part-read-leaves-end
+  walk-part-read-leaves-end c = omega arith
+
+  walk-read-leaves-requires : In-walk t walk-lts.Need-read-leaves-requires
+  unfolding u8
+  walk-read-leaves-requires c κs =
+      let past = c .before .before .before in
+      let k = leaf-field past in
+      let l = leaf-loop past .loop in
+      let h = here k in
+      let noted = h .noted in
+      let count = c .before .before .count .ensures in (
+        leaves-in-row h (some-left k) (c .before .is-element .ensures) (leaf-class past .first .ensures) count,
         (
-          (kind, omega (arith, lent-room (k .before .before .before .before .before .before .before .before .loop .used) (k .before .before .before .before .before .before .before .before .loop .list), k .before .before .before .before .if2 .left)),
-          (h .noted, rw (c .before .at3 .ensures) (h .framed)),
+          (
+            past .before .before .if3 .taken,
+            omega (arith, some-left k, count),
+            omega (arith, lent-room (l .used) (l .list), leaf-room past .if2 .left),
+          ),
+          ((noted .sized .room, λ d p v. noted .classes d p v .size), (h .framed, past-unset (l .slots) _ (h .many) (leaf-told past))),
         ),
-      ),
-    )
+      )
 
--- a field that was read by itself
-field : (t : ℕ) (c : In-walk t walk-lts.After-read-field) →
-    let k = c .before .before .before .before .before .before .before .before .before .before .before .before .before in
-    let l = k .before .before .before .loop in
-    FieldRound (walk-of t k) (c .before .before .before .before .before .before .before .before .taken .result) (l .list) (l .used) (c .read-field .result) (c .read-field .last .1 .1 .1 .1 .1 .1 .1 .1 .1 .1 .0)
-field t c =
-    let h = c .before .before .before .before .before .before .before .before in
-    field-round (holder t h _ (holder-told t (c .before .before .before .before .before))) (rw (c .before .before .at3 .ensures, sym (holder-next t h .1)) at (c .read-field .ensures))
+  -- what the leaves did
+  leaves : (c : AtLeaves) →
+      let k = leaves-field c in
+      let l = leaves-loop c .loop in
+      LeavesRound (walk-of (leaves-loop c)) (field-forward k .forward .result) (l .list) (l .used)
+      (stateAt (l .place) (l .order) (l .state)) (l .slots)
+      (c .read-leaves .result) (c .read-leaves .last .1 .1 .1 .1 .1 .1 .1 .1 .1 .1 .1 .0)
+  unfolding u8
+  leaves c =
+      let k = leaves-field c in
+      leaves-did (here k) (some-left k) (c .before .before .is-element .ensures) (leaves-class c .first .ensures)
+      (c .before .before .before .count .ensures) (bytes (leaves-loop c)) _ (leaves-leaf c .before .before .if3 .taken)
+      (leaves-room c .if2 .left) (leaf-told (leaves-leaf c)) (c .read-leaves .ensures .0) (c .read-leaves .ensures .1)
 
-walk-add-used-5 : (t : ℕ) → In-walk t walk-lts.Need-add-used-5
-walk-add-used-5 t c = omega (arith, field t (c .before .before .before) .room, within t (c .before .before .before .before .before .before .before .before .before .before .before .before .before .before .before .before))
+  walk-add-used : In-walk t walk-lts.Need-add-used
+  walk-add-used c =
+      let past = c .before .before .before in
+      omega (arith, leaves past .room, within (leaves-loop past))
 
-walk-enum-known-went-2 : (t : ℕ) → In-walk t walk-lts.Need-enum-known-went-2
-walk-enum-known-went-2 t c = search needs
+  walk-refused-requires-2 : In-walk t walk-lts.Need-refused-requires-2
+  walk-refused-requires-2 c κs = search needs
 
-walk-stopped-requires-2 : (t : ℕ) → In-walk t walk-lts.Need-stopped-requires-2
-walk-stopped-requires-2 t c κs = search needs
+  walk-same-length-3 : In-walk t walk-lts.Need-same-length-3
+  walk-same-length-3 c =
+      let past = c .before .before .before .before .before .before .before in
+      leaves past .same
 
-walk-same-length-7 : (t : ℕ) → In-walk t walk-lts.Need-same-length-7
-walk-same-length-7 t c = field t (c .before .before .before .before .before .before .before) .same
+  walk-returns-3 : In-walk t walk-lts.Need-returns-3
+  walk-returns-3 c =
+      let past = c .before .before .before .before .before .before .before in
+      rw (c .refused2 .ensures) (stopped (leaves-loop past) (leaves past .stops (not-true _ (c .before .if5 .taken))))
 
-walk-returns-7 : (t : ℕ) → In-walk t walk-lts.Need-returns-7
-walk-returns-7 t c =
-    let y = field t (c .before .before .before .before .before .before .before) in
-    rw (c .stopped2 .ensures) (walk-stopped _ _ _ _ _ _ _ _ _ (c .before .before .before .before .before .before .before .before .before .before .before .before .before .before .before .before .before .before .before .before .before .before .before .loop .inv .0)
-    (y .stops _ (c .before .before .went2 .given .1)))
+  walk-behind-requires : In-walk t walk-lts.Need-behind-requires
+  walk-behind-requires c κs =
+      let past = c .before .before .before .before .before .before in
+      let k = leaves-loop past in
+      let there = whole-inside _ _ _ (leaves past .stand (not-false _ (c .if5 .left))) in
+      (omega (arith, there, now k .noted .sized .room), omega (arith, there, table-fits k))
 
-walk-enum-told-2 : (t : ℕ) → In-walk t walk-lts.Need-enum-told-2
-walk-enum-told-2 t c = search needs
+  -- What is due of the last leaf: its slot is set, and its role is applied
 
-walk-sub-behind : (t : ℕ) → In-walk t walk-lts.Need-sub-behind
-walk-sub-behind t c = omega (arith, holder-next t (c .before .before .before .before .before .before .before .before .before .before .before .before .before .before .before .before .before) .0)
+  walk-cast-to : In-walk t walk-lts.Need-cast-to
+  walk-cast-to c = omega arith
 
-walk-behind-requires-2 : (t : ℕ) → In-walk t walk-lts.Need-behind-requires-2
-walk-behind-requires-2 t c κs =
-    let k = c .before .before .before .before .before .before .before .before .before .before .before .before .before .before .before .before .before in
-    let there = whole-inside _ _ _ (holder-there t k) in
-    (omega (arith, there, holder-round t k .noted .sized .room), omega (arith, there, c .before .before .before .before .before .before .before .before .before .before .before .before .before .before .before .before .before .before .before .before .before .before .before .before .before .before .before .before .before .before .before .before .before .good .0))
+  walk-shared-slice-read-content-of : In-walk t walk-lts.Need-shared-slice-read-content-of
+  walk-shared-slice-read-content-of c =
+      let past = c .before .before .before in
+      whole-inside _ _ _ (leaves (behind-leaves past) .stand (not-false _ (past .before .if5 .left)))
 
-walk-loop-less-5 : (t : ℕ) → In-walk t walk-lts.Need-loop-less-5
-walk-loop-less-5 t c =
-    let l = c .before .before .before .before .before .before .before .before .before .before .before .before .before .before .before .before .before .before .before .before .before .before .before .before .before .before .loop in
-    let y = field t (c .before .before .before .before .before .before .before .before .before .before) in
-    round-falls (length (l .list)) _ (l .used) (l .used + c .before .before .before .before .before .before .before .before .before .before .read-field .result .used) 0 0 (y .same ∙ sym (within t (c .before .before .before .before .before .before .before .before .before .before .before .before .before .before .before .before .before .before .before .before .before .before .before) .1))
-    (omega (arith, y .room, within t (c .before .before .before .before .before .before .before .before .before .before .before .before .before .before .before .before .before .before .before .before .before .before .before) .1)) (omega (arith, y .some (c .before .before .before .before .before .enum-told2 .given .1)))
+  walk-content-of-requires : In-walk t walk-lts.Need-content-of-requires
+  walk-content-of-requires c κs = search needs
 
-walk-loop-again-5 : (t : ℕ) → In-walk t walk-lts.Need-loop-again-5
-walk-loop-again-5 t c =
-    let next = holder-next t (c .before .before .before .before .before .before .before .before .before .before .before .before .before .before .before .before .before .before) .1 in
-    let went = field t (c .before .before .before .before .before .before .before .before .before .before) .goes (c .before .before .before .before .before .enum-told2 .given .1) in
-    (c .before .before .before .before .before .before .before .before .before .before .before .before .before .before .before .before .before .before .before .before .before .before .before .before .before .before .loop .inv .0, rw (c .behind2 .ensures, sym next) went)
+  walk-mul-slots : In-walk t walk-lts.Need-mul-slots
+  walk-mul-slots c = omega arith
+
+  walk-array-set-from-slots : In-walk t walk-lts.Need-array-set-from-slots
+  walk-array-set-from-slots c = omega arith
+
+  -- the slots behind the leaves, as they are told and joined
+  slot-told : (c : AtDue) →
+      let l = due-loop c .loop in
+      let q = due-leaves c .read-leaves .result in
+      (c .if6 .slots ≡ setSlot (l .slots) (q .slot) (contentOf (u8 (loop-start (due-loop c) .args .table .now) (q .at)) (q .value)))
+      ⊎ ((slotCount ≤ q .slot) × (c .if6 .slots ≡ l .slots))
+  unfolding u8 setSlot
+  slot-told c = ⊎-elim (λ y. inl (rw (y .2 .ensures) at (y .3))) (λ y. inr (y .0 .left, y .1)) (c .if6 .came)
+
+  leaves-on : (c : AtDue) → due-leaves c .read-leaves .result .on ≡ true
+  leaves-on c = not-false _ (due-behind c .before .if5 .left)
+
+  due : (c : AtDue) →
+      let l = due-loop c .loop in
+      let y = due-leaves c .read-leaves in
+      let q = y .result in
+      let r = due-behind c .behind .result in
+      let w = walk-of (due-loop c) in
+      Kept w (role (roleOf (q .role)) (q .width) (q .value) ⨾ left w r) r
+      (merged (l .used) (l .list) (y .last .1 .1 .1 .1 .1 .1 .1 .1 .1 .1 .1 .0)) (l .used + q .used)
+      (stateAt (q .place) (q .order) (l .state)) (c .if6 .slots)
+  due c = leaves-due (leaves (due-leaves c)) (leaves-on c) (now (due-loop c) .many) (due-behind c .behind .ensures) (slot-told c)
+
+  -- a round with leaves lists an entry at least
+  leaves-fall : (c : AtDue) →
+      let l = due-loop c .loop in
+      let q = due-leaves c .read-leaves .result in
+      (l .used + 4 ≤ l .used + q .used) × (l .used + q .used ≤ length (l .list))
+      × (length (l .list) ≡ length (loop-start (due-loop c) .args .list .now))
+  leaves-fall c =
+      let y = leaves (due-leaves c) in
+      (omega (arith, y .some (leaves-on c)), omega (arith, y .room, within (due-loop c)), within (due-loop c) .1)
+
+  walk-at-requires-2 : In-walk t walk-lts.Need-at-requires-2
+  walk-at-requires-2 c κs = search needs
+
+  walk-mul-apply : In-walk t walk-lts.Need-mul-apply
+  walk-mul-apply c =
+      let past = c .before .before in
+      omega (arith, leaves-fall past, within (due-loop past))
+
+  walk-sub-apply : In-walk t walk-lts.Need-sub-apply
+  walk-sub-apply c = omega (arith, leaves-fall (c .before .before), within (due-loop (c .before .before)))
+
+  walk-part-apply-start : In-walk t walk-lts.Need-part-apply-start
+  walk-part-apply-start c = omega (arith, leaves-fall (c .before .before), within (due-loop (c .before .before)))
+
+  walk-part-apply-end : In-walk t walk-lts.Need-part-apply-end
+  walk-part-apply-end c = omega arith
+
+  walk-apply-requires : In-walk t walk-lts.Need-apply-requires
+  walk-apply-requires c κs =
+      let past = c .before .before .before in
+      leaves (due-leaves past) .stamp (leaves-on past)
+
+  -- what its role did
+  applied : (c : AtApplied) →
+      let l = applied-loop c .loop in
+      let y = applied-leaves c .read-leaves in
+      let q = y .result in
+      let r = applied-behind c .behind .result in
+      let w = walk-of (applied-loop c) in
+      RoleRound w (left w r) r (merged (l .used) (l .list) (y .last .1 .1 .1 .1 .1 .1 .1 .1 .1 .1 .1 .0)) (l .used + q .used)
+      (stateAt (q .place) (q .order) (l .state)) (applied-due c .if6 .slots) (c .apply .result) (c .apply .last .1 .1 .1 .1 .0)
+  applied c = role-did _ _ _ (due (applied-due c)) (c .before .before .at2 .ensures) (c .apply .ensures)
+
+  walk-add-used-2 : In-walk t walk-lts.Need-add-used-2
+  walk-add-used-2 c =
+      let past = c .before .before .before in
+      omega (arith, applied past .room, within (applied-loop past))
+
+  walk-enum-known-went : In-walk t walk-lts.Need-enum-known-went
+  walk-enum-known-went c = search needs
+
+  walk-stopped-requires : In-walk t walk-lts.Need-stopped-requires
+  walk-stopped-requires c κs = search needs
+
+  walk-same-length-4 : In-walk t walk-lts.Need-same-length-4
+  walk-same-length-4 c =
+      let past = c .before .before .before .before .before .before .before in
+      applied past .same
+
+  walk-returns-4 : In-walk t walk-lts.Need-returns-4
+  walk-returns-4 c =
+      let past = c .before .before .before .before .before .before .before in
+      rw (c .stopped .ensures) (stopped (applied-loop past) (applied past .stops _ (c .before .before .went .given .1)))
+
+  walk-enum-told : In-walk t walk-lts.Need-enum-told
+  walk-enum-told c = search needs
+
+  walk-loop-less : In-walk t walk-lts.Need-loop-less
+  walk-loop-less c =
+      let past = c .before .before .before .before .before .before in
+      let l = applied-loop past .loop in
+      let y = applied past in
+      let f = leaves-fall (applied-due past) in
+      let used = l .used + applied-leaves past .read-leaves .result .used + past .apply .result .used in
+      round-falls (length (l .list)) _ (l .used) used 0 0 (y .same ∙ sym (f .2)) (omega (arith, y .room, f .2)) (omega (arith, f .0))
+
+  walk-loop-again : In-walk t walk-lts.Need-loop-again
+  walk-loop-again c =
+      let past = c .before .before .before .before .before .before in
+      (applied-loop past .loop .inv .0, applied past .goes (c .before .enum-told .given .1))
+
+  walk-loop-less-2 : In-walk t walk-lts.Need-loop-less-2
+  walk-loop-less-2 c =
+      let past = c .before in
+      let l = due-loop past .loop in
+      let f = leaves-fall past in
+      round-falls (length (l .list)) _ (l .used) (l .used + due-leaves past .read-leaves .result .used) 0 0
+      (leaves (due-leaves past) .same ∙ sym (f .2)) (f .1) (omega (arith, f .0))
+
+  walk-loop-again-2 : In-walk t walk-lts.Need-loop-again-2
+  walk-loop-again-2 c = (due-loop (c .before) .loop .inv .0, no-role _ _ _ (c .if7 .left) (due (c .before)))
+
+  -- A field that holds others, taken as a member
+
+  holder-round : (c : AtHolder) → Now (holder-loop c) (c .taken .result)
+  holder-round c = taken-round (c .taken .ensures) (some-left (holder-field c)) (here (holder-field c))
+
+  holder-next : (c : AtHolder) → FirstAt (c .taken .result) (holder-class c .first .result)
+  holder-next c = taken-next _ (holder-class c .first .ensures) (c .taken .ensures) (some-left (holder-field c))
+
+  -- its kind and the byte behind it
+  slot-there : (c : AtHolder) → holder-class c .first .result + 2 ≤ length (loop-start (holder-loop c) .args .table .now)
+  unfolding u8
+  slot-there c = slot-within _ _ _ (class-there (holder-class c)) (c .before .if3 .left)
+
+  holder : (c : AtHolder) (x : Content) →
+      let l = holder-loop c .loop in
+      slotAt (l .slots) (slotReadAt (loop-start (holder-loop c) .args .table .now) (holder-class c .first .result)) ≡ x
+      → Holder (walk-of (holder-loop c)) (c .taken .result) (l .list) (l .used) (stateAt (l .place) (l .order) (l .state)) (l .slots) x
+  unfolding u8
+  holder c x told = holds-first (holder-round c) (holder-next c) (c .before .if3 .left) (holder-room c .if2 .left) told
+
+  walk-taken-requires : In-walk t walk-lts.Need-taken-requires
+  walk-taken-requires c κs =
+      let past = c .before .before in
+      some-left (class-field past)
+
+  -- A structure
+
+  walk-mul-enter-structure : In-walk t walk-lts.Need-mul-enter-structure
+  walk-mul-enter-structure c = omega (arith, within (holder-loop (c .before)))
+
+  walk-sub-enter-structure : In-walk t walk-lts.Need-sub-enter-structure
+  walk-sub-enter-structure c = omega (arith, within (holder-loop (c .before)))
+
+  walk-part-enter-structure-start : In-walk t walk-lts.Need-part-enter-structure-start
+  walk-part-enter-structure-start c = omega (arith, within (holder-loop (c .before)))
+
+  walk-part-enter-structure-end : In-walk t walk-lts.Need-part-enter-structure-end
+  walk-part-enter-structure-end c = omega arith
+
+  walk-enter-structure-requires : In-walk t walk-lts.Need-enter-structure-requires
+  unfolding u8
+  walk-enter-structure-requires c κs =
+      let k = c .before .before in
+      let l = holder-loop k .loop in
+      let h = holder-round k in
+      let there = class-there (holder-class k) in
+      let o = opens _ _ (h .noted) _ _ there (k .before .if3 .left) in (
+        (slot-there k, omega (arith, whole-inside _ _ _ there, o .aligns), o .align),
+        (
+          (h .framed .begun, omega (arith, h .framed .within, h .framed .ends, h .framed .small)),
+          omega (arith, lent-room (l .used) (l .list), holder-room k .if2 .left),
+        ),
+      )
+
+  -- a structure that was entered
+  structure : (c : AtEntered) →
+      let l = entered-loop c .loop in
+      EnterRound (walk-of (entered-loop c)) (entered-holder c .taken .result) (l .list) (l .used)
+      (stateAt (l .place) (l .order) (l .state)) (l .slots) (c .enter-structure .result) (c .enter-structure .last .1 .1 .1 .1 .1 .0)
+  unfolding u8
+  structure c =
+      let k = entered-holder c in
+      entered-did (holder k _ refl) (holder-next k) (c .before .before .if8 .taken)
+      (c .enter-structure .ensures .0) (c .enter-structure .ensures .1)
+
+  walk-refused-requires-3 : In-walk t walk-lts.Need-refused-requires-3
+  walk-refused-requires-3 c κs = search needs
+
+  walk-same-length-5 : In-walk t walk-lts.Need-same-length-5
+  walk-same-length-5 c =
+      let past = c .before .before .before .before .before in
+      structure past .same
+
+  walk-returns-5 : In-walk t walk-lts.Need-returns-5
+  walk-returns-5 c =
+      let past = c .before .before .before .before .before in
+      rw (c .refused3 .ensures) (stopped (entered-loop past) (structure past .stops (not-true _ (c .before .if9 .taken))))
+
+  walk-add-opened : In-walk t walk-lts.Need-add-opened
+  walk-add-opened c =
+      let past = c .before .before .before .before .before in
+      omega (arith, slot-there (entered-holder past), table-fits (entered-loop past))
+
+  walk-add-wide : In-walk t walk-lts.Need-add-wide
+  walk-add-wide c =
+      let past = c .before .before .before .before .before in
+      omega (arith, slot-there (entered-holder past), table-fits (entered-loop past))
+
+  walk-shared-slice-read-wide : In-walk t walk-lts.Need-shared-slice-read-wide
+  walk-shared-slice-read-wide c =
+      let past = c .before .before .before .before .before .before in
+      omega (arith, slot-there (entered-holder past))
+
+  walk-wide-requires : In-walk t walk-lts.Need-wide-requires
+  walk-wide-requires c κs = search needs
+
+  walk-opened-requires : In-walk t walk-lts.Need-opened-requires
+  walk-opened-requires c κs =
+      let past = c .before .before .before .before .before .before .before in
+      let k = entered-holder past in
+      let few = members-few _ _ _ _ (holder-round k .stands .members) in
+      (holder-next k .0, omega (arith, few, c .wide .ensures .1, table-fits (entered-loop past)))
+
+  walk-add-used-3 : In-walk t walk-lts.Need-add-used-3
+  walk-add-used-3 c =
+      let past = c .before .before .before .before .before .before .before .before in
+      omega (arith, within (entered-loop past), entered-room past .if2 .left)
+
+  walk-loop-less-3 : In-walk t walk-lts.Need-loop-less-3
+  walk-loop-less-3 c =
+      let past = c .before .before .before .before .before .before .before .before in
+      let l = entered-loop past .loop in
+      round-falls (length (l .list)) _ (l .used) (l .used + 4) 0 0 (structure past .same ∙ sym (within (entered-loop past) .1))
+      (omega (arith, entered-room past .if2 .left)) (omega arith)
+
+  walk-loop-again-3 : In-walk t walk-lts.Need-loop-again-3
+  unfolding u8
+  walk-loop-again-3 c =
+      let past = c .before .before .before .before .before .before .before .before in
+      let k = entered-holder past in
+      let on = not-false _ (c .before .before .before .before .if9 .left) in (
+        entered-loop past .loop .inv .0,
+        entered-run (holder k _ refl) (holder-next k) (structure past) (c .opened .ensures) (c .before .wide .ensures .0) on,
+      )
+
+  -- Any other, by the content of the slot that it reads
+
+  walk-slot-read-requires : In-walk t walk-lts.Need-slot-read-requires
+  unfolding u8
+  walk-slot-read-requires c κs =
+      let k = c .before in
+      (omega (arith, k .before .if3 .left), kind-high _ _ _ (class-there (holder-class k)), slot-there k)
+
+  walk-mul-slot-2 : In-walk t walk-lts.Need-mul-slot-2
+  walk-mul-slot-2 c = omega arith
+
+  walk-array-copy-out-slot-2 : In-walk t walk-lts.Need-array-copy-out-slot-2
+  walk-array-copy-out-slot-2 c = omega arith
+
+  holder-told : (c : AtTold) →
+      slotAt (told-loop c .loop .slots) (slotReadAt (loop-start (told-loop c) .args .table .now) (told-class c .first .result))
+      ≡ c .if10 .content
+  unfolding slotAt
+  holder-told c =
+      content-met (told-loop c .loop .slots) (now (told-loop c) .many) (c .before .slot-read .ensures .0) (λ y. y .2)
+      (λ y. (y .0 .left, y .1)) (c .if10 .came)
+
+  holds : (c : AtTold) →
+      let l = told-loop c .loop in
+      Holder (walk-of (told-loop c)) (told-holder c .taken .result) (l .list) (l .used) (stateAt (l .place) (l .order) (l .state))
+      (l .slots) (c .if10 .content)
+  holds c = holder (told-holder c) _ (holder-told c)
+
+  -- opened in its run
+
+  walk-is-open-requires : In-walk t walk-lts.Need-is-open-requires
+  walk-is-open-requires c κs = search needs
+
+  walk-mul-open-field : In-walk t walk-lts.Need-mul-open-field
+  walk-mul-open-field c =
+      let past = c .before .before in
+      omega (arith, within (told-loop past))
+
+  walk-sub-open-field : In-walk t walk-lts.Need-sub-open-field
+  walk-sub-open-field c =
+      let past = c .before .before in
+      omega (arith, within (told-loop past))
+
+  walk-part-open-field-start : In-walk t walk-lts.Need-part-open-field-start
+  walk-part-open-field-start c =
+      let past = c .before .before in
+      omega (arith, within (told-loop past))
+
+  walk-part-open-field-end : In-walk t walk-lts.Need-part-open-field-end
+  walk-part-open-field-end c = omega arith
+
+  walk-open-field-requires : In-walk t walk-lts.Need-open-field-requires
+  unfolding u8
+  walk-open-field-requires c κs =
+      let past = c .before .before .before in
+      let k = told-holder past in
+      let l = told-loop past .loop in
+      let h = holder-round k in (
+        opens _ _ (h .noted) _ _ (class-there (told-class past)) (k .before .if3 .left),
+        (
+          (h .framed .begun, omega (arith, h .framed .within, h .framed .ends, h .framed .small)),
+          omega (arith, lent-room (l .used) (l .list), told-room past .if2 .left),
+        ),
+      )
+
+  opening : (c : AtOpened) →
+      let l = opened-loop c .loop in
+      CodeRound (walk-of (opened-loop c)) (opened-holder c .taken .result) (l .list) (l .used)
+      (stateAt (l .place) (l .order) (l .state)) (l .slots) (c .open-field .result) (c .open-field .last .1 .1 .1 .1 .1 .1 .1 .0)
+  unfolding u8
+  opening c =
+      let can = sym (c .before .before .before .is-open .ensures) ∙ c .before .before .if11 .taken in
+      inside-did (holds (opened-told c)) (holder-next (opened-holder c)) can (c .open-field .ensures .0) (c .open-field .ensures .1)
+
+  walk-refused-requires-4 : In-walk t walk-lts.Need-refused-requires-4
+  walk-refused-requires-4 c κs = search needs
+
+  walk-same-length-6 : In-walk t walk-lts.Need-same-length-6
+  walk-same-length-6 c =
+      let past = c .before .before .before .before .before in
+      opening past .same
+
+  walk-returns-6 : In-walk t walk-lts.Need-returns-6
+  walk-returns-6 c =
+      let past = c .before .before .before .before .before in
+      rw (c .refused4 .ensures) (stopped (opened-loop past) (opening past .stops (not-true _ (c .before .if12 .taken))))
+
+  walk-into-requires : In-walk t walk-lts.Need-into-requires
+  walk-into-requires c κs =
+      let past = c .before .before .before .before .before in
+      let k = opened-holder past in
+      let h = holder-round k in
+      let next = holder-next k in
+      let there = whole-inside _ _ _ (class-there (opened-class past)) in
+      let small = table-fits (opened-loop past) in (
+        next .0,
+        (λ off. omega (arith, members-few _ _ _ _ (h .stands .members), opening past .few off, small)),
+        omega (arith, next .1, there, h .noted .sized .room),
+        omega (arith, next .1, there, small),
+      )
+
+  walk-add-used-4 : In-walk t walk-lts.Need-add-used-4
+  walk-add-used-4 c =
+      let past = c .before .before .before .before .before .before in
+      omega (arith, within (opened-loop past), opened-room past .if2 .left)
+
+  walk-loop-less-4 : In-walk t walk-lts.Need-loop-less-4
+  walk-loop-less-4 c =
+      let past = c .before .before .before .before .before .before in
+      let l = opened-loop past .loop in
+      round-falls (length (l .list)) _ (l .used) (l .used + 4) 0 0 (opening past .same ∙ sym (within (opened-loop past) .1))
+      (omega (arith, opened-room past .if2 .left)) (omega arith)
+
+  walk-loop-again-4 : In-walk t walk-lts.Need-loop-again-4
+  unfolding u8
+  walk-loop-again-4 c =
+      let past = c .before .before .before .before .before .before in
+      let on = not-false _ (c .before .before .if12 .left) in (
+        opened-loop past .loop .inv .0,
+        inside-run (holds (opened-told past)) (holder-next (opened-holder past)) (opening past) (c .into .ensures) on,
+      )
+
+  -- or read by itself
+
+  walk-at-requires-3 : In-walk t walk-lts.Need-at-requires-3
+  walk-at-requires-3 c κs = search needs
+
+  walk-mul-read-field : In-walk t walk-lts.Need-mul-read-field
+  walk-mul-read-field c =
+      let past = c .before .before .before in
+      omega (arith, within (told-loop past))
+
+  walk-sub-read-field : In-walk t walk-lts.Need-sub-read-field
+  walk-sub-read-field c =
+      let past = c .before .before .before in
+      omega (arith, within (told-loop past))
+
+  walk-part-read-field-start : In-walk t walk-lts.Need-part-read-field-start
+  walk-part-read-field-start c =
+      let past = c .before .before .before in
+      omega (arith, within (told-loop past))
+
+  walk-part-read-field-end : In-walk t walk-lts.Need-part-read-field-end
+  walk-part-read-field-end c = omega arith
+
+  walk-read-field-requires : In-walk t walk-lts.Need-read-field-requires
+  unfolding u8
+  walk-read-field-requires c κs =
+      let past = c .before .before .before .before in
+      let k = told-holder past in
+      let l = told-loop past .loop in
+      let h = holder-round k in (
+        omega (arith, loop-start (told-loop past) .pre .0),
+        (
+          class-there (told-class past),
+          (
+            (k .before .if3 .left, omega (arith, lent-room (l .used) (l .list), told-room past .if2 .left)),
+            (h .noted, rw (c .before .at3 .ensures) (h .framed)),
+          ),
+        ),
+      )
+
+  field : (c : AtRead) →
+      let l = read-loop c .loop in
+      FieldRound (walk-of (read-loop c)) (read-holder c .taken .result) (l .list) (l .used) (c .read-field .result)
+      (c .read-field .last .1 .1 .1 .1 .1 .1 .1 .1 .1 .1 .0)
+  field c = field-did (holds (read-told c)) (holder-next (read-holder c)) (c .before .before .at3 .ensures) (c .read-field .ensures)
+
+  walk-add-used-5 : In-walk t walk-lts.Need-add-used-5
+  walk-add-used-5 c =
+      let past = c .before .before .before in
+      omega (arith, field past .room, within (read-loop past))
+
+  walk-enum-known-went-2 : In-walk t walk-lts.Need-enum-known-went-2
+  walk-enum-known-went-2 c = search needs
+
+  walk-stopped-requires-2 : In-walk t walk-lts.Need-stopped-requires-2
+  walk-stopped-requires-2 c κs = search needs
+
+  walk-same-length-7 : In-walk t walk-lts.Need-same-length-7
+  walk-same-length-7 c =
+      let past = c .before .before .before .before .before .before .before in
+      field past .same
+
+  walk-returns-7 : In-walk t walk-lts.Need-returns-7
+  walk-returns-7 c =
+      let past = c .before .before .before .before .before .before .before in
+      rw (c .stopped2 .ensures) (stopped (read-loop past) (field past .stops _ (c .before .before .went2 .given .1)))
+
+  walk-enum-told-2 : In-walk t walk-lts.Need-enum-told-2
+  walk-enum-told-2 c = search needs
+
+  walk-sub-behind : In-walk t walk-lts.Need-sub-behind
+  walk-sub-behind c =
+      let past = c .before .before .before .before .before .before .before .before .before in
+      omega (arith, holder-next (read-holder past) .0)
+
+  walk-behind-requires-2 : In-walk t walk-lts.Need-behind-requires-2
+  walk-behind-requires-2 c κs =
+      let past = c .before .before .before .before .before .before .before .before .before in
+      let k = read-loop past in
+      let there = whole-inside _ _ _ (class-there (read-class past)) in
+      (omega (arith, there, now k .noted .sized .room), omega (arith, there, table-fits k))
+
+  walk-loop-less-5 : In-walk t walk-lts.Need-loop-less-5
+  walk-loop-less-5 c =
+      let past = c .before .before .before .before .before .before .before .before .before .before in
+      let l = read-loop past .loop in
+      let y = field past in
+      let some = y .some (c .before .before .before .before .before .enum-told2 .given .1) in
+      round-falls (length (l .list)) _ (l .used) (l .used + past .read-field .result .used) 0 0 (y .same ∙ sym (within (read-loop past) .1))
+      (omega (arith, y .room, within (read-loop past))) (omega (arith, some))
+
+  walk-loop-again-5 : In-walk t walk-lts.Need-loop-again-5
+  walk-loop-again-5 c =
+      let past = c .before .before .before .before .before .before .before .before .before .before in
+      let on = c .before .before .before .before .before .enum-told2 .given .1 in (
+        read-loop past .loop .inv .0,
+        field-run (holds (read-told past)) (holder-next (read-holder past)) (field past) (c .behind2 .ensures) on,
+      )
+
+-- walk_elements
 
 abbrev walk-elements-calls : ℕ → walk-elements-lts.Claims
 walk-elements-calls t = (
@@ -926,19 +1316,23 @@ abbrev In-walk-elements : (t : ℕ)
     → (walk-elements-lts.Claims → In 6 walk-elements-kinds.ps → Out 6 walk-elements-kinds.ps walk-elements-kinds.r → Type 0) → Type 0
 In-walk-elements t N = N (walk-elements-calls t) (walk-elements-at t) walk-elements.Post
 
-walk-elements-elements-requires : (t : ℕ) → In-walk-elements t walk-elements-lts.Need-elements-requires
-walk-elements-elements-requires t c κs = search needs
+module _ (t : ℕ) where
+  walk-elements-elements-requires : In-walk-elements t walk-elements-lts.Need-elements-requires
+  walk-elements-elements-requires c κs = search needs
 
-walk-elements-walk-requires : (t : ℕ) → In-walk-elements t walk-elements-lts.Need-walk-requires
-walk-elements-walk-requires t c κs =
-    let p = c .before .before .before .before .before .before .before .before .pre in
-    (omega (arith, p .0), (rw (c .before .elements .ensures) (elements-stand _ _ _ _ (p .1 .0)), p .1 .1))
+  walk-elements-walk-requires : In-walk-elements t walk-elements-lts.Need-walk-requires
+  walk-elements-walk-requires c κs =
+      let p = c .before .before .before .before .before .before .before .before .pre in
+      (omega (arith, p .0), (rw (c .before .elements .ensures) (elements-stand _ _ _ _ (p .1 .0)), p .1 .1))
 
-walk-elements-same-length : (t : ℕ) → In-walk-elements t walk-elements-lts.Need-same-length
-walk-elements-same-length t c = c .before .before .walk .kept .1 .1 .1 .1 .1 .1 .1 .1 .1 .1 .0
+  walk-elements-same-length : In-walk-elements t walk-elements-lts.Need-same-length
+  walk-elements-same-length c = c .before .before .walk .kept .1 .1 .1 .1 .1 .1 .1 .1 .1 .1 .0
 
-walk-elements-returns : (t : ℕ) → In-walk-elements t walk-elements-lts.Need-returns
-walk-elements-returns t c = rw (c .before .before .before .before .elements .ensures, elements-reads-ahead _ _ _ _ _) at (c .before .before .walk .ensures)
+  walk-elements-returns : In-walk-elements t walk-elements-lts.Need-returns
+  walk-elements-returns c =
+      rw (c .before .before .before .before .elements .ensures, elements-reads-ahead _ _ _ _ _) at (c .before .before .walk .ensures)
+
+-- walk_members
 
 abbrev walk-members-calls : ℕ → walk-members-lts.Claims
 walk-members-calls t = (
@@ -952,19 +1346,21 @@ abbrev In-walk-members : (t : ℕ)
     → (walk-members-lts.Claims → In 6 walk-members-kinds.ps → Out 6 walk-members-kinds.ps walk-members-kinds.r → Type 0) → Type 0
 In-walk-members t N = N (walk-members-calls t) (walk-members-at t) walk-members.Post
 
-walk-members-members-requires : (t : ℕ) → In-walk-members t walk-members-lts.Need-members-requires
-walk-members-members-requires t c κs = search needs
+module _ (t : ℕ) where
+  walk-members-members-requires : In-walk-members t walk-members-lts.Need-members-requires
+  walk-members-members-requires c κs = search needs
 
-walk-members-walk-requires : (t : ℕ) → In-walk-members t walk-members-lts.Need-walk-requires
-walk-members-walk-requires t c κs =
-    let p = c .before .before .before .before .before .before .before .before .pre in
-    (omega (arith, p .0), (rw (c .before .members .ensures) (members-stand _ _ _ _ (p .1 .0)), p .1 .1))
+  walk-members-walk-requires : In-walk-members t walk-members-lts.Need-walk-requires
+  walk-members-walk-requires c κs =
+      let p = c .before .before .before .before .before .before .before .before .pre in
+      (omega (arith, p .0), (rw (c .before .members .ensures) (members-stand _ _ _ _ (p .1 .0)), p .1 .1))
 
-walk-members-same-length : (t : ℕ) → In-walk-members t walk-members-lts.Need-same-length
-walk-members-same-length t c = c .before .before .walk .kept .1 .1 .1 .1 .1 .1 .1 .1 .1 .1 .0
+  walk-members-same-length : In-walk-members t walk-members-lts.Need-same-length
+  walk-members-same-length c = c .before .before .walk .kept .1 .1 .1 .1 .1 .1 .1 .1 .1 .1 .0
 
-walk-members-returns : (t : ℕ) → In-walk-members t walk-members-lts.Need-returns
-walk-members-returns t c = rw (c .before .before .before .before .members .ensures, members-reads-ahead _ _ _ _ _) at (c .before .before .walk .ensures)
+  walk-members-returns : In-walk-members t walk-members-lts.Need-returns
+  walk-members-returns c =
+      rw (c .before .before .before .before .members .ensures, members-reads-ahead _ _ _ _ _) at (c .before .before .walk .ensures)
 
 pub +read-field+walk+walk-elements+walk-members-spec : {M : Type 1} → statement M
 +read-field+walk+walk-elements+walk-members-spec =

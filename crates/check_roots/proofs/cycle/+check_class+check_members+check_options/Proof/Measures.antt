@@ -47,10 +47,38 @@ abbrev pub check-options-below : ℕ → In 1 check-options-kinds.ps
 check-options-below t = and 1 check-options-kinds.ps (falls 1 check-options-kinds.ps _<_ μ-check-options t) check-options.Pre
 
 abbrev pub check-class-calls : ℕ → check-class-lts.Claims
-check-class-calls t = (class-fault-reads.Asked, class-fault-reads.Learnt, byte-reads.Asked, byte-reads.Learnt, wide-reads.Asked, wide-reads.Learnt, check-members-below t, check-members.Post, check-class-below t, check-class.Post, check-ranges-reads.Asked, check-ranges-reads.Learnt, check-options-below t, check-options.Post, mark-of-reads.Asked, mark-of-reads.Learnt)
+check-class-calls t = (
+  class-fault-reads.Asked,
+  class-fault-reads.Learnt,
+  byte-reads.Asked,
+  byte-reads.Learnt,
+  wide-reads.Asked,
+  wide-reads.Learnt,
+  check-members-below t,
+  check-members.Post,
+  check-class-below t,
+  check-class.Post,
+  check-ranges-reads.Asked,
+  check-ranges-reads.Learnt,
+  check-options-below t,
+  check-options.Post,
+  mark-of-reads.Asked,
+  mark-of-reads.Learnt,
+)
 
 abbrev pub check-members-calls : ℕ → check-members-lts.Claims
 check-members-calls t = (check-class-below t, check-class.Post)
 
 abbrev pub check-options-calls : ℕ → check-options-lts.Claims
-check-options-calls t = (option-fault-reads.Asked, option-fault-reads.Learnt, byte-reads.Asked, byte-reads.Learnt, wide-reads.Asked, wide-reads.Learnt, check-ranges-reads.Asked, check-ranges-reads.Learnt, check-class-below t, check-class.Post)
+check-options-calls t = (
+  option-fault-reads.Asked,
+  option-fault-reads.Learnt,
+  byte-reads.Asked,
+  byte-reads.Learnt,
+  wide-reads.Asked,
+  wide-reads.Learnt,
+  check-ranges-reads.Asked,
+  check-ranges-reads.Learnt,
+  check-class-below t,
+  check-class.Post,
+)

@@ -17,6 +17,24 @@ abbrev pub μ-loop : lts.MeasureT-loop
 μ-loop table under left at count next₀ todo₀ next todo = todo
 
 module _ (t : ℕ) where
+  -- Places of the code: a turn's start; its member walked
+
+  abbrev AtTurn : Type 0
+  AtTurn = lts.In-loop (check-members-calls t) (check-members-at t) reads.Post Inv-loop μ-loop
+
+  abbrev AtMember : Type 0
+  AtMember = lts.After-check-class (check-members-calls t) (check-members-at t) reads.Post Inv-loop μ-loop
+
+  -- The way back
+
+  abbrev loop : AtTurn → lts.At-loop (check-members-calls t) (check-members-at t) reads.Post Inv-loop μ-loop
+  loop c = c .before
+
+  abbrev turn : AtMember → AtTurn
+  turn c = c .before
+
+  -- The turns
+
   pub loop-holds : lts.Need-loop-holds (check-members-calls t) (check-members-at t) reads.Post Inv-loop μ-loop
   loop-holds c = refl
 
@@ -28,10 +46,9 @@ module _ (t : ℕ) where
 
   pub returns : lts.Need-returns (check-members-calls t) (check-members-at t) reads.Post Inv-loop μ-loop
   returns c =
-      let check-class = c .before .before .before .check-class in
-      let loop-test = c .before .before .before .before .loop-test in
-      let loop = c .before .before .before .before .before .loop in
-      members-bad _ _ _ _ (loop .inv) (loop-test .taken) _ (check-class .ensures) _ _ (c .before .r .given .1)
+      let m = c .before .before .before in
+      let n = turn m in
+      members-bad _ _ _ _ (loop n .loop .inv) (n .loop-test .taken) _ (m .check-class .ensures) _ _ (c .before .r .given .1)
 
   pub enum-known-r-2 : lts.Need-enum-known-r-2 (check-members-calls t) (check-members-at t) reads.Post Inv-loop μ-loop
   enum-known-r-2 c = search needs
@@ -44,10 +61,9 @@ module _ (t : ℕ) where
 
   pub loop-again : lts.Need-loop-again (check-members-calls t) (check-members-at t) reads.Post Inv-loop μ-loop
   loop-again c =
-      let check-class = c .before .before .before .check-class in
-      let loop-test = c .before .before .before .before .loop-test in
-      let loop = c .before .before .before .before .before .loop in
-      members-fine _ _ _ _ (loop .inv) (loop-test .taken) _ (check-class .ensures) _ (c .before .r2 .given .1)
+      let m = c .before .before .before in
+      let n = turn m in
+      members-fine _ _ _ _ (loop n .loop .inv) (n .loop-test .taken) _ (m .check-class .ensures) _ (c .before .r2 .given .1)
 
   pub returns-2 : lts.Need-returns-2 (check-members-calls t) (check-members-at t) reads.Post Inv-loop μ-loop
   returns-2 c = members-none _ _ _ _ (c .before .loop .inv) (c .loop-test .left)

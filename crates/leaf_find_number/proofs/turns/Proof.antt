@@ -1,10 +1,10 @@
 -- By the offset, and then the orders.
 use borrow.Author.Needs.{needs}
-use Rattle.leaf_find_number.proofs.find.turns.Statement.{statement}
-use Rattle.leaf_find_number.proofs.find.turns.Tie as tie
-use Rattle.leaf_find_number.proofs.find.turns.Reads as reads
-use Rattle.leaf_find_number.proofs.find.turns.Lts as lts
-use Rattle.leaf_find_number.proofs.find.differs.Reads as differs-reads
+use Rattle.leaf_find_number.proofs.turns.Statement.{statement}
+use Rattle.leaf_find_number.proofs.turns.Tie as tie
+use Rattle.leaf_find_number.proofs.turns.Reads as reads
+use Rattle.leaf_find_number.proofs.turns.Lts as lts
+use Rattle.leaf_find_number.proofs.differs.Reads as differs-reads
 use borrow.Author.Tests.{eq-eqb, ne-eqb}
 
 returns : tie.Need-returns

@@ -1,4 +1,4 @@
-// The papers' limits on a table, each named once.
+// The papers' limits on a table and on a stream, and the numbers that stand for none.
 
 // "empty, or over 65,536 bytes" (Refusing a table)
 pub const TABLE_LIMIT: usize = 65_536;
@@ -9,8 +9,14 @@ pub const FRAGMENT_LIMIT: usize = 512;
 // "to depth 8, the root structure being depth 1" (The class table)
 pub const DEPTH_LIMIT: usize = 8;
 
+// "members 0 to 64" (The class table)
+pub const MEMBER_LIMIT: usize = 64;
+
 // "options 1 to 32" (The class table)
 pub const OPTION_LIMIT: usize = 32;
+
+// "ranges 1 to 16" (The class table)
+pub const RANGE_LIMIT: u8 = 16;
 
 // "there are sixty-four slots", "Slots 0 to 15 are set by packet roots (0, 1), 16 to 63 by event roots" (The class table)
 pub const LAST_PACKET_SLOT: u8 = 15;
@@ -26,8 +32,19 @@ pub const LAST_SLOT_OUT: u8 = 254;
 
 pub const NO_SLOT: u8 = 255;
 
+pub const NO_SLOT_READ: usize = NO_SLOT as usize;
+
 // "clock id, 255 none" (The class table)
 pub const NO_CLOCK: u8 = 255;
 
-// "Roles: .. 0 none" (The class table)
-pub const NO_ROLE: u8 = 0;
+// The bytes of a UUID.
+pub const UUID_BYTES: usize = 16;
+
+// "stream empty or over 16,777,216 bytes" (21)
+pub const STREAM_LIMIT: usize = 16_777_216;
+
+// "A length needs an unsigned number", of 65,535 at most (28)
+pub const LENGTH_LIMIT: u64 = 65_535;
+
+// "validate that V is 0xc1fc1fc1" (000 6.1)
+pub const MAGIC_NUMBER: u64 = 0xC1FC_1FC1;

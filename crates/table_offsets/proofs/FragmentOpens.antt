@@ -16,7 +16,7 @@ use Rattle.table_offsets.proofs.Places.{latest-other, latest-set}
 use Rattle.table_offsets.proofs.Rows.{rows, room}
 use Rattle.table_offsets.proofs.Sound.{head-fine}
 
-pub record Opens (t : List ℕ) (n at : ℕ) : Type 0 where
+pub record FragmentOpens (t : List ℕ) (n at : ℕ) : Type 0 where
   pub within : at < length t
   pub body : bodyMark (getD t at 0) < length t - at
   pub low : 2 ≤ getD t at 0
@@ -41,7 +41,8 @@ open-few n k x false false false true p q r s h u v false e f =
     let z : k ≡ 5 = eqb-true _ _ s in let y : n ≤ 511 = ltb-false _ _ f in (omega arith, (omega arith, omega arith))
 open-few n k x false false false false p q r s h u v w e f = absurd (omega arith)
 
-pub opens : (t : List ℕ) (trace : Bool) (seen : List ℕ) (n at : ℕ) → n ≤ 512 → (f : ℕ) → f ≡ fragmentFault t trace seen n at → f ≡ 0 → Opens t n at
+pub opens : (t : List ℕ) (trace : Bool) (seen : List ℕ) (n at : ℕ) → n ≤ 512 → (f : ℕ) → f ≡ fragmentFault t trace seen n at → f ≡ 0
+    → FragmentOpens t n at
 unfolding fragmentFault openFault counted
 opens t trace seen n at h f asked fine =
     let a = first-fine _ _ (sym asked ∙ fine) in
@@ -51,24 +52,29 @@ opens t trace seen n at h f asked fine =
     let g = open-few n k _ (eqb k 2) (eqb k 3) (eqb k 4) (eqb k 5) refl refl refl refl h _ _ (ltb 511 n) (o .1) refl in
     record { within = b .0; body = b .1; low = g .0; high = g .1 .0; few = g .1 .1 }
 
-by-roots : (t : List ℕ) (at k e : ℕ) (a b c : Bool) → eqb k 2 ≡ a → eqb k 3 ≡ b → eqb k 4 ≡ c → 2 ≤ k → k ≤ 5 → at + 1 + bodyMark k ≤ length t
+by-roots : (t : List ℕ) (at k e : ℕ) (a b c : Bool) → eqb k 2 ≡ a → eqb k 3 ≡ b → eqb k 4 ≡ c → 2 ≤ k → k ≤ 5
+    → at + 1 + bodyMark k ≤ length t
     → pickW a (rootsAt t false (eqb (getD t (at + 1) 0) 1) 0 (at + 18) 1)
     (pickW b (rootsAt t false false 0 (at + 10) 0)
     (pickW c (rootsAt t (not (eqb (getD t (at + 9) 0) 255)) false 1 (at + 10) 3) (rootsAt t false false 4 (at + 17) 2))) ≡ Fine e
     → (at < e) × (e ≤ length t)
 unfolding pickW
 by-roots t at k e true b c p q r l m h w =
-    let x = roots-end t _ _ 0 (at + 18) 1 e (omega (arith, room k 2 17 (rows .traceClass) (length t) at h (eqb-true _ _ p))) w in (omega (arith, x .0), x .1)
+    let x = roots-end t _ _ 0 (at + 18) 1 e (omega (arith, room k 2 17 (rows .traceClass) (length t) at h (eqb-true _ _ p))) w in
+    (omega (arith, x .0), x .1)
 by-roots t at k e false true c p q r l m h w =
-    let x = roots-end t _ _ 0 (at + 10) 0 e (omega (arith, room k 3 9 (rows .clockClass) (length t) at h (eqb-true _ _ q))) w in (omega (arith, x .0), x .1)
+    let x = roots-end t _ _ 0 (at + 10) 0 e (omega (arith, room k 3 9 (rows .clockClass) (length t) at h (eqb-true _ _ q))) w in
+    (omega (arith, x .0), x .1)
 by-roots t at k e false false true p q r l m h w =
-    let x = roots-end t _ _ 1 (at + 10) 3 e (omega (arith, room k 4 9 (rows .streamClass) (length t) at h (eqb-true _ _ r))) w in (omega (arith, x .0), x .1)
+    let x = roots-end t _ _ 1 (at + 10) 3 e (omega (arith, room k 4 9 (rows .streamClass) (length t) at h (eqb-true _ _ r))) w in
+    (omega (arith, x .0), x .1)
 by-roots t at k e false false false p q r l m h w =
     let a = eqb-false k 2 p in let b = eqb-false k 3 q in let c = eqb-false k 4 r in
     let z : k ≡ 5 = omega (arith, a, b, c) in
-    let x = roots-end t _ _ 4 (at + 17) 2 e (omega (arith, room k 5 16 (rows .eventClass) (length t) at h z)) w in (omega (arith, x .0), x .1)
+    let x = roots-end t _ _ 4 (at + 17) 2 e (omega (arith, room k 5 16 (rows .eventClass) (length t) at h z)) w in
+    (omega (arith, x .0), x .1)
 
-pub fragment-end : (t : List ℕ) (n at e : ℕ) → Opens t n at → rootsOf t at (getD t at 0) ≡ Fine e → (at < e) × (e ≤ length t)
+pub fragment-end : (t : List ℕ) (n at e : ℕ) → FragmentOpens t n at → rootsOf t at (getD t at 0) ≡ Fine e → (at < e) × (e ≤ length t)
 unfolding rootsOf
 fragment-end t n at e o w =
     let k = getD t at 0 in
@@ -76,7 +82,8 @@ fragment-end t n at e o w =
 
 -- what is seen with it
 
-by-seen : (xs : List ℕ) (n at : ℕ) (b : Bool) → n < length xs → latest (set xs n at) (n + pickN b 0 1) ≡ elim b [ true ↦ latest xs n | false ↦ at ∷ latest xs n ]
+by-seen : (xs : List ℕ) (n at : ℕ) (b : Bool) → n < length xs
+    → latest (set xs n at) (n + pickN b 0 1) ≡ elim b [ true ↦ latest xs n | false ↦ at ∷ latest xs n ]
 unfolding pickN
 by-seen xs n at true h = let e : n + 0 ≡ n = omega arith in rw e (latest-other xs n at n (omega arith))
 by-seen xs n at false h = sym (latest-set xs n at h)
@@ -85,7 +92,8 @@ pub seen-more : (xs : List ℕ) (n at k : ℕ) → n < length xs → latest (set
 unfolding counted seenWith
 seen-more xs n at k h = by-seen xs n at (eqb k 2) h
 
-by-length : (at : ℕ) (seen : List ℕ) (b : Bool) → length {A = ℕ} (elim b as (λ _. List ℕ) [ true ↦ seen | false ↦ at ∷ seen ]) ≡ length seen + pickN b 0 1
+by-length : (at : ℕ) (seen : List ℕ) (b : Bool)
+    → length {A = ℕ} (elim b as (λ _. List ℕ) [ true ↦ seen | false ↦ at ∷ seen ]) ≡ length seen + pickN b 0 1
 unfolding pickN
 by-length at seen true = omega arith
 by-length at seen false = omega arith

@@ -1,13 +1,13 @@
 -- By the answer; no LEB128 number has more than ten bytes.
 use borrow.Author.Needs.{needs}
-use Rattle.leaf_find_number.proofs.find.leb_at.Statement.{statement}
-use Rattle.leaf_find_number.proofs.find.leb_at.Tie as tie
-use Rattle.leaf_find_number.proofs.find.leb_at.Reads as reads
-use Rattle.leaf_find_number.proofs.find.leb_at.Lts as lts
+use Rattle.leaf_find_number.proofs.leb_at.Statement.{statement}
+use Rattle.leaf_find_number.proofs.leb_at.Tie as tie
+use Rattle.leaf_find_number.proofs.leb_at.Reads as reads
+use Rattle.leaf_find_number.proofs.leb_at.Lts as lts
 use Rattle.places.proofs.bits_in.Reads as bits-in-reads
 use mathlib.Core.Path.{refl}
 use native.Mathlib.Omega.{arith}
-use Rattle.leaf_find_number.proofs.Found.{short-value}
+use Rattle.leaf_find_number.proofs.Finds.{short-value}
 use Rattle.leaf_find_number.specs.Found.{foundLeb}
 
 enum-known-answer : tie.Need-enum-known-answer

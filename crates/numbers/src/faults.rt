@@ -30,3 +30,6 @@ pub const RANGES_CONTRADICT: u8 = 13;
 pub const TOO_DEEP: u8 = 14;
 
 pub const TOO_MANY_FRAGMENTS: u8 = 15;
+
+// "20: table refused" (Reading)
+pub const TABLE_REFUSED: u8 = 20;

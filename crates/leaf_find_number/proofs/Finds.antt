@@ -20,11 +20,12 @@ use Rattle.rules.specs.Field.{otherOrder}
 use Rattle.rules.specs.Leb128.{lebUnsigned, lebSigned}
 use Rattle.places.proofs.Multiple.{aligning}
 use Rattle.leb128.proofs.ValueSays.{unsigned-value, signed-value}
-use Rattle.leaf_find_number.specs.declared.Frame.{Frame}
-use Rattle.leaf_find_number.specs.declared.find.Found.{Found}
-use Rattle.leaf_find_number.specs.declared.find.Found.the-variants.{At, Refused}
-use Rattle.leaf_find_number.specs.Found.{alignedAt, unless, within, bytesAhead, foundBits, foundUnsigned, foundSigned, foundLeb}
-use Rattle.leaf_find_number.specs.Framed.{Short}
+use Rattle.frame.specs.declared.Frame.{Frame}
+use Rattle.leaf_find_number.specs.declared.Found.{Found}
+use Rattle.leaf_find_number.specs.declared.Found.the-variants.{At, Refused}
+use Rattle.frame.specs.Framed.{alignedAt}
+use Rattle.leaf_find_number.specs.Found.{unless, within, bytesAhead, foundBits, foundUnsigned, foundSigned, foundLeb}
+use Rattle.leaf_find_number.specs.Found.{Short}
 
 pub within-past : (f : Frame) (p : BitPlace) (n : ℕ) (x : Found) → f .bound .0 < p .0 + n → within f p n x ≡ Refused PastBound
 unfolding within unless

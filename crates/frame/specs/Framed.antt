@@ -4,10 +4,9 @@ use mathlib.Core.Path.{_≡_}
 use mathlib.Core.List.{List}
 use lib.ListN.{length}
 use Rattle.rules.specs.declared.BitPlace.{BitPlace}
-use Rattle.rules.specs.declared.Leb.{Leb}
-use Rattle.rules.specs.declared.Leb.the-variants.{Value, Past, Large}
+use Rattle.rules.specs.Place.{bitPlace, alignFrom}
 use Rattle.rules.specs.Field.{Env}
-use Rattle.leaf_find_number.specs.declared.Frame.{Frame}
+use Rattle.frame.specs.declared.Frame.{Frame}
 
 -- what the rules' reading of fields rests on, of a stream, a UUID and a frame
 abbrev pub envOf : List ℕ → List ℕ → Frame → Env
@@ -21,8 +20,6 @@ pub record Framed (bytes : List ℕ) (f : Frame) (p : BitPlace) : Type 0 where
   pub ends : f .bound .0 ≤ 8 * length bytes
   pub small : 8 * length bytes < 2 ^ 60
 
--- a LEB128 number of ten bytes at most
-unfoldable pub Short : Leb → Type 0
-Short (Value v n) = n .0 ≤ 10
-Short Past = Unit {0}
-Short Large = Unit {0}
+-- "A field aligns (place - P) up to its requirement"
+unfoldable pub alignedAt : Frame → ℕ → BitPlace → BitPlace
+alignedAt f a p = bitPlace (alignFrom (f .start .0) a (p .0))
