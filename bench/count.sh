@@ -14,6 +14,7 @@ count_row() { # ROWS SHAPE CLASSES: one row of the table
 
 count_rows() { # ROWS [SHAPE CLASSES]: of one row, or of all
     local shape classes
+    needs valgrind
     printf '| %-14s | %7s | %17s | %5s |\n|---|--:|--:|--:|\n' shape classes 'millions of them' ratio
     if [ $# -eq 3 ]; then
         count_row "$@"

@@ -54,7 +54,7 @@ fn magic_ok(root: u8, kind: u8, length: u8, start: usize, at: usize) -> bool
     at - start == bodies::STRUCTURE_SIZE
 }
 
-// "roles::UUID is on a 16-byte kind 25, in a trace class that has one; no other role stands on kind 25."
+// "UUID is on a 16-byte kind 25, in a trace class that has one; no other role stands on kind 25."
 fn blob_ok(role: u8, root: u8, count: usize, uuid: bool) -> bool
     ensures { λ r. ⌜ r ≡ blobOk role root count uuid ⌝ }
 {

@@ -1,6 +1,6 @@
 // Fields that hold fields, kinds 28 to 32. `read_field` lists a field's own entry and hands what is inside to a walk, one depth less; a walk
-// reads leaves itself and hands a field that holds others back to `read_field`. The slots go by value through these calls alone: a leaf says
-// which slot it sets and the walk sets it, since to copy all sixty-four costs more than most leaves.
+// reads leaves itself, opens in its run what it can, and hands only what is left back to `read_field`. The slots go by value through these
+// calls alone: a leaf says which slot it sets and the walk sets it, since to copy all sixty-four costs more than most leaves.
 //
 // What stopped hands back state and slots as they came, whatever was read inside it; only the list keeps what was listed.
 use crate::Field;

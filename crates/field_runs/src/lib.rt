@@ -1,7 +1,7 @@
 // What is left of a run of fields, in numbers alone. A structure or an optional is opened in place: its parts stand where its record ends,
 // and end where it ends, so that they take its turn among the classes. The class of a variant's option, and an array's elements, stand in
-// front of what was left, which is put off; only where something is put off already, or an element is open, does such a field have to be
-// read by itself.
+// front of what was left, which is put off. Where something is put off already, or an element is open, a run cannot take such a field: it
+// stands in a run of its own, or is read by itself.
 use numbers::kinds;
 use table_bytes::size_at;
 ghost use mathlib.Core.Path.{_≡_};

@@ -1,4 +1,4 @@
-// The papers' limits on a table and on a stream, and the numbers that stand for none.
+// The papers' limits on a table and on a stream, the numbers that stand for none, and the magic number.
 
 // "empty, or over 65,536 bytes" (Refusing a table)
 pub const TABLE_LIMIT: usize = 65_536;
