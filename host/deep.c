@@ -32,17 +32,19 @@ static void put_around(struct deep *deep, unsigned digit, uint8_t flag, uint8_t 
     }
 }
 
-/* The deepest class: of one byte, but a float of four and a structure of none. */
+/* The deepest class: of one byte, but a float of four and a structure of none. What can set a slot does, and the arrays around it forget
+ * that slot. */
 static size_t put_leaf(struct deep *deep, unsigned leaf, uint8_t count)
 {
+    uint8_t own = count + 1;
     switch (leaf) {
     case 16: PUT(deep, 16, 8, 0, 0); return 1;
-    case 17: PUT(deep, 17, 8, 0, 0, NO_SLOT); return 1;
-    case 18: PUT(deep, 18, 8, 0, 0, NO_SLOT, 0); return 1;
-    case 19: PUT(deep, 19, 8, 0, 0, NO_SLOT); return 1;
+    case 17: PUT(deep, 17, 8, 0, 0, own); return 1;
+    case 18: PUT(deep, 18, 8, 0, 0, own, 0); return 1;
+    case 19: PUT(deep, 19, 8, 0, 0, own); return 1;
     case 20: PUT(deep, 20, 32, 0, 0); return 4;
-    case 21: PUT(deep, 21, NO_SLOT, 0); return 1;
-    case 22: PUT(deep, 22, NO_SLOT); return 1;
+    case 21: PUT(deep, 21, own, 0); return 1;
+    case 22: PUT(deep, 22, own); return 1;
     case 23: PUT(deep, 23); return 1;
     case 24: PUT(deep, 24, 1, 0); return 1;
     case 25: PUT(deep, 25, 1, 0, 0); return 1;

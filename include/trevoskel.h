@@ -19,7 +19,7 @@
  * Nothing is kept: there is no state between calls, nothing is allocated, no lock is taken and no system call is made. So any number of
  * threads may call at once, with the same table and stream. The archive calls nothing but the C library's memcpy, memset and their like.
  *
- * A reading takes up to 268 KiB of stack beside what is lent, and a check up to 8 KiB (at -O3 on x86-64). host/run measures both over the
+ * A reading takes up to 370 KiB of stack beside what is lent, and a check up to 98 KiB (at -O3 on x86-64). host/run measures both over the
  * shared cases and the deepest tables, and fails at 1 MiB.
  *
  * The archive is for Linux on x86-64, or on the machine that host/run built it on; size_t has 64 bits. */
@@ -48,7 +48,7 @@ enum trevoskel_number {
     TREVOSKEL_ID_UNKNOWN = 8,             /* the clock or stream class that is named does not stand earlier */
     TREVOSKEL_KIND_NOT_ALLOWED = 9,       /* this kind here; or a root that is foreign, repeated or out of turn */
     TREVOSKEL_NUMBER_OUT_OF_RANGE = 10,
-    TREVOSKEL_SLOT_NOT_ALLOWED = 11,
+    TREVOSKEL_SLOT_NOT_ALLOWED = 11,      /* here; or it is set both inside an array element and outside it */
     TREVOSKEL_ROLE_NOT_ALLOWED = 12,
     TREVOSKEL_RANGES_CONTRADICT = 13,     /* low above high, signs mixed, or ranges of two options meet */
     TREVOSKEL_TOO_DEEP = 14,
@@ -61,7 +61,7 @@ enum trevoskel_number {
     TREVOSKEL_ORDER_CHANGED = 23,         /* the byte order changed off a byte boundary */
     TREVOSKEL_LEB128_TOO_LARGE = 24,      /* or too long */
     TREVOSKEL_NO_ZERO_BYTE = 25,
-    TREVOSKEL_SLOT_UNSET = 26,
+    TREVOSKEL_SLOT_UNSET = 26,            /* no field has set it, or only one in an array element that is over */
     TREVOSKEL_SLOT_OF_WRONG_SORT = 27,
     TREVOSKEL_LENGTH_TOO_LARGE = 28,      /* above 65,535 */
     TREVOSKEL_SELECTOR_IN_NO_OPTION = 29,

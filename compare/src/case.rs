@@ -6,6 +6,7 @@
 //! each entry and an empty line.
 
 use crate::reader::{self, Reading};
+use crate::table::{self, Elements};
 use std::fmt::Write;
 
 /// The classes a short table lacks, its full table being that of the case before.
@@ -40,11 +41,16 @@ impl Case {
     }
 
     pub fn answer(&self) -> Answer {
+        self.answer_by(Elements::Forget)
+    }
+
+    pub fn answer_by(&self, elements: Elements) -> Answer {
         let mut list = vec![PATTERN; self.words];
-        let reading = reader::read(&self.table, &self.stream, &mut list);
+        let table = table::parse_by(&self.table, elements);
+        let reading = reader::with_table(table, &self.stream, &mut list);
         let entries = list.chunks_exact(4).take(reading.entries as usize);
         Answer {
-            check: reader::check(&self.table),
+            check: table::check_by(&self.table, elements),
             reading,
             entries: entries.map(|e| [e[0], e[1], e[2], e[3]]).collect(),
         }

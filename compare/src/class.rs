@@ -108,6 +108,16 @@ pub struct Structure {
     pub members: Vec<Class>,
 }
 
+/// What both kinds of arrays have.
+#[derive(Clone, Debug, PartialEq, Eq)]
+pub struct Array {
+    /// The largest of its own align and that of its element.
+    pub requirement: u64,
+    /// One bit for each slot that becomes unset where an element starts and where it ends.
+    pub forgets: u64,
+    pub element: Box<Class>,
+}
+
 /// A field class. A slot that is set is `None` where the table has 255.
 #[derive(Clone, Debug, PartialEq, Eq)]
 pub enum Class {
@@ -124,8 +134,8 @@ pub enum Class {
     DynamicString { slot: u8 },
     DynamicBlob { slot: u8 },
     Structure(Structure),
-    StaticArray { elements: u16, requirement: u64, element: Box<Class> },
-    DynamicArray { slot: u8, requirement: u64, element: Box<Class> },
+    StaticArray { elements: u16, array: Array },
+    DynamicArray { slot: u8, array: Array },
     Optional { slot: u8, when: When, class: Box<Class> },
     Variant { slot: u8, sign: Sign, options: Vec<Choice> },
 }
@@ -146,10 +156,38 @@ impl Class {
             | Class::DynamicString { .. }
             | Class::DynamicBlob { .. } => 8,
             Class::Structure(structure) => structure.requirement,
-            Class::StaticArray { requirement, .. } | Class::DynamicArray { requirement, .. } => {
-                *requirement
+            Class::StaticArray { array, .. } | Class::DynamicArray { array, .. } => {
+                array.requirement
             }
             Class::Optional { .. } | Class::Variant { .. } => 1,
+        }
+    }
+
+    /// One bit for each slot that this class or one inside it can set, read or not.
+    pub fn can_set(&self) -> u64 {
+        match self {
+            Class::Boolean { slot, .. }
+            | Class::Unsigned { slot, .. }
+            | Class::Signed { slot, .. }
+            | Class::LebUnsigned { slot, .. }
+            | Class::LebSigned { slot } => slot.map_or(0, |slot| 1 << slot),
+            Class::BitArray(_)
+            | Class::Float(_)
+            | Class::NullTerminatedString
+            | Class::StaticString { .. }
+            | Class::StaticBlob { .. }
+            | Class::DynamicString { .. }
+            | Class::DynamicBlob { .. } => 0,
+            Class::Structure(structure) => {
+                structure.members.iter().fold(0, |slots, member| slots | member.can_set())
+            }
+            Class::StaticArray { array, .. } | Class::DynamicArray { array, .. } => {
+                array.element.can_set()
+            }
+            Class::Optional { class, .. } => class.can_set(),
+            Class::Variant { options, .. } => {
+                options.iter().fold(0, |slots, option| slots | option.class.can_set())
+            }
         }
     }
 }

@@ -178,9 +178,17 @@ pub fn damage_towards(random: &mut Random, table: &mut Vec<u8>, number: u64) {
                 21 | 22 | 26 | 27 | 30 | 31 | 32 => 1,
                 _ => 0,
             };
-            if let Some(span) = find(random, table, |kind| slot_at(kind) > 0) {
-                let at = span.start + slot_at(table[span.start]);
-                table[at] = random.pick(&[0, 15, 16, 63, 255]);
+            let named = |span: std::ops::Range<usize>| span.start + slot_at(table[span.start]);
+            let fits = |kind| slot_at(kind) > 0;
+            let sets = |kind| matches!(kind, 17..=19 | 21 | 22);
+            if let (Some(span), other) = (find(random, table, fits), find(random, table, sets)) {
+                // Often one that another class sets, which may have another home.
+                let slot = match other {
+                    Some(other) if random.chance(50) => table[named(other)],
+                    _ => random.pick(&[0, 15, 16, 63, 255]),
+                };
+                let at = named(span);
+                table[at] = slot;
             }
         }
         13 => {

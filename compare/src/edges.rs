@@ -90,7 +90,7 @@ pub fn depth_edge(random: &mut Random) -> Case {
     match random.below(3) {
         0 => records.structure(0, 0),
         1 => records.put(&[23]),
-        _ => records.unsigned(8, 16, 0),
+        _ => records.unsigned(8, random.pick(&[16, 17]), 0),
     };
     let mut stream = vec![random.between(0, 2) as u8];
     stream.extend((0..random.below(100)).map(|_| random.below(2) as u8));

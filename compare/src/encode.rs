@@ -261,12 +261,17 @@ impl Encoder<'_> {
         self.bits.place > 2 * FULL || self.fields > MOST_FIELDS
     }
 
-    fn elements(&mut self, count: u64, element: &Class) {
+    fn elements(&mut self, count: u64, array: &Array) {
         for _ in 0..count {
             if self.full() {
                 break;
             }
-            self.field(element);
+            self.field(&array.element);
+            for (number, slot) in self.slots.iter_mut().enumerate() {
+                if array.forgets >> number & 1 == 1 {
+                    *slot = Slot::Unset;
+                }
+            }
         }
     }
 
@@ -325,10 +330,8 @@ impl Encoder<'_> {
                 (0..self.count(*slot)).for_each(|_| self.text_byte(0));
             }
             Class::Structure(structure) => structure.members.iter().for_each(|m| self.field(m)),
-            Class::StaticArray { elements, element, .. } => {
-                self.elements((*elements).into(), element)
-            }
-            Class::DynamicArray { slot, element, .. } => self.elements(self.count(*slot), element),
+            Class::StaticArray { elements, array } => self.elements((*elements).into(), array),
+            Class::DynamicArray { slot, array } => self.elements(self.count(*slot), array),
             Class::Optional { slot, when, class } => {
                 if self.is_there(*slot, when) {
                     self.field(class);

@@ -4,6 +4,7 @@ use crate::case::{Case, LeftOut};
 use crate::corners::corner;
 use crate::damage::{damage_stream, damage_table, damage_towards};
 use crate::edges;
+use crate::elements::element_case;
 use crate::encode::encode;
 use crate::make_table::make_table;
 use crate::random::Random;
@@ -49,8 +50,8 @@ pub fn generate(seed: u64, count: usize) -> Vec<Case> {
                 cases.push(finish(random, case));
             }
             67..=74 => cases.push(edges::small_edge(random)),
-            _ => {
-                let case = corner(random);
+            roll => {
+                let case = if roll < 82 { element_case(random) } else { corner(random) };
                 cases.push(if random.chance(50) { finish(random, case) } else { case });
             }
         }

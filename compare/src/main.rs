@@ -11,7 +11,7 @@ use std::time::{Duration, Instant, SystemTime, UNIX_EPOCH};
 const USE: &str = "use:
   compare answers < case file
   compare cases SEED COUNT > case file
-  compare run [--each N] [--removed N] SEED COUNT PROGRAM [ARGS...]
+  compare run [--each N] [--removed N] [--elements N] SEED COUNT PROGRAM [ARGS...]
   compare soak SECONDS PROGRAM [ARGS...]";
 
 const BATCH: usize = 1000;
@@ -22,10 +22,7 @@ fn main() -> ExitCode {
     let done = match words[..] {
         ["answers"] => answers(),
         ["cases", seed, count] => cases(seed, count),
-        ["run", "--each", each, "--removed", removed, ref rest @ ..] => run(each, removed, rest),
-        ["run", "--each", each, ref rest @ ..] => run(each, "0", rest),
-        ["run", "--removed", removed, ref rest @ ..] => run("0", removed, rest),
-        ["run", ref rest @ ..] => run("0", "0", rest),
+        ["run", ref rest @ ..] => run(rest),
         ["soak", seconds, ref program @ ..] => soak(seconds, program),
         _ => None,
     };
@@ -69,11 +66,29 @@ fn cases(seed: &str, count: &str) -> Option<ExitCode> {
     Some(if written.is_ok() { ExitCode::SUCCESS } else { ExitCode::FAILURE })
 }
 
-/// Each number is to occur so often at least, and so many packets are to be removed.
-fn run(each: &str, removed: &str, words: &[&str]) -> Option<ExitCode> {
+/// What a run must reach: each number so often, so many packets removed, so many refusals of each
+/// sort that come of the slots of array elements.
+#[derive(Default)]
+struct Least {
+    each: usize,
+    removed: usize,
+    elements: usize,
+}
+
+fn run(mut words: &[&str]) -> Option<ExitCode> {
+    let mut least = Least::default();
+    while let [option, number, rest @ ..] = words {
+        let wanted = match *option {
+            "--each" => &mut least.each,
+            "--removed" => &mut least.removed,
+            "--elements" => &mut least.elements,
+            _ => break,
+        };
+        *wanted = number.parse().ok()?;
+        words = rest;
+    }
     let [seed, count, ref words @ ..] = *words else { return None };
     let program = program(words)?;
-    let (each, removed): (usize, usize) = (each.parse().ok()?, removed.parse().ok()?);
     let (seed, count): (u64, usize) = (seed.parse().ok()?, count.parse().ok()?);
     println!("seed {seed}");
     let mut tally = Tally::default();
@@ -81,6 +96,7 @@ fn run(each: &str, removed: &str, words: &[&str]) -> Option<ExitCode> {
         return Some(ExitCode::FAILURE);
     }
     print!("{tally}");
+    let Least { each, removed, elements } = least;
     let rare = tally.rarer_than(each);
     if !rare.is_empty() {
         println!("occurred fewer than {each} times: {rare:?}");
@@ -88,6 +104,10 @@ fn run(each: &str, removed: &str, words: &[&str]) -> Option<ExitCode> {
     }
     if tally.packets_removed() < removed {
         println!("fewer than {removed} packets removed");
+        return Some(ExitCode::FAILURE);
+    }
+    if tally.second_homes() < elements || tally.slots_forgotten() < elements {
+        println!("fewer than {elements} slots of a second home, or forgotten ones read");
         return Some(ExitCode::FAILURE);
     }
     Some(ExitCode::SUCCESS)

@@ -12,6 +12,17 @@ enum Sort {
     Signed,
 }
 
+/// An array by its number, from 1 on in the order they are made, or 0 outside all of them.
+type Home = usize;
+
+/// What the maker knows of the slots.
+#[derive(Clone, Copy)]
+struct Slots {
+    sorts: [Sort; 64],
+    /// Where the classes stand that set each slot, one home for all of them.
+    homes: [Option<Home>; 64],
+}
+
 /// Makes a table; `wish` is the number the case should come to, or 0.
 pub fn make_table(random: &mut Random, wish: u64) -> Vec<u8> {
     let mut maker = Maker {
@@ -19,7 +30,9 @@ pub fn make_table(random: &mut Random, wish: u64) -> Vec<u8> {
         whole_bytes: random.chance(55),
         order: random.below(2) as u8,
         records: Records::new(),
-        sorts: [Sort::Unset; 64],
+        slots: Slots { sorts: [Sort::Unset; 64], homes: [None; 64] },
+        home: 0,
+        arrays: 0,
         root: 0,
         budget: 0,
         random,
@@ -36,7 +49,9 @@ struct Maker<'r> {
     /// The order most fields have.
     order: u8,
     records: Records,
-    sorts: [Sort; 64],
+    slots: Slots,
+    home: Home,
+    arrays: usize,
     root: u8,
     /// Classes the current root may still have.
     budget: usize,
@@ -88,7 +103,7 @@ impl Maker<'_> {
                 class_bits = self.packet_header(uuid.is_some());
             }
         }
-        let header_sorts = self.sorts;
+        let header_slots = self.slots;
         let late = self.random.below(3);
         self.clocks(&mut clocks, late);
         if clocks.is_empty() && self.chance(50, &[35, 36, 39]) {
@@ -104,9 +119,9 @@ impl Maker<'_> {
             };
             let Some(id) = id else { continue };
             streams.push(id);
-            self.sorts = header_sorts;
+            self.slots = header_slots;
             let event_bits = self.stream(id, &clocks);
-            waiting.push((id, event_bits, self.sorts));
+            waiting.push((id, event_bits, self.slots));
             // Some classes get their events later, behind other stream classes.
             if self.random.chance(70) {
                 self.waiting_events(&mut waiting);
@@ -185,8 +200,8 @@ impl Maker<'_> {
         event_bits
     }
 
-    fn waiting_events(&mut self, waiting: &mut Vec<(u64, Option<u8>, [Sort; 64])>) {
-        for (stream, bits, sorts) in waiting.drain(..) {
+    fn waiting_events(&mut self, waiting: &mut Vec<(u64, Option<u8>, Slots)>) {
+        for (stream, bits, slots) in waiting.drain(..) {
             let mut events = Vec::new();
             for index in 0..self.random.between(1, 4) {
                 let id = match bits {
@@ -197,7 +212,7 @@ impl Maker<'_> {
                 let Some(id) = id else { continue };
                 events.push(id);
                 self.records.event(stream, id);
-                self.sorts = sorts;
+                self.slots = slots;
                 if self.random.chance(35) {
                     self.plain_root(4);
                 }
@@ -223,7 +238,7 @@ impl Maker<'_> {
         self.root = root;
         self.budget = self.random.between(4, 30);
         if root == 2 {
-            self.sorts[16..].fill(Sort::Unset);
+            self.slots.sorts[16..].fill(Sort::Unset);
         }
     }
 
@@ -253,10 +268,19 @@ impl Maker<'_> {
     /// A field with a role, sometimes inside a structure or an array.
     fn role(&mut self, role: u8, id_bits: u8) {
         match self.random.below(24) {
-            0 => self.records.structure(1, 0),
-            1 => self.records.static_array(self.random.between(1, 2) as u16, 0),
-            _ => &mut self.records,
-        };
+            0 => {
+                self.records.structure(1, 0);
+                self.bare_role(role, id_bits);
+            }
+            1 => {
+                self.records.static_array(self.random.between(1, 2) as u16, 0);
+                self.element(|maker| maker.bare_role(role, id_bits));
+            }
+            _ => self.bare_role(role, id_bits),
+        }
+    }
+
+    fn bare_role(&mut self, role: u8, id_bits: u8) {
         if role == 4 {
             self.records.static_blob(16, 4);
             return;
@@ -317,11 +341,20 @@ impl Maker<'_> {
         if !self.random.chance(60) {
             return NO_SLOT;
         }
-        let slot = match self.root {
-            0 | 1 => self.random.pick(&[0, 1, 2, 3, 15]),
-            _ => self.random.pick(&[16, 17, 18, 19, 20, 63]),
+        let own: &[u8] = match self.root {
+            0 | 1 => &[0, 1, 2, 3, 4, 15],
+            _ => &[16, 17, 18, 19, 20, 21, 22, 63],
         };
-        self.sorts[slot as usize] = sort;
+        // Most slots are free; one that other classes set has its home.
+        let fits =
+            |slot: &u8| self.slots.homes[*slot as usize].is_none_or(|home| home == self.home);
+        let fitting: Vec<u8> = own.iter().copied().filter(fits).collect();
+        if fitting.is_empty() {
+            return NO_SLOT;
+        }
+        let slot = self.random.pick(&fitting);
+        self.slots.sorts[slot as usize] = sort;
+        self.slots.homes[slot as usize] = Some(self.home);
         slot
     }
 
@@ -329,11 +362,19 @@ impl Maker<'_> {
     fn read_slot(&mut self, sort: Sort) -> Option<u8> {
         let limit = if self.root <= 1 { 16 } else { 64 };
         if self.random.chance(if self.wish == 26 || self.wish == 27 { 30 } else { 1 }) {
-            return Some(self.random.below(limit) as u8);
+            // Any, or one that some class so far sets, be it in an element or in an option.
+            let set = self.slots_where(limit, |slots, slot| slots.homes[slot].is_some());
+            return match self.random.chance(50) && !set.is_empty() {
+                true => Some(self.random.pick(&set)),
+                false => Some(self.random.below(limit) as u8),
+            };
         }
-        let fitting: Vec<u8> =
-            (0..limit).filter(|&slot| self.sorts[slot] == sort).map(|slot| slot as u8).collect();
+        let fitting = self.slots_where(limit, |slots, slot| slots.sorts[slot] == sort);
         (!fitting.is_empty()).then(|| self.random.pick(&fitting))
+    }
+
+    fn slots_where(&self, limit: usize, holds: impl Fn(&Slots, usize) -> bool) -> Vec<u8> {
+        (0..limit).filter(|&slot| holds(&self.slots, slot)).map(|slot| slot as u8).collect()
     }
 
     fn class(&mut self, depth: u32) {
@@ -354,13 +395,13 @@ impl Maker<'_> {
                 let elements = self.random.below(4) as u16;
                 let align = self.align();
                 self.records.static_array(elements, align);
-                self.guarded(depth + 1);
+                self.element(|maker| maker.guarded(depth + 1));
             }
             76..=82 => match self.read_slot(Sort::Unsigned) {
                 Some(slot) => {
                     let align = self.align();
                     self.records.put(&[30, slot, align]);
-                    self.guarded(depth + 1);
+                    self.element(|maker| maker.guarded(depth + 1));
                 }
                 None => self.fixed(),
             },
@@ -371,9 +412,18 @@ impl Maker<'_> {
 
     /// A class that may not be read, so that its slots cannot be relied on.
     fn guarded(&mut self, depth: u32) {
-        let sorts = self.sorts;
+        let sorts = self.slots.sorts;
         self.class(depth);
-        self.sorts = sorts;
+        self.slots.sorts = sorts;
+    }
+
+    /// What an array's element is, which has a home of its own.
+    fn element(&mut self, make: impl FnOnce(&mut Self)) {
+        let outer = self.home;
+        self.arrays += 1;
+        self.home = self.arrays;
+        make(self);
+        self.home = outer;
     }
 
     fn fixed(&mut self) {

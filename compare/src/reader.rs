@@ -2,7 +2,7 @@
 
 use crate::bits::{self, LebFault};
 use crate::class::*;
-use crate::table;
+use crate::table::{self, Refusal};
 
 pub const MOST_STREAM_BYTES: usize = 16_777_216;
 const MAGIC: u64 = 0xc1fc_1fc1;
@@ -20,15 +20,15 @@ pub struct Reading {
     pub second: u64,
 }
 
-/// 0 and the table's length, or the refusal's number and byte.
-pub fn check(table: &[u8]) -> (u64, u64) {
-    table::check(table)
-}
-
 /// Reads the stream; the entries go to the list, words behind them stay.
 pub fn read(table: &[u8], stream: &[u8], list: &mut [u64]) -> Reading {
+    with_table(table::parse(table), stream, list)
+}
+
+/// The same with what became of the table's bytes.
+pub fn with_table(table: Result<Table, Refusal>, stream: &[u8], list: &mut [u64]) -> Reading {
     let refuse = |number, place, first| Reading { number, entries: 0, place, first, second: 0 };
-    let table = match table::parse(table) {
+    let table = match table {
         Ok(table) => table,
         Err(refusal) => return refuse(20, refusal.byte, refusal.number),
     };
@@ -314,14 +314,14 @@ impl<'a> Reader<'a> {
                 self.blob(27, length)?;
             }
             Class::Structure(structure) => self.structure(structure)?,
-            Class::StaticArray { elements, requirement, element } => {
+            Class::StaticArray { elements, array } => {
                 self.room()?;
-                self.elements(29, *elements as u64, *requirement, element)?;
+                self.elements(29, *elements as u64, array)?;
             }
-            Class::DynamicArray { slot, requirement, element } => {
+            Class::DynamicArray { slot, array } => {
                 self.room()?;
                 let length = self.length(*slot)?;
-                self.elements(30, length, *requirement, element)?;
+                self.elements(30, length, array)?;
             }
             Class::Optional { slot, when, class } => {
                 self.room()?;
@@ -427,12 +427,21 @@ impl<'a> Reader<'a> {
         Ok(())
     }
 
-    fn elements(&mut self, kind: u64, count: u64, requirement: u64, element: &'a Class) -> Step {
-        let place = self.aligned(requirement)?;
+    fn elements(&mut self, kind: u64, count: u64, array: &'a Array) -> Step {
+        let place = self.aligned(array.requirement)?;
         self.enter(kind, place, 0, count);
         self.place = place;
+        // Most elements set no slot, and have nothing to pay for those that do.
+        if array.forgets == 0 {
+            for _ in 0..count {
+                self.field(&array.element)?;
+            }
+            return Ok(());
+        }
         for _ in 0..count {
-            self.field(element)?;
+            self.set_slots &= !array.forgets;
+            self.field(&array.element)?;
+            self.set_slots &= !array.forgets;
         }
         Ok(())
     }

@@ -101,6 +101,55 @@ fn slots_of_the_wrong_sort() {
 }
 
 #[test]
+fn elements_forget() {
+    // A flag, what it announces and a string of that length: the second element announces nothing.
+    let mut records = payload(1);
+    records.static_array(2, 0).structure(3, 0);
+    records.put(&[17, 8, 0, 0, 16, 31, 16, 0]).unsigned(8, 17, 0).put(&[26, 17]);
+    let (reading, entries) = run(&records, &[1, 1, b'x', 0], 8000);
+    assert_eq!(reading, result(26, entries.len() as u64, 32));
+    assert_eq!(entries.last(), Some(&[31, 32, 0, 0]));
+    assert_eq!(fields(&records, &[1, 1, b'x', 1, 0]).0, 0);
+    // The first member sees nothing of the element before.
+    let mut records = payload(1);
+    records.static_array(2, 0).structure(2, 0).put(&[26, 16]).unsigned(8, 16, 0);
+    assert_eq!(run(&records, &[1, 1], 8000).0.number, 26);
+}
+
+#[test]
+fn slots_are_unset_behind_the_array() {
+    // The element's own class is inside the element.
+    let mut records = payload(2);
+    records.static_array(1, 0).unsigned(8, 16, 0).put(&[26, 16]);
+    assert_eq!(run(&records, &[0], 8000).0, result(26, 8, 8));
+    // An inner element's slot is unset in the outer one, and the outer one's is not.
+    for (slot, number) in [(16, 0), (17, 26)] {
+        let mut records = payload(1);
+        records.static_array(1, 0).structure(3, 0).unsigned(8, 16, 0);
+        records.put(&[30, 16, 0]).unsigned(8, 17, 0).put(&[26, slot]);
+        assert_eq!(fields(&records, &[1, 0, b'x']).0, number);
+    }
+    // What was set before the array stays, in its elements and behind it.
+    let mut records = payload(3);
+    records.unsigned(8, 16, 0).put(&[30, 16, 0]).structure(2, 0).unsigned(8, 17, 0);
+    records.put(&[26, 16, 26, 16]);
+    assert_eq!(fields(&records, &[1, 9, b'x', b'y']).0, 0);
+    // An array whose elements alone set its length has none.
+    assert_eq!(fields(payload(1).put(&[30, 16, 0]).unsigned(8, 16, 0), &[1]).0, 26);
+}
+
+#[test]
+fn slots_are_unset_behind_the_root() {
+    let mut records = Records::new();
+    records.stream(0, 255).root(1, 1).static_array(1, 0).unsigned(8, 0, 0);
+    records.root(3, 1).static_array(2, 0).structure(2, 0).unsigned(8, 16, 0);
+    records.put(&[30, 16, 0, 16, 8, 0, 0]).event(0, 0).root(5, 1);
+    assert_eq!(run(records.clone().put(&[26, 16]), &[0, 0, 0], 8000).0.number, 26);
+    assert_eq!(run(records.clone().put(&[26, 0]), &[0, 0, 0], 8000).0.number, 26);
+    assert_eq!(run(records.put(&[23]), &[0, 0, 0, 0], 8000).0.number, 0);
+}
+
+#[test]
 fn lengths_up_to_65535() {
     let mut records = payload(2);
     records.unsigned(32, 16, 0).put(&[30, 16, 0]).structure(0, 0);

@@ -5,6 +5,8 @@
 //! place the record stands at, and 10 to 15 where its body is understood.
 
 use crate::class::*;
+use crate::homes::{Home, Homes};
+use crate::records::NO_SLOT;
 use std::collections::{HashMap, HashSet};
 
 pub const MOST_BYTES: usize = 65_536;
@@ -35,17 +37,33 @@ pub struct Refusal {
 
 /// 0 and the table's length, or the refusal's number and byte.
 pub fn check(table: &[u8]) -> (u64, u64) {
-    match parse(table) {
+    check_by(table, Elements::Forget)
+}
+
+pub fn check_by(table: &[u8], elements: Elements) -> (u64, u64) {
+    match parse_by(table, elements) {
         Ok(_) => (0, table.len() as u64),
         Err(refusal) => (refusal.number, refusal.byte),
     }
 }
 
 pub fn parse(bytes: &[u8]) -> Result<Table, Refusal> {
+    parse_by(bytes, Elements::Forget)
+}
+
+/// What array elements do to the slots that are set in them.
+#[derive(Clone, Copy, PartialEq, Eq)]
+pub enum Elements {
+    Forget,
+    /// Document 01 before request 3: kept to count the cases that this one changed.
+    Remember,
+}
+
+pub fn parse_by(bytes: &[u8], elements: Elements) -> Result<Table, Refusal> {
     if bytes.is_empty() || bytes.len() > MOST_BYTES {
         return Err(Refusal { number: 1, byte: 0 });
     }
-    let mut parser = Parser::new(bytes);
+    let mut parser = Parser::new(bytes, elements);
     while parser.next < bytes.len() || parser.next == 0 {
         parser.fragment_or_root()?;
     }
@@ -139,7 +157,7 @@ impl Scope {
     }
 
     fn sets(&self, slot: u8) -> bool {
-        slot == 255 || (slot < 16) == self.is_packet()
+        slot == NO_SLOT || (slot < 16) == self.is_packet()
     }
 
     fn reads(&self, slot: u8) -> bool {
@@ -167,20 +185,27 @@ struct Spot {
     depth: u32,
     /// The first member of the root structure, where a magic may stand.
     leads: bool,
+    home: Home,
 }
 
 impl Spot {
+    const ROOT: Spot = Spot { depth: 1, leads: false, home: Home::NoArray };
+
     fn within(self) -> Spot {
-        Spot { depth: self.depth + 1, leads: false }
+        Spot { depth: self.depth + 1, leads: false, home: self.home }
+    }
+
+    fn member(self, index: u8) -> Spot {
+        Spot { leads: self.depth == 1 && index == 0, ..self.within() }
+    }
+
+    fn element(self, array: &Record) -> Spot {
+        Spot { home: Home::Array(array.at), ..self.within() }
     }
 }
 
 fn slot_in_range(slot: u8) -> bool {
-    slot < 64 || slot == 255
-}
-
-fn set_slot(slot: u8) -> Option<u8> {
-    (slot != 255).then_some(slot)
+    slot < 64 || slot == NO_SLOT
 }
 
 struct Parser<'a> {
@@ -193,11 +218,13 @@ struct Parser<'a> {
     clocks: [bool; 256],
     stream_index: HashMap<u64, usize>,
     events: HashSet<(u64, u64)>,
+    elements: Elements,
+    homes: Homes,
     table: Table,
 }
 
 impl<'a> Parser<'a> {
-    fn new(bytes: &'a [u8]) -> Self {
+    fn new(bytes: &'a [u8], elements: Elements) -> Self {
         Parser {
             bytes,
             next: 0,
@@ -208,6 +235,8 @@ impl<'a> Parser<'a> {
             clocks: [false; 256],
             stream_index: HashMap::new(),
             events: HashSet::new(),
+            elements,
+            homes: Homes::default(),
             table: Table::default(),
         }
     }
@@ -276,6 +305,7 @@ impl<'a> Parser<'a> {
                 let id = record.word(0);
                 let stream = self.table.streams.len();
                 self.stream_index.insert(id, stream);
+                self.homes.open_stream();
                 self.table.streams.push(StreamClass {
                     id,
                     has_clock: body[8] != 255,
@@ -291,6 +321,7 @@ impl<'a> Parser<'a> {
                 let (stream_id, id) = (record.word(0), record.word(8));
                 self.events.insert((stream_id, id));
                 let stream = self.stream_index[&stream_id];
+                self.homes.open_event(stream);
                 let events = &mut self.table.streams[stream].events;
                 events.push(EventClass { id, specific: None, payload: None });
                 Fragment::Event { stream, event: events.len() - 1 }
@@ -311,7 +342,7 @@ impl<'a> Parser<'a> {
         };
         let scope = Scope { root, has_uuid: self.table.trace.uuid.is_some(), has_clock };
         let record = self.take(Expected::Structure)?;
-        let structure = self.structure(&record, scope, Spot { depth: 1, leads: false })?;
+        let structure = self.structure(&record, scope, Spot::ROOT)?;
         let place = match self.fragment {
             Fragment::Stream(stream) => {
                 let stream = &mut self.table.streams[stream];
@@ -347,8 +378,7 @@ impl<'a> Parser<'a> {
         let mut requirement = 1 << align;
         let mut members = Vec::with_capacity(count as usize);
         for index in 0..count {
-            let leads = spot.depth == 1 && index == 0;
-            let member = self.class(scope, Spot { depth: spot.depth + 1, leads })?;
+            let member = self.class(scope, spot.member(index))?;
             requirement = requirement.max(member.requirement());
             members.push(member);
         }
@@ -364,10 +394,9 @@ impl<'a> Parser<'a> {
                 let role = if record.kind == 21 { body[1] } else { 0 };
                 record.demand(slot_in_range(body[0]), 10)?;
                 let role = numbered_role(&record, role)?;
-                record.demand(scope.sets(body[0]), 11)?;
+                let slot = self.set_slot(&record, scope, spot, body[0])?;
                 record.demand(scope.allows(role) && role != Role::Magic, 12)?;
                 record.demand(spot.depth <= MOST_DEPTH, 14)?;
-                let slot = set_slot(body[0]);
                 Ok(match record.kind {
                     21 => Class::LebUnsigned { slot, role },
                     _ => Class::LebSigned { slot },
@@ -381,15 +410,15 @@ impl<'a> Parser<'a> {
         }
     }
 
-    fn fixed(&self, record: &Record, scope: Scope, spot: Spot) -> Result<Class, Refusal> {
+    fn fixed(&mut self, record: &Record, scope: Scope, spot: Spot) -> Result<Class, Refusal> {
         let body = record.body;
         let length = body[0];
         record.demand((1..=64).contains(&length) && body[1] <= 1 && body[2] <= 6, 10)?;
         record.demand(record.kind != 20 || length == 32 || length == 64, 10)?;
-        let slot = if (17..=19).contains(&record.kind) { body[3] } else { 255 };
+        let slot = if (17..=19).contains(&record.kind) { body[3] } else { NO_SLOT };
         record.demand(slot_in_range(slot), 10)?;
         let role = numbered_role(record, if record.kind == 18 { body[4] } else { 0 })?;
-        record.demand(scope.sets(slot), 11)?;
+        let slot = self.set_slot(record, scope, spot, slot)?;
         let magic_fits = role != Role::Magic || (length == 32 && spot.leads);
         record.demand(scope.allows(role) && magic_fits, 12)?;
         record.demand(spot.depth <= MOST_DEPTH, 14)?;
@@ -398,7 +427,6 @@ impl<'a> Parser<'a> {
             order: if body[1] == 0 { Order::Little } else { Order::Big },
             align: 1 << body[2],
         };
-        let slot = set_slot(slot);
         Ok(match record.kind {
             16 => Class::BitArray(fixed),
             17 => Class::Boolean { fixed, slot },
@@ -433,6 +461,23 @@ impl<'a> Parser<'a> {
         Ok(class)
     }
 
+    /// Tests a slot that is set: it is one of the root's, and has one home.
+    fn set_slot(
+        &mut self,
+        record: &Record,
+        scope: Scope,
+        spot: Spot,
+        slot: u8,
+    ) -> Result<Option<u8>, Refusal> {
+        record.demand(scope.sets(slot), 11)?;
+        if slot == NO_SLOT {
+            return Ok(None);
+        }
+        let one_home = self.homes.note(slot, spot.home);
+        record.demand(one_home || self.elements == Elements::Remember, 11)?;
+        Ok(Some(slot))
+    }
+
     /// Tests the slot in a body's first byte, its other numbers being in range or not.
     fn read_slot(&self, record: &Record, scope: Scope, others: bool) -> Result<(), Refusal> {
         record.demand(others && slot_in_range(record.body[0]), 10)?;
@@ -448,11 +493,15 @@ impl<'a> Parser<'a> {
             self.read_slot(record, scope, align <= 6)?;
         }
         record.demand(spot.depth <= MOST_DEPTH, 14)?;
-        let element = Box::new(self.class(scope, spot.within())?);
-        let requirement = element.requirement().max(1 << align);
+        let element = Box::new(self.class(scope, spot.element(record))?);
+        let forgets = match self.elements {
+            Elements::Forget => element.can_set(),
+            Elements::Remember => 0,
+        };
+        let array = Array { requirement: element.requirement().max(1 << align), forgets, element };
         Ok(match record.kind {
-            29 => Class::StaticArray { elements: record.half(0), requirement, element },
-            _ => Class::DynamicArray { slot: body[0], requirement, element },
+            29 => Class::StaticArray { elements: record.half(0), array },
+            _ => Class::DynamicArray { slot: body[0], array },
         })
     }
 

@@ -150,6 +150,87 @@ fn slots() {
 }
 
 #[test]
+fn one_slot_one_home() {
+    let set = |records: &mut Records| records.unsigned(8, 16, 0).bytes.len() as u64 - 6;
+    // Inside an element and outside it: the later class is at fault.
+    let mut records = event_root(5, 2);
+    set(&mut records);
+    let later = set(records.static_array(1, 0));
+    assert_eq!(check(&records.bytes), (11, later));
+    let mut records = event_root(5, 2);
+    set(records.static_array(0, 0));
+    let later = set(&mut records);
+    assert_eq!(check(&records.bytes), (11, later));
+    // Side by side: the second is outside the first one's element.
+    let mut records = event_root(5, 2);
+    set(records.static_array(1, 0));
+    let later = set(records.static_array(1, 0));
+    assert_eq!(check(&records.bytes), (11, later));
+    // In an inner element and in the outer one outside the inner array.
+    let mut records = event_root(5, 1);
+    set(records.static_array(1, 0).structure(2, 0));
+    let later = set(records.static_array(1, 0));
+    assert_eq!(check(&records.bytes), (11, later));
+    let mut records = event_root(5, 1);
+    set(records.static_array(1, 0).structure(2, 0).put(&[30, 16, 0]));
+    let later = set(&mut records);
+    assert_eq!(check(&records.bytes), (11, later));
+}
+
+#[test]
+fn two_classes_of_one_home() {
+    let twice = |records: &mut Records| number(records.put(&[22, 16, 22, 16]));
+    assert_eq!(twice(&mut event_root(5, 2)), 0);
+    assert_eq!(twice(event_root(5, 1).static_array(2, 0).structure(2, 0)), 0);
+    // Neither an optional nor an option is an element.
+    let mut records = event_root(5, 1);
+    records.static_array(2, 0).structure(3, 0).put(&[22, 16, 31, 16, 0, 22, 16]);
+    records.put(&[32, 16, 1, 34, 1]).range(1, 0, 0).put(&[22, 16]);
+    assert_eq!(number(&records), 0);
+    // 255 is no slot, and what reads a slot has no home.
+    let mut records = event_root(5, 3);
+    records.put(&[22, 255]).static_array(1, 0).put(&[22, 255]).put(&[30, 16, 0, 22, 16]);
+    assert_eq!(number(&records), 0);
+}
+
+#[test]
+fn roots_that_meet() {
+    let outside = |records: &mut Records, slot| number(records.put(&[22, slot]));
+    let inside = |records: &mut Records, slot| number(records.static_array(1, 0).put(&[22, slot]));
+    for (root, slot) in [(1, 0), (2, 16), (3, 16)] {
+        let mut records = Records::new();
+        assert_eq!(outside(records.trace(None).root(0, 1), 0), 0);
+        assert_eq!(outside(records.stream(7, 255).root(1, 1), 0), 0);
+        // Another stream class's roots are held against root 0 alone.
+        let expected = if root == 1 { 11 } else { 0 };
+        assert_eq!(inside(records.stream(0, 255).root(root, 1), slot), expected);
+    }
+    let mut records = Records::new();
+    assert_eq!(outside(records.stream(0, 255).root(2, 1), 16), 0);
+    assert_eq!(inside(records.clone().root(3, 1), 16), 11);
+    assert_eq!(inside(records.clone().event(0, 0).root(4, 1), 16), 11);
+    assert_eq!(inside(records.clone().stream(1, 255).event(0, 0).root(5, 1), 16), 11);
+    assert_eq!(inside(records.clone().stream(1, 255).event(1, 0).root(5, 1), 16), 0);
+    // Two event classes never meet.
+    assert_eq!(outside(records.event(0, 0).root(5, 1), 17), 0);
+    assert_eq!(inside(records.event(0, 1).root(5, 1), 17), 0);
+}
+
+#[test]
+fn second_homes_among_other_faults() {
+    let mut records = event_root(5, 2);
+    records.put(&[22, 16]).static_array(1, 0);
+    assert_eq!(number(records.clone().put(&[18, 8, 0, 7, 16, 0])), 10);
+    assert_eq!(number(records.clone().put(&[18, 8, 0, 0, 16, 12])), 10);
+    assert_eq!(number(records.clone().put(&[18, 8, 0, 0, 16, 1])), 11);
+    for _ in 0..6 {
+        records.structure(1, 0);
+    }
+    assert_eq!(number(records.clone().put(&[22, 17])), 14);
+    assert_eq!(number(records.put(&[22, 16])), 11);
+}
+
+#[test]
 fn roles() {
     let allowed: [(u8, &[u8]); 6] =
         [(0, &[1, 2, 3]), (1, &[5, 6, 7, 8, 9, 10]), (2, &[7, 11]), (3, &[]), (4, &[]), (5, &[])];

@@ -6,6 +6,7 @@ use crate::demand::demand;
 use crate::generate::NUMBERS;
 use crate::program::{Program, Run};
 use crate::shrink::shrink;
+use crate::table::Elements;
 use std::collections::BTreeMap;
 use std::fmt;
 use std::time::Duration;
@@ -23,14 +24,28 @@ pub struct Tally {
     pairs_with: usize,
     pairs_without: usize,
     packets_removed: usize,
+    second_homes: usize,
+    slots_forgotten: usize,
 }
 
 impl Tally {
-    fn count(&mut self, answer: &Answer) {
+    fn count(&mut self, case: &Case, answer: &Answer) {
         self.cases += 1;
+        self.count_elements(case, answer);
         *self.numbers.entry(answer.reading.number).or_default() += 1;
         if answer.check.0 != 0 {
             *self.numbers.entry(answer.check.0).or_default() += 1;
+        }
+    }
+
+    /// Counts 11 and 26 where they come of what elements forget: if these remembered, the answer
+    /// would be another.
+    fn count_elements(&mut self, case: &Case, answer: &Answer) {
+        let (refused, unset) = (answer.check.0 == 11, answer.reading.number == 26);
+        if refused || unset {
+            let otherwise = case.answer_by(Elements::Remember);
+            self.second_homes += (refused && otherwise.check != answer.check) as usize;
+            self.slots_forgotten += (unset && otherwise.reading != answer.reading) as usize;
         }
     }
 
@@ -48,6 +63,16 @@ impl Tally {
     pub fn packets_removed(&self) -> usize {
         self.packets_removed
     }
+
+    /// How many tables were refused as 11 for a class that sets a slot from a second home.
+    pub fn second_homes(&self) -> usize {
+        self.second_homes
+    }
+
+    /// How many readings were refused as 26 for a slot that was set in an element that is over.
+    pub fn slots_forgotten(&self) -> usize {
+        self.slots_forgotten
+    }
 }
 
 impl fmt::Display for Tally {
@@ -63,7 +88,9 @@ impl fmt::Display for Tally {
             f,
             "classes left out: {with} pairs where one was found, {without} where none was"
         )?;
-        writeln!(f, "packets removed: {} pairs", self.packets_removed)
+        writeln!(f, "packets removed: {} pairs", self.packets_removed)?;
+        let (homes, forgotten) = (self.second_homes, self.slots_forgotten);
+        writeln!(f, "slots of elements: {homes} of a second home (11), {forgotten} forgotten (26)")
     }
 }
 
@@ -76,7 +103,7 @@ pub fn try_cases(program: &Program, cases: &[Case], tally: &mut Tally) -> bool {
             report(program, case);
             return false;
         }
-        tally.count(answer);
+        tally.count(case, answer);
         if let (Some(left_out), Some(before)) = (&case.left_out, index.checked_sub(1)) {
             match demand(&answers[before], answer, left_out) {
                 Ok(true) => tally.pairs_with += 1,

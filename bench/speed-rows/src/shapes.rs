@@ -19,7 +19,7 @@ pub enum Shape {
     VariantHeader,
     /// What LTTng itself writes: that header, two or three integers, and now and then a string.
     Lttng,
-    /// Arrays of structures that hold arrays of structures.
+    /// Arrays of structures that hold arrays of structures; each element forgets the inner one's length.
     NestedArrays,
     /// Integers as in whole bytes, of the last of eight stream classes, each of which has as many event classes, 62 at
     /// most, and counts its ids from 0.

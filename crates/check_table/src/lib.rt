@@ -1,13 +1,15 @@
 // The class table: whether it is sound, and if not, by which number and at which byte ("Refusing a table").
 //
 // A walk goes from record to record by offsets and stops at the first with a fault, at its lowest number. What a record is, by itself, is
-// in the crates below: table_records, check_class, check_ranges, check_fragment; the walk under a root is in check_roots.
+// in the crates below: table_records, check_class, check_ranges, check_fragment; the walk under a root is in check_roots. Homes of slots
+// have a walk of their own, in check_slots, and the earlier of both answers is the table's.
 use check_fragment::first_fault;
 use check_fragment::fragment_fault;
 use check_fragment::lowest;
 use check_order::PLACES;
 use check_roots::roots_of;
 use check_roots::stray;
+use check_slots::first_home_fault;
 use numbers::faults;
 use numbers::kinds;
 use numbers::limits;
@@ -23,16 +25,47 @@ ghost use lib.ListN.{length};
 ghost use Rattle.rules.specs.Limits.{tableLimit};
 ghost use Rattle.rules.specs.Parse.{checked};
 ghost use Rattle.table_offsets.specs.Check.{traced as tracedBy, counted as countedOf, fragmentsAt, checkedAt};
+ghost use Rattle.table_offsets.specs.Earlier.{earlier};
 
 // "Number 1 is tested first, at byte 0. Then the first record with a fault decides, by its first byte, and there the lowest number"
 // (Refusing a table): for every slice of bytes the rules' own answer.
 pub fn check(table: &[u8]) -> Checked
     ensures { λ r. ⌜ r ≡ checked (now (table .entry)) ⌝ }
 {
-    answer(table)
+    let a = answer(table);
+    if table.len() <= limits::TABLE_LIMIT {
+        let p = first_home_fault(table);
+        return earlier_of(table.len(), a, p);
+    }
+    a
 }
 
-// The same answer, by offsets.
+// Of a table of `size` bytes: its answer, or 11 at the byte `p` below the size, whichever comes first: "the first record with a fault
+// decides, by its first byte, and there the lowest number" (Refusing a table).
+fn earlier_of(size: usize, a: Checked, p: usize) -> Checked
+    ensures { λ r. ⌜ r ≡ earlier size a p ⌝ }
+{
+    if size <= p {
+        return a;
+    }
+    match a {
+        Checked::Accepted(length) => Checked::Refused(faults::SLOT_NOT_ALLOWED, ByteLength(p)),
+        Checked::Refused(number, byte) => {
+            if p < byte.0 {
+                return Checked::Refused(faults::SLOT_NOT_ALLOWED, ByteLength(p));
+            }
+            if byte.0 < p {
+                return Checked::Refused(number, byte);
+            }
+            if faults::SLOT_NOT_ALLOWED < number {
+                return Checked::Refused(faults::SLOT_NOT_ALLOWED, ByteLength(p));
+            }
+            Checked::Refused(number, byte)
+        }
+    }
+}
+
+// The answer by offsets, without the homes of slots.
 fn answer(table: &[u8]) -> Checked
     ensures { λ r. ⌜ r ≡ checkedAt (now (table .entry)) ⌝ }
 {

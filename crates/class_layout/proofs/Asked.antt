@@ -17,7 +17,7 @@ use Rattle.rules.specs.Record.{Fragment as Opening, preamble, traceClass, clock
 use Rattle.rules.specs.Record.{root, class, range, option, u8, u64, size, recordOf, behind}
 use Rattle.rules.specs.Table.{Table, findStream, findEvent, asked}
 use Rattle.rules.specs.Parse.{Parsed, bad, good, Parser, then, one, sound, missing, parseRoots, rootNumbers, isTimed, hasUuid, noTable}
-use Rattle.rules.specs.Parse.{rootOf, add, parseFragment, parseOpened, parseFragments, parse, checkedOf, checked}
+use Rattle.rules.specs.Parse.{rootOf, add, parseFragment, parseOpened, parseFragments, parseTable, parse, checkedOf, checked}
 use Rattle.rules.specs.Faults.{Ids, noIds, seen, recordFault, openFault, firstFault}
 use Rattle.facts.proofs.Truth.{or-false}
 use Rattle.class_layout.specs.Fragments.{isTrace, isStream, isEvent, firstOf, openingSize, rootsOf, rootPlaces, behindRoots}
@@ -26,6 +26,7 @@ use Rattle.class_layout.specs.Fragments.{findEventAt, mapOption, rootCla
 use Rattle.class_layout.specs.Fragments.{Fragment, AllFragments}
 use Rattle.class_layout.proofs.Records.{preamble-at, trace-at, clock-at, stream-at, event-at}
 use Rattle.facts.proofs.Faults.{pick-false, pick-zero}
+use Rattle.facts.proofs.Parsed.{parse-table}
 use Rattle.class_layout.proofs.Sound.{bad-good, good-value, then-good, one-good}
 use Rattle.class_layout.proofs.Once.{First, Once, none-once, fragment-once}
 use Rattle.class_layout.proofs.Rooted.{RootsStand, roots-stand, root-class}
@@ -276,8 +277,8 @@ module _ (t : List ℕ) (T : Table) (y : List ℕ) (e : parse t ≡ good T y) wh
     once : Once t noIds (fragmentsOf t)
 
   accepted : Accepted-table
-  unfolding parse sound fragmentsOf behindRoots
-  accepted = by (missing t || ltb 65536 (length t)) refl e
+  unfolding parseTable sound fragmentsOf behindRoots
+  accepted = by (missing t || ltb 65536 (length t)) refl (parse-table t T y e)
     where
       rest : Parser Table
       rest x = then (parseRoots noIds false false [] x) λ cs x. parseFragments (length x) noIds x

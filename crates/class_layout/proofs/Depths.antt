@@ -1,5 +1,5 @@
 -- A class that stands whole at d depths is the same class, and whole, at more. So do members one behind the other.
-use mathlib.Core.Path.{_≡_, refl, subst}
+use mathlib.Core.Path.{_≡_, refl, ap, subst}
 use Prim.Native.Nat.{ℕ, zero, suc, _+_, _-_, _*_, _≤_}
 use native.Mathlib.Omega.{arith}
 use mathlib.Core.List.{List}
@@ -7,6 +7,7 @@ use Rattle.rules.specs.Record.{Shape, bitField, lebField, signedLebField, zeroS
 use Rattle.rules.specs.Record.{members, elements, elementsOf, option?, options}
 use Rattle.class_layout.specs.Trees.{shapeOf, optionClass, Stood, membersAt, behindMembers, stoodAt}
 use Rattle.class_layout.specs.Trees.{wholeMembers, wholeOptions, wholeIn, whole}
+use Rattle.class_layout.proofs.Announced.{same-kinds}
 use Rattle.class_layout.proofs.One.{one}
 
 -- g and f say at a byte what g′ and f′ say
@@ -60,6 +61,9 @@ whole-more (suc d) t at w = record {
   parts =
       shape-also t (whole d t) (whole (suc d) t) (stoodAt d t) (stoodAt (suc d) t)
       (λ p v. let m = whole-more d t p v in (m, one d (suc d) t p v m .0)) at (shapeOf (u8 t at)) (w .parts);
+  kinds =
+      same-kinds t (whole d t) (stoodAt d t) (stoodAt (suc d) t) (λ p v. ap (λ s. s .next) (one d (suc d) t p v (whole-more d t p v) .0)) at
+      (shapeOf (u8 t at)) (w .parts) (w .kinds);
 }
 
 -- as many depths, or k more

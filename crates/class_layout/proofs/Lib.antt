@@ -1,7 +1,10 @@
 mod Records
+pub mod Named
+pub mod Setting
 mod ClassRecords
 mod Sound
 mod Stands
+pub mod Announced
 pub mod Standing
 pub mod Fields
 pub mod One

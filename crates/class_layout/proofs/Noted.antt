@@ -13,15 +13,32 @@ use borrow.Author.Tests.{le-leb, eqb-true, eqb-false}
 use Rattle.rules.specs.Limits.{depthLimit}
 use Rattle.rules.specs.Record.{Shape, bitField, lebField, signedLebField, zeroString, text, blob, textOf, blobOf, members, elements}
 use Rattle.rules.specs.Record.{elementsOf, option?, options, u8}
+use Rattle.rules.specs.Class.{bitArray, boolean, unsignedInt, signedInt, float, setting, sets, membersSet, optionsSet}
 use Rattle.facts.proofs.Numbers.{lt-or-ge}
 use Rattle.facts.proofs.Truth.{clash}
 use Rattle.class_layout.specs.Trees.{shapeOf, optionClass, Stood, behindMembers, behindOptions, nextIn, stoodAt, nextAt, alignMembers}
 use Rattle.class_layout.specs.Trees.{alignIn, alignAt, wholeMembers, wholeOptions, wholeIn, whole}
+use Rattle.class_layout.specs.Trees.{rangesAt, signAt, membersAt, optionsAt, classIn, classAt}
 use Rattle.class_layout.specs.Fragments.{behindFragment, fragmentsOf, All, AllFragments}
 use Rattle.class_layout.specs.Notes.{Notes, notes, endNoted, alignNoted, endBy, alignBy, sizeTo, isClass, noteAt, noteBelow}
-use Rattle.class_layout.specs.Notes.{noteFragments, notesOf, NotedClass, Prepared}
+use Rattle.class_layout.specs.Notes.{setsNoted, setsMembers, setsOptions, setsIn, setsBy, noteFragments, notesOf, NotedClass, Prepared}
+use Rattle.table_records.specs.Named.{slotPlace, namedAt}
+use Rattle.class_layout.specs.Words.{wordOf, alignOfWord, setsOfWord, setsOne, SaysSet}
+use Rattle.class_layout.proofs.Named.{placeIn, OfShape, of-class, namedIn, named-in, optional-sets}
+use Rattle.class_layout.proofs.Setting.{says-none, says-one, says-both}
+use Rattle.class_layout.proofs.Aligned.{aligned}
 use Rattle.class_layout.proofs.Ends.{Ends, whole-ends}
 use Rattle.class_layout.proofs.Turns.{whole-inside}
+
+-- A word says what it was made of
+
+align-word : (e n : ℕ) → e ≤ 6 → alignOfWord (wordOf e n) ≡ e
+unfolding alignOfWord wordOf
+align-word e n l = omega arith
+
+sets-word : (e n : ℕ) → setsOfWord (wordOf e n) ≡ n
+unfolding setsOfWord wordOf
+sets-word e n = omega arith
 
 -- A record: f and h are what stands, f′ and h′ what is noted; they agree on classes behind the byte `at`
 
@@ -60,6 +77,53 @@ module _ (t : List ℕ) (at : ℕ) (g : ℕ → Type 0) (f f′ : ℕ → Stood)
   shape-noted option? w = (same (at + 3 + 18 * u8 t (at + 2)) (omega arith) (w .1) .0, refl)
   shape-noted options w = (options-noted (at + 3) (u8 t (at + 2)) (omega arith) (w .1), refl)
 
+-- what it sets: u is what is noted of it, right of the classes behind the byte `at`
+
+module _ (t : List ℕ) (at : ℕ) (g : ℕ → Type 0) (f f′ : ℕ → Stood) (u : ℕ → ℕ) (ends : (q : ℕ) → g q → Ends t (q + 1) ((f q) .next))
+    (same : (q : ℕ) → at < q → g q → ((f q) .next ≡ (f′ q) .next) × SaysSet (u q) (sets ((f q) .class))) where
+  members-say : (p n : ℕ) → at < p → wholeMembers g f p n → SaysSet (setsMembers u f′ p n) (membersSet (membersAt f p n))
+  unfolding wholeMembers setsMembers membersAt sets
+  members-say p zero l w = says-none
+  members-say p (suc n) l w =
+      let s = same p l (w .0) in
+      let r = members-say ((f p) .next) n (omega (arith, ends p (w .0) .onward)) (w .1) in
+      says-both _ _ _ _ (s .1) (rw (← s .0) r)
+
+  options-say : (p n : ℕ) → at < p → wholeOptions g f t p n → SaysSet (setsOptions u f′ t p n) (optionsSet (optionsAt f t p n))
+  unfolding wholeOptions setsOptions optionsAt sets
+  options-say p zero l w = says-none
+  options-say p (suc n) l w =
+      let o = optionClass t p in
+      let s = same o (omega arith) (w .2) in
+      let r = options-say ((f o) .next) n (omega (arith, ends o (w .2) .onward)) (w .3) in
+      says-both _ _ _ _ (s .1) (rw (← s .0) r)
+
+  leaf-says : {l : List ℕ} (i : ℕ) → slotPlace (u8 t at) ≡ i → namedIn t at i ≡ l → SaysSet (setsOne (namedAt t at)) l
+  leaf-says i e k = rw (named-in t at i e ∙ k) at (says-one (namedAt t at))
+
+  shape-says : (s : Shape) → slotPlace (u8 t at) ≡ placeIn s → wholeIn g f t at s
+      → SaysSet (setsIn u f′ t at s) (sets (classIn f t at s))
+  unfolding placeIn namedIn wholeIn setsIn classIn sets setting
+  shape-says (bitField bitArray) e w = leaf-says 0 e refl
+  shape-says (bitField boolean) e w = leaf-says 4 e refl
+  shape-says (bitField unsignedInt) e w = leaf-says 4 e refl
+  shape-says (bitField signedInt) e w = leaf-says 4 e refl
+  shape-says (bitField float) e w = leaf-says 0 e refl
+  shape-says lebField e w = leaf-says 1 e refl
+  shape-says signedLebField e w = leaf-says 1 e refl
+  shape-says zeroString e w = leaf-says 0 e refl
+  shape-says text e w = leaf-says 0 e refl
+  shape-says blob e w = leaf-says 0 e refl
+  shape-says textOf e w = leaf-says 0 e refl
+  shape-says blobOf e w = leaf-says 0 e refl
+  shape-says members e w = members-say (at + 3) (u8 t (at + 1)) (omega arith) (w .1)
+  shape-says elements e w = same (at + 4) (omega arith) (w .1) .1
+  shape-says elementsOf e w = same (at + 3) (omega arith) (w .1) .1
+  shape-says option? e w =
+      rw (optional-sets (u8 t (at + 1)) (signAt t (at + 3)) (rangesAt t (at + 3) (u8 t (at + 2))) ((f (at + 3 + 18 * u8 t (at + 2))) .class))
+      (same (at + 3 + 18 * u8 t (at + 2)) (omega arith) (w .1) .1)
+  shape-says options e w = options-say (at + 3) (u8 t (at + 2)) (omega arith) (w .1)
+
 module _ (t : List ℕ) where
   -- A byte
 
@@ -76,6 +140,7 @@ module _ (t : List ℕ) where
   record ByNotes (x : Notes) (d p : ℕ) : Type 0 where
     end : nextAt d t p ≡ endBy t x p
     align : alignAt d t p ≡ alignBy t x p
+    says : SaysSet (setsBy t x p) (sets (classAt d t p))
 
   by-notes : (x : Notes) (d p : ℕ) → From (suc p) x → whole d t p → ByNotes x d p
   unfolding whole stoodAt alignAt endNoted alignNoted
@@ -84,11 +149,14 @@ module _ (t : List ℕ) where
       let r = shape-noted t p (whole d t) (stoodAt d t) (endNoted (x .sizes)) (alignAt d t) (alignNoted (x .aligns))
       (λ q v. whole-ends d t q v)
       (λ q l v. let n = b .classes d q l v in (sym (n .size), sym (n .align))) (shapeOf (u8 t p)) (w .parts) in
-      record { end = r .0; align = r .1 }
+      let says = shape-says t p (whole d t) (stoodAt d t) (endNoted (x .sizes)) (setsNoted (x .aligns)) (λ q v. whole-ends d t q v)
+      (λ q l v. let n = b .classes d q l v in (sym (n .size), n .sets)) (shapeOf (u8 t p))
+      (of-class (u8 t p) (w .low) (w .high) .slot) (w .parts) in
+      record { end = r .0; align = r .1; says = says }
 
   noted-here : (x : Notes) (d p : ℕ) → From (suc p) x → whole d t p
-      → NotedClass t (notes (set (x .sizes) p (sizeTo t p (endBy t x p))) (set (x .aligns) p (alignBy t x p))) d p
-  unfolding sizeTo
+      → NotedClass t (notes (set (x .sizes) p (sizeTo t p (endBy t x p))) (set (x .aligns) p (wordOf (alignBy t x p) (setsBy t x p)))) d p
+  unfolding sizeTo alignNoted setsNoted
   noted-here x d p b w =
       let n = by-notes x d p b w in
       let e = whole-ends d t p w in
@@ -96,23 +164,31 @@ module _ (t : List ℕ) where
       let s : p < length (x .sizes) = omega (arith, b .room .0) in
       let a : p < length (x .aligns) = omega (arith, b .room .1) in
       let f : leb (nextAt d t p) (length t) ≡ true = le-leb _ _ (e .within) in
+      let word = getD-set-same (x .aligns) p (wordOf (alignBy t x p) (setsBy t x p)) 0 a in
       record {
         size = rw (getD-set-same (x .sizes) p (sizeTo t p (endBy t x p)) 0 s, ← n .end, f, sizeTo) (omega (arith, e .onward));
-        align = rw (getD-set-same (x .aligns) p (alignBy t x p) 0 a) (sym (n .align));
+        align = rw (word) (align-word (alignBy t x p) (setsBy t x p) (rw (n .align) at (aligned d t p w .1))) ∙ sym (n .align);
+        sets = rw (word, sets-word (alignBy t x p) (setsBy t x p)) (n .says);
       }
 
   noted-other : (x : Notes) (d p q v a : ℕ) → p < q → NotedClass t x d q
       → NotedClass t (notes (set (x .sizes) p v) (set (x .aligns) p a)) d q
+  unfolding alignNoted setsNoted
   noted-other x d p q v a l n =
       let k : q ≡ p → ⊥ = λ e. omega arith in
-      record { size = rw (getD-set-other (x .sizes) p q v 0 k) (n .size); align = rw (getD-set-other (x .aligns) p q a 0 k) (n .align) }
+      let word = getD-set-other (x .aligns) p q a 0 k in
+      record {
+        size = rw (getD-set-other (x .sizes) p q v 0 k) (n .size);
+        align = rw word (n .align);
+        sets = rw word (n .sets);
+      }
 
   note-at : (p : ℕ) (x : Notes) → From (suc p) x → From p (noteAt t p x)
   unfolding noteAt
   note-at p x b = by (isClass (u8 t p)) refl
     where
       by : (c : Bool) → isClass (u8 t p) ≡ c
-          → From p (elim c [ true ↦ notes (set (x .sizes) p (sizeTo t p (endBy t x p))) (set (x .aligns) p (alignBy t x p)) | false ↦ x ])
+          → From p (elim c [ true ↦ notes (set (x .sizes) p (sizeTo t p (endBy t x p))) (set (x .aligns) p (wordOf (alignBy t x p) (setsBy t x p))) | false ↦ x ])
       by true e = record {
         room = (rw length-set (b .room .0), rw length-set (b .room .1));
         classes = λ d q l w. ⊎-elim
@@ -193,6 +269,7 @@ module _ (t : List ℕ) where
       record {
         size = rw (not-fragment (fragmentsOf t) (y .sizes) p h (low-kind d p w)) (b .classes d p (omega arith) w .size);
         align = b .classes d p (omega arith) w .align;
+        sets = b .classes d p (omega arith) w .sets;
       } in
       record {
         sized = record {

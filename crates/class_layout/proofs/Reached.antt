@@ -10,63 +10,94 @@ use Rattle.rules.specs.Record.{u8}
 use Rattle.facts.proofs.Numbers.{lt-or-ge}
 use Rattle.class_layout.specs.Trees.{shapes, shapeOf, recordSize, behindMembers, alignMembers, behindOptions, nextIn, alignIn}
 use Rattle.class_layout.specs.Notes.{Notes, notes, endNoted, alignNoted, endBy, alignBy, sizeTo, isClass, noteAt, noteBelow}
-use Rattle.class_layout.specs.Notes.{ReachesMembers}
+use Rattle.class_layout.specs.Notes.{setsNoted, setsMembers, setsOptions, setsIn, setsBy, ReachesMembers, ReachesOptions}
+use Rattle.table_records.specs.Named.{namedAt}
+use Rattle.class_layout.specs.Words.{wordOf, setsOne, setsBoth}
+use Rattle.class_layout.proofs.Setting.{both-first, both-none, both-assoc}
 
--- Members: of n from p on, `left` from `next` on are left, and `most` is the largest exponent so far
+-- Members: of n from p on, `left` from `next` on are left; `most` is the largest exponent so far, and `set` what is set so far
 
-pub record MembersLeft (s a : List ℕ) (p n next most left : ℕ) : Type 0 where
+pub record MembersLeft (s a : List ℕ) (p n next most set left : ℕ) : Type 0 where
   pub end : behindMembers (endNoted s) p n ≡ behindMembers (endNoted s) next left
   pub align : alignMembers (alignNoted a) (endNoted s) p n ≡ max most (alignMembers (alignNoted a) (endNoted s) next left)
+  pub sets : setsMembers (setsNoted a) (endNoted s) p n ≡ setsBoth set (setsMembers (setsNoted a) (endNoted s) next left)
+  pub small : set < 8192
   pub onward : p ≤ next
   pub near : next + left * 65535 ≤ p + n * 65535
 
 module _ {s a : List ℕ} {p n : ℕ} where
-  pub members-start : MembersLeft s a p n p 0 n
-  members-start = record { end = refl; align = omega arith; onward = omega arith; near = omega arith }
+  pub members-start : MembersLeft s a p n p 0 0 n
+  members-start = record {
+    end = refl;
+    align = omega arith;
+    sets = sym (both-first 0 _ refl);
+    small = omega arith;
+    onward = omega arith;
+    near = omega arith;
+  }
 
-  pub members-next : {next most m e : ℕ} (left : ℕ) → 0 < left → m ≡ max most (getD a next 0) → e ≡ next + getD s next 0 → e ≤ next + 65535
-      → MembersLeft s a p n next most left → MembersLeft s a p n e m (left - 1)
-  unfolding behindMembers alignMembers endNoted alignNoted
-  members-next zero l f g b h = absurd (omega arith)
-  members-next (suc left) l f g b h =
+  pub members-next : {next most set m v e : ℕ} (left : ℕ) → 0 < left → m ≡ max most (alignNoted a next)
+      → (v ≡ setsBoth set (setsNoted a next)) × (v < 8192) → e ≡ next + getD s next 0 → e ≤ next + 65535
+      → MembersLeft s a p n next most set left → MembersLeft s a p n e m v (left - 1)
+  unfolding behindMembers alignMembers setsMembers endNoted
+  members-next zero l f k g b h = absurd (omega arith)
+  members-next (suc left) l f k g b h =
       let z : suc left - 1 ≡ left = omega arith in
       record {
         end = rw (z, g) (h .end);
         align = rw (z, g, f) (h .align ∙ omega arith);
+        sets = rw (z, g, k .0) (h .sets ∙ sym (both-assoc _ _ _));
+        small = k .1;
         onward = omega (arith, h .onward);
         near = omega (arith, h .near);
       }
 
-  pub members-done : {next most : ℕ} (left : ℕ) → left ≤ 0 → MembersLeft s a p n next most left
-      → ReachesMembers s a p n (record { next = next; align = most })
-  unfolding behindMembers alignMembers
-  members-done zero l h = record { end = sym (h .end); align = omega (arith, h .align); onward = h .onward }
+  pub members-done : {next most set : ℕ} (left : ℕ) → left ≤ 0 → MembersLeft s a p n next most set left
+      → ReachesMembers s a p n (record { next = next; align = most; sets = set })
+  unfolding behindMembers alignMembers setsMembers
+  members-done zero l h = record {
+    end = sym (h .end);
+    align = omega (arith, h .align);
+    sets = (sym (h .sets ∙ both-none _), h .small);
+    onward = h .onward;
+  }
   members-done (suc left) l h = absurd (omega arith)
 
--- Options: of n from p on, `left` from `next` on are left
+-- Options: of n from p on, `left` from `next` on are left, and `set` is what is set so far
 
-pub record OptionsLeft (t s : List ℕ) (p n next left : ℕ) : Type 0 where
-  pub end : behindOptions (endNoted s) t p n ≡ behindOptions (endNoted s) t next left
+pub record OptionsLeft (t : List ℕ) (x : Notes) (p n next set left : ℕ) : Type 0 where
+  pub end : behindOptions (endNoted (x .sizes)) t p n ≡ behindOptions (endNoted (x .sizes)) t next left
+  pub sets : setsOptions (setsNoted (x .aligns)) (endNoted (x .sizes)) t p n
+      ≡ setsBoth set (setsOptions (setsNoted (x .aligns)) (endNoted (x .sizes)) t next left)
+  pub small : set < 8192
   pub onward : p ≤ next
   pub near : next + left * 70127 ≤ p + n * 70127
 
-module _ {t s : List ℕ} {p n : ℕ} where
-  pub options-start : OptionsLeft t s p n p n
-  options-start = record { end = refl; onward = omega arith; near = omega arith }
+module _ {t : List ℕ} {x : Notes} {p n : ℕ} where
+  pub options-start : OptionsLeft t x p n p 0 n
+  options-start = record { end = refl; sets = sym (both-first 0 _ refl); small = omega arith; onward = omega arith; near = omega arith }
 
-  pub options-next : {next k e : ℕ} (left : ℕ) → 0 < left → k ≡ getD t (next + 1) 0 → k < 256
-      → e ≡ next + 2 + 18 * k + getD s (next + 2 + 18 * k) 0 → e ≤ next + 2 + 18 * k + 65535
-      → OptionsLeft t s p n next left → OptionsLeft t s p n e (left - 1)
-  unfolding behindOptions endNoted u8
-  options-next zero l f c g b h = absurd (omega arith)
-  options-next (suc left) l f c g b h =
+  pub options-next : {next set k v e : ℕ} (left : ℕ) → 0 < left → k ≡ getD t (next + 1) 0 → k < 256
+      → (v ≡ setsBoth set (setsNoted (x .aligns) (next + 2 + 18 * k))) × (v < 8192)
+      → e ≡ next + 2 + 18 * k + getD (x .sizes) (next + 2 + 18 * k) 0 → e ≤ next + 2 + 18 * k + 65535
+      → OptionsLeft t x p n next set left → OptionsLeft t x p n e v (left - 1)
+  unfolding behindOptions setsOptions endNoted u8
+  options-next zero l f c q g b h = absurd (omega arith)
+  options-next (suc left) l f c q g b h =
       let z : suc left - 1 ≡ left = omega arith in
-      record { end = rw (z, g, f) (h .end); onward = omega (arith, h .onward); near = omega (arith, h .near) }
+      record {
+        end = rw (z, g, f) (h .end);
+        sets = rw (z, g, q .0, f) (h .sets ∙ sym (both-assoc _ _ _));
+        small = q .1;
+        onward = omega (arith, h .onward);
+        near = omega (arith, h .near);
+      }
 
-  pub options-done : {next : ℕ} (left : ℕ) → left ≤ 0 → OptionsLeft t s p n next left
-      → (next ≡ behindOptions (endNoted s) t p n) × (p ≤ next)
-  unfolding behindOptions
-  options-done zero l h = (sym (h .end), h .onward)
+  pub options-done : {next set : ℕ} (left : ℕ) → left ≤ 0 → OptionsLeft t x p n next set left
+      → ReachesOptions t x p n (record { next = next; align = 0; sets = set })
+  unfolding behindOptions setsOptions
+  options-done zero l h =
+      record { end = sym (h .end); align = refl; sets = (sym (h .sets ∙ both-none _), h .small); onward = h .onward }
   options-done (suc left) l h = absurd (omega arith)
 
 -- A class by its kind
@@ -87,42 +118,67 @@ module _ (t : List ℕ) (x : Notes) (p : ℕ) where
   abbrev Leaf : ℕ → ℕ → Type 0
   Leaf a k = (nextIn (endNoted (x .sizes)) t p (shapeOf k) ≡ p + recordSize (shapeOf k))
       × (alignIn (alignNoted (x .aligns)) (endNoted (x .sizes)) t p (shapeOf k) ≡ a)
+      × (setsIn (setsNoted (x .aligns)) (endNoted (x .sizes)) t p (shapeOf k) ≡ setsOne (namedAt t p))
 
   pub bits-reach : (k : ℕ) → u8 t p ≡ k → 16 ≤ k → k < 21 → Leaf (u8 t (p + 3)) (u8 t p)
-  unfolding shapeOf shapes nextIn alignIn recordSize
+  unfolding shapeOf shapes nextIn alignIn setsIn recordSize
   bits-reach k e a b =
-      rw e (among (Leaf (u8 t (p + 3))) 16 5 ((refl, refl), ((refl, refl), ((refl, refl), ((refl, refl), ((refl, refl), tt))))) k a b)
+      rw e (among (Leaf (u8 t (p + 3))) 16 5
+      ((refl, refl, refl), ((refl, refl, refl), ((refl, refl, refl), ((refl, refl, refl), ((refl, refl, refl), tt))))) k a b)
 
   pub bytes-reach : (k : ℕ) → u8 t p ≡ k → 21 ≤ k → k < 28 → Leaf 3 (u8 t p)
-  unfolding shapeOf shapes nextIn alignIn recordSize
+  unfolding shapeOf shapes nextIn alignIn setsIn recordSize
   bytes-reach k e a b =
-      rw e (among (Leaf 3) 21 7
-      ((refl, refl), ((refl, refl), ((refl, refl), ((refl, refl), ((refl, refl), ((refl, refl), ((refl, refl), tt))))))) k a b)
+      rw e (among (Leaf 3) 21 7 (
+        (refl, refl, refl),
+        (
+          (refl, refl, refl),
+          (
+            (refl, refl, refl),
+            (
+              (refl, refl, refl),
+              (
+                (refl, refl, refl),
+                (
+                  (refl, refl, refl),
+                  ((refl, refl, refl), tt),
+                ),
+              ),
+            ),
+          ),
+        ),
+      ) k a b)
 
-  abbrev Held : ℕ → ℕ → Type 0
-  Held n a = (n ≡ endBy t x p) × (a ≡ alignBy t x p)
+  abbrev Held : ℕ → ℕ → ℕ → Type 0
+  Held n a v = (n ≡ endBy t x p) × (a ≡ alignBy t x p) × (v ≡ setsBy t x p)
 
   pub structure-reach : u8 t p ≡ 28
       → Held (behindMembers (endNoted (x .sizes)) (p + 3) (u8 t (p + 1)))
       (max (u8 t (p + 2)) (alignMembers (alignNoted (x .aligns)) (endNoted (x .sizes)) (p + 3) (u8 t (p + 1))))
-  unfolding shapeOf shapes nextIn alignIn
-  structure-reach e = (rw e, rw e)
+      (setsMembers (setsNoted (x .aligns)) (endNoted (x .sizes)) (p + 3) (u8 t (p + 1)))
+  unfolding shapeOf shapes nextIn alignIn setsIn
+  structure-reach e = (rw e, rw e, rw e)
 
-  pub array-reach : u8 t p ≡ 29 → Held (p + 4 + getD (x .sizes) (p + 4) 0) (max (u8 t (p + 3)) (getD (x .aligns) (p + 4) 0))
-  unfolding shapeOf shapes nextIn alignIn endNoted alignNoted
-  array-reach e = (rw e, rw e)
+  pub array-reach : u8 t p ≡ 29 → Held (p + 4 + getD (x .sizes) (p + 4) 0) (max (u8 t (p + 3)) (alignNoted (x .aligns) (p + 4)))
+      (setsNoted (x .aligns) (p + 4))
+  unfolding shapeOf shapes nextIn alignIn setsIn endNoted
+  array-reach e = (rw e, rw e, rw e)
 
-  pub dynamic-reach : u8 t p ≡ 30 → Held (p + 3 + getD (x .sizes) (p + 3) 0) (max (u8 t (p + 2)) (getD (x .aligns) (p + 3) 0))
-  unfolding shapeOf shapes nextIn alignIn endNoted alignNoted
-  dynamic-reach e = (rw e, rw e)
+  pub dynamic-reach : u8 t p ≡ 30 → Held (p + 3 + getD (x .sizes) (p + 3) 0) (max (u8 t (p + 2)) (alignNoted (x .aligns) (p + 3)))
+      (setsNoted (x .aligns) (p + 3))
+  unfolding shapeOf shapes nextIn alignIn setsIn endNoted
+  dynamic-reach e = (rw e, rw e, rw e)
 
-  pub optional-reach : u8 t p ≡ 31 → Held (p + 3 + 18 * u8 t (p + 2) + getD (x .sizes) (p + 3 + 18 * u8 t (p + 2)) 0) 0
-  unfolding shapeOf shapes nextIn alignIn endNoted
-  optional-reach e = (rw e, rw e)
+  pub optional-reach : u8 t p ≡ 31
+      → Held (p + 3 + 18 * u8 t (p + 2) + getD (x .sizes) (p + 3 + 18 * u8 t (p + 2)) 0) 0 (setsNoted (x .aligns) (p + 3 + 18 * u8 t (p + 2)))
+  unfolding shapeOf shapes nextIn alignIn setsIn endNoted
+  optional-reach e = (rw e, rw e, rw e)
 
-  pub variant-reach : u8 t p ≡ 32 → Held (behindOptions (endNoted (x .sizes)) t (p + 3) (u8 t (p + 2))) 0
-  unfolding shapeOf shapes nextIn alignIn
-  variant-reach e = (rw e, rw e)
+  pub variant-reach : u8 t p ≡ 32
+      → Held (behindOptions (endNoted (x .sizes)) t (p + 3) (u8 t (p + 2))) 0
+      (setsOptions (setsNoted (x .aligns)) (endNoted (x .sizes)) t (p + 3) (u8 t (p + 2)))
+  unfolding shapeOf shapes nextIn alignIn setsIn
+  variant-reach e = (rw e, rw e, rw e)
 
 -- A byte's notes, and those of the bytes below
 
@@ -135,7 +191,7 @@ module _ (t : List ℕ) (p : ℕ) (x : Notes) where
   unfolding noteAt isClass
   note-high l = rw (le-leb 16 (u8 t p) (omega arith), lt-leb (u8 t p) 32 l, isClass, noteAt)
 
-  pub note-class : {n a : ℕ} → 16 ≤ u8 t p → u8 t p ≤ 32 → n ≡ sizeTo t p (endBy t x p) → a ≡ alignBy t x p
+  pub note-class : {n a : ℕ} → 16 ≤ u8 t p → u8 t p ≤ 32 → n ≡ sizeTo t p (endBy t x p) → a ≡ wordOf (alignBy t x p) (setsBy t x p)
       → notes (set (x .sizes) p n) (set (x .aligns) p a) ≡ noteAt t p x
   unfolding noteAt isClass
   note-class l h e f = rw (e, f, le-leb 16 (u8 t p) l, le-leb (u8 t p) 32 h, isClass, noteAt)

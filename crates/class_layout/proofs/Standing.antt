@@ -8,6 +8,7 @@ use Rattle.rules.specs.Record.{Shape, bitField, lebField, signedLebField, zeroS
 use Rattle.rules.specs.Record.{members, elements, elementsOf, option?, options}
 use Rattle.facts.proofs.Cases.{_▷_, below}
 use Rattle.class_layout.specs.Trees.{Stood, shapes, shapeOf, classIn, classAt, stoodAt, membersAt, whole, wholeIn, wholeMembers}
+use Rattle.class_layout.specs.Trees.{kindsIn}
 
 module _ (t : List ℕ) (p : ℕ) where
   pub depth-some : (d : ℕ) → whole d t p → d ≡ suc (d - 1)
@@ -82,6 +83,22 @@ module _ (f f′ : ℕ → Stood) (t : List ℕ) (p : ℕ) where
     leaf-stands option? h w = absurd h
     leaf-stands options h w = absurd h
 
+  leaf-kinds : (k : Shape) → Leafy k → kindsIn f′ t p k
+  unfolding kindsIn
+  leaf-kinds (bitField k) h = tt
+  leaf-kinds lebField h = tt
+  leaf-kinds signedLebField h = tt
+  leaf-kinds zeroString h = tt
+  leaf-kinds text h = tt
+  leaf-kinds blob h = tt
+  leaf-kinds textOf h = tt
+  leaf-kinds blobOf h = tt
+  leaf-kinds members h = absurd h
+  leaf-kinds elements h = absurd h
+  leaf-kinds elementsOf h = absurd h
+  leaf-kinds option? h = absurd h
+  leaf-kinds options h = absurd h
+
 module _ (t : List ℕ) (p : ℕ) where
   pub leaf-whole : (d : ℕ) → whole d t p → u8 t p < 28 → whole 1 t p
   unfolding whole
@@ -91,6 +108,7 @@ module _ (t : List ℕ) (p : ℕ) where
     high = w .high;
     there = w .there;
     parts = leaf-stands (stoodAt d t) (stoodAt 0 t) t p (whole d t) (whole 0 t) (shapeOf (u8 t p)) (leafy (u8 t p) h) (w .parts);
+    kinds = leaf-kinds (stoodAt d t) (stoodAt 0 t) t p (shapeOf (u8 t p)) (leafy (u8 t p) h);
   }
 
   pub leaf-class : (d : ℕ) → whole d t p → u8 t p < 28 → classAt d t p ≡ classAt 1 t p

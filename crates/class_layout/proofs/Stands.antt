@@ -20,7 +20,7 @@ use Rattle.rules.specs.Faults.{Ids, Spot, inside, memberSpot, Under, signOf, ot
 use Rattle.facts.proofs.Truth.{or-false, clash}
 use Rattle.class_layout.specs.Trees.{shapeOf, recordSize, rangesAt, signAt, optionClass, optionalOf, Stood, membersAt, behindMembers}
 use Rattle.class_layout.specs.Trees.{optionsAt, behindOptions, classIn, nextIn, stoodAt, classAt, nextAt, wholeMembers, wholeOptions}
-use Rattle.class_layout.specs.Trees.{wholeIn, whole}
+use Rattle.class_layout.specs.Trees.{wholeIn, whole, rangeKinds, optionKinds, kindsIn}
 use Rattle.class_layout.proofs.Records.{range-at, option-at}
 use Rattle.class_layout.proofs.ClassRecords.{saidAt, class-at}
 use Rattle.facts.proofs.Faults.{pick-false, pick-zero}
@@ -82,11 +82,11 @@ range-sign o rs g l h e =
 
 module _ (t : List ℕ) where
   abbrev RangesStand : ℕ → ℕ → Option Sign → Ranges → List ℕ → Type 0
-  RangesStand at n o p x = Took t Unit (signFrom n (signAt t at) o, rangesAt t at n) at (at + 18 * n) p x
+  RangesStand at n o p x = Took t (rangeKinds t at n) (signFrom n (signAt t at) o, rangesAt t at n) at (at + 18 * n) p x
 
   ranges-stand : (q : Ids) (earlier : List Range) (n : ℕ) (o : Option Sign) (at : ℕ) (p : Ranges) (x : List ℕ) → at ≤ length t
       → parseRanges q earlier n o (drop at t) ≡ good p x → RangesStand at n o p x
-  unfolding parseRanges rangesAt signAt rangeFault rangeOf
+  unfolding parseRanges rangesAt signAt rangeFault rangeOf rangeKinds
   ranges-stand q earlier zero o at p x l h =
       let e : at ≡ at + 18 * 0 = omega arith in
       record {
@@ -125,7 +125,7 @@ module _ (t : List ℕ) where
           let f₂ : rangesAt t (at + 18) n ≡ c .value .1 = ap (λ v. v .1) (s .says) in
           let d : at + 18 + 18 * n ≡ at + 18 * suc n = omega arith in
           record {
-            stands = tt;
+            stands = (r .kind, s .stands);
             says = rw (f₁, f₂, l₁, h₁) (good-value (c .second));
             rest = sym (good-rest (c .second)) ∙ s .rest ∙ ap (λ j. drop j t) d;
             within = omega (arith, s .within);
@@ -161,23 +161,23 @@ module _ (t : List ℕ) where
 
     abbrev OptionsStand : ℕ → ℕ → Option Sign → Option Sign × Options → List ℕ → Type 0
     OptionsStand at n o p x =
-        Took t (wholeOptions g h t at n) (signFrom n (signAt t (at + 2)) o, optionsAt h t at n) at (behindOptions h t at n) p x
+        Took t (wholeOptions g h t at n × optionKinds h t at n) (signFrom n (signAt t (at + 2)) o, optionsAt h t at n) at (behindOptions h t at n) p x
 
     option-stands : (n : ℕ) (o : Option Sign) (at : ℕ) (rs : Ranges) (c : Class) (ps os : Option Sign × Options) (x₁ x₂ x₃ x : List ℕ)
-        → 1 ≤ u8 t (at + 1)
+        → u8 t at ≡ 34 → 1 ≤ u8 t (at + 1)
         → RangesStand (at + 2) (u8 t (at + 1)) o rs x₁
         → Took t (g (optionClass t at)) ((h (optionClass t at)) .class) (optionClass t at + 1) ((h (optionClass t at)) .next) c x₂
         → OptionsStand ((h (optionClass t at)) .next) n (rs .0) ps x₃
         → good (ps .0, anOption (rs .1) c (ps .1)) x₃ ≡ good os x → OptionsStand at (suc n) o os x
-    unfolding wholeOptions optionsAt behindOptions
-    option-stands n o at rs c ps os x₁ x₂ x₃ x i b d w e =
+    unfolding wholeOptions optionKinds optionsAt behindOptions
+    option-stands n o at rs c ps os x₁ x₂ x₃ x k i b d w e =
         let s = signAt t ((h (optionClass t at)) .next + 2) in
         let f₁ : signFrom (suc n) (signAt t (at + 2)) o ≡ ps .0 =
         sign-through (u8 t (at + 1)) n _ s o i ∙ ap (λ r. signFrom n s (r .0)) (b .says) ∙ ap (λ r. r .0) (w .says) in
         let f₂ : rangesAt t (at + 2) (u8 t (at + 1)) ≡ rs .1 = ap (λ r. r .1) (b .says) in
         let f₃ : optionsAt h t ((h (optionClass t at)) .next) n ≡ ps .1 = ap (λ r. r .1) (w .says) in
         record {
-          stands = (i, b .within, d .stands, w .stands);
+          stands = ((i, b .within, d .stands, w .stands .0), (k, b .stands, w .stands .1));
           says = rw (f₁, f₂, f₃, d .says) (good-value e);
           rest = sym (good-rest e) ∙ w .rest;
           within = w .within;
@@ -186,9 +186,9 @@ module _ (t : List ℕ) where
 
     options-stand : (n : ℕ) (p : Ranges) (at : ℕ) (os : Option Sign × Options) (x : List ℕ) → at ≤ length t
         → parseOptions q f n p (drop at t) ≡ good os x → OptionsStand at n (p .0) os x
-    unfolding parseOptions wholeOptions optionsAt behindOptions optionFault countOf out
+    unfolding parseOptions wholeOptions optionKinds optionsAt behindOptions optionFault countOf out
     options-stand zero p at os x l e =
-        record { stands = tt; says = unfold signFrom in good-value e; rest = sym (good-rest e); within = l; onward = omega arith }
+        record { stands = (tt, tt); says = unfold signFrom in good-value e; rest = sym (good-rest e); within = l; onward = omega arith }
     options-stand (suc n) p at os x l e =
         let k = one-good q _ _ t at os x e in
         by (λ p at os x l e. options-stand n p at os x l e) (recordOf (drop at t)) refl (k .fine) (k .there) (k .rest)
@@ -217,18 +217,20 @@ module _ (t : List ℕ) where
             (rw (d .rest) at (c .second)) in
             let w = rec (a .value .0, p .1 ++ a .value .1) ((h (optionClass t at)) .next) (v .value) (v .rest) (d .within) (v .first) in
             let i : 1 ≤ j = ltb-false j 1 (or-false (ltb j 1) _ (pick-false _ 9 0 z) .0) in
-            option-stands n (p .0) at (a .value) (c .value) (v .value) os (a .rest) (c .rest) (v .rest) x (omega arith) b d w (v .second)
+            option-stands n (p .0) at (a .value) (c .value) (v .value) os (a .rest) (c .rest) (v .rest) x (r .kind) (omega arith) b d w
+            (v .second)
 
     -- by what the record announces
     abbrev ShapeStands : ℕ → Shape → Class → List ℕ → Type 0
-    ShapeStands at s c x = Took t (wholeIn g h t at s) (classIn h t at s) (at + 1) (nextIn h t at s) c x
+    ShapeStands at s c x = Took t (wholeIn g h t at s × kindsIn h t at s) (classIn h t at s) (at + 1) (nextIn h t at s) c x
 
-    leaf-stands : (s : Shape) (at : ℕ) (c : Class) (x : List ℕ) → wholeIn g h t at s → nextIn h t at s ≡ at + recordSize s
+    leaf-stands : (s : Shape) (at : ℕ) (c : Class) (x : List ℕ) → wholeIn g h t at s → kindsIn h t at s
+        → nextIn h t at s ≡ at + recordSize s
         → 1 ≤ recordSize s
         → at + recordSize s ≤ length t → good (classIn h t at s) (drop (at + recordSize s) t) ≡ good c x → ShapeStands at s c x
-    leaf-stands s at c x w n k l e =
+    leaf-stands s at c x w v n k l e =
         record {
-          stands = w;
+          stands = (w, v);
           says = good-value e;
           rest = sym (good-rest e) ∙ ap (λ j. drop j t) (sym n);
           within = omega arith;
@@ -248,43 +250,43 @@ module _ (t : List ℕ) where
 
     shape-stands : (z : Spot) (at : ℕ) (s : Shape) (c : Class) (x : List ℕ) → Sane (saidAt t at s) → at + recordSize s ≤ length t
         → parseShape q f z (saidAt t at s) ((saidAt t at s) .shape) (drop (at + recordSize s) t) ≡ good c x → ShapeStands at s c x
-    unfolding parseShape saidAt wholeIn classIn nextIn recordSize
+    unfolding parseShape saidAt wholeIn kindsIn classIn nextIn recordSize
     shape-stands z at (bitField bitArray) c x k l e =
-        leaf-stands (bitField bitArray) at c x (k .low, k .high, k .align) refl (omega arith) l e
+        leaf-stands (bitField bitArray) at c x (k .low, k .high, k .align) tt refl (omega arith) l e
     shape-stands z at (bitField boolean) c x k l e =
-        leaf-stands (bitField boolean) at c x (k .low, k .high, k .align) refl (omega arith) l e
+        leaf-stands (bitField boolean) at c x (k .low, k .high, k .align) tt refl (omega arith) l e
     shape-stands z at (bitField unsignedInt) c x k l e =
-        leaf-stands (bitField unsignedInt) at c x (k .low, k .high, k .align) refl (omega arith) l e
+        leaf-stands (bitField unsignedInt) at c x (k .low, k .high, k .align) tt refl (omega arith) l e
     shape-stands z at (bitField signedInt) c x k l e =
-        leaf-stands (bitField signedInt) at c x (k .low, k .high, k .align) refl (omega arith) l e
+        leaf-stands (bitField signedInt) at c x (k .low, k .high, k .align) tt refl (omega arith) l e
     shape-stands z at (bitField float) c x k l e =
-        leaf-stands (bitField float) at c x (k .low, k .high, k .align) refl (omega arith) l e
-    shape-stands z at lebField c x k l e = leaf-stands lebField at c x tt refl (omega arith) l e
-    shape-stands z at signedLebField c x k l e = leaf-stands signedLebField at c x tt refl (omega arith) l e
-    shape-stands z at zeroString c x k l e = leaf-stands zeroString at c x tt refl (omega arith) l e
-    shape-stands z at text c x k l e = leaf-stands text at c x tt refl (omega arith) l e
-    shape-stands z at blob c x k l e = leaf-stands blob at c x tt refl (omega arith) l e
-    shape-stands z at textOf c x k l e = leaf-stands textOf at c x tt refl (omega arith) l e
-    shape-stands z at blobOf c x k l e = leaf-stands blobOf at c x tt refl (omega arith) l e
+        leaf-stands (bitField float) at c x (k .low, k .high, k .align) tt refl (omega arith) l e
+    shape-stands z at lebField c x k l e = leaf-stands lebField at c x tt tt refl (omega arith) l e
+    shape-stands z at signedLebField c x k l e = leaf-stands signedLebField at c x tt tt refl (omega arith) l e
+    shape-stands z at zeroString c x k l e = leaf-stands zeroString at c x tt tt refl (omega arith) l e
+    shape-stands z at text c x k l e = leaf-stands text at c x tt tt refl (omega arith) l e
+    shape-stands z at blob c x k l e = leaf-stands blob at c x tt tt refl (omega arith) l e
+    shape-stands z at textOf c x k l e = leaf-stands textOf at c x tt tt refl (omega arith) l e
+    shape-stands z at blobOf c x k l e = leaf-stands blobOf at c x tt tt refl (omega arith) l e
     shape-stands z at members c x k l e =
         let a = then-good (parseMembers f (memberSpot z) (u8 t (at + 1)) (drop (at + 3) t)) _ c x e in
         let b = members-stand (memberSpot z) (u8 t (at + 1)) (at + 3) (a .value) (a .rest) l (a .first) in
-        took-inside t (structure (u8 t (at + 2))) at (k .align, b .stands) b (omega arith) refl (a .second)
+        took-inside t (structure (u8 t (at + 2))) at ((k .align, b .stands), tt) b (omega arith) refl (a .second)
     shape-stands z at elements c x k l e =
         let a = then-good (f inside (drop (at + 4) t)) _ c x e in
         let b = deeper inside (at + 4) (a .value) (a .rest) (a .first) in
-        took-inside t (staticArray (u16 t (at + 1)) (u8 t (at + 3))) at (k .align, b .stands) b (omega arith) refl (a .second)
+        took-inside t (staticArray (u16 t (at + 1)) (u8 t (at + 3))) at ((k .align, b .stands), tt) b (omega arith) refl (a .second)
     shape-stands z at elementsOf c x k l e =
         let a = then-good (f inside (drop (at + 3) t)) _ c x e in
         let b = deeper inside (at + 3) (a .value) (a .rest) (a .first) in
-        took-inside t (dynamicArray (u8 t (at + 1)) (u8 t (at + 2))) at (k .align, b .stands) b (omega arith) refl (a .second)
+        took-inside t (dynamicArray (u8 t (at + 1)) (u8 t (at + 2))) at ((k .align, b .stands), tt) b (omega arith) refl (a .second)
     shape-stands z at option? c x k l e =
         let o = at + 3 + 18 * u8 t (at + 2) in
         let a = then-good (parseRanges q [] (u8 t (at + 2)) none (drop (at + 3) t)) _ c x e in
         let b = ranges-stand q [] (u8 t (at + 2)) none (at + 3) (a .value) (a .rest) l (a .first) in
         let d = then-good (f inside (drop o t)) _ c x (rw (b .rest) at (a .second)) in
         let w = deeper inside o (d .value) (d .rest) (d .first) in
-        took-inside t (selected (u8 t (at + 1)) (a .value)) at (b .within, w .stands) w (omega arith)
+        took-inside t (selected (u8 t (at + 1)) (a .value)) at ((b .within, w .stands), b .stands) w (omega arith)
         (sym (flagged-or-not (u8 t (at + 1)) (u8 t (at + 2)) (at + 3) _) ∙ ap (λ p. selected (u8 t (at + 1)) p ((h o) .class)) (b .says))
         (d .second)
     shape-stands z at options c x k l e =
@@ -292,7 +294,7 @@ module _ (t : List ℕ) where
         let b = options-stand (u8 t (at + 2)) (none, []) (at + 3) (a .value) (a .rest) l (a .first) in
         let i : 1 ≤ u8 t (at + 2) = k .options refl in
         let j : at + 5 ≡ at + 3 + 2 = omega arith in
-        took-inside t (λ p. variant (u8 t (at + 1)) (theSign (p .0)) (p .1)) at (i, b .stands) b (omega arith)
+        took-inside t (λ p. variant (u8 t (at + 1)) (theSign (p .0)) (p .1)) at ((i, b .stands .0), b .stands .1) b (omega arith)
         (ap (λ s. variant (u8 t (at + 1)) s (optionsAt h t (at + 3) (u8 t (at + 2))))
         (ap (signAt t) j ∙ sym (first-sign (u8 t (at + 2)) _ i)))
         (a .second)
@@ -327,7 +329,8 @@ stands q u (suc d) z t at c x e =
             low = a .low;
             high = a .high;
             there = omega (arith, a .bytes);
-            parts = s .stands;
+            parts = s .stands .0;
+            kinds = s .stands .1;
           };
           says = s .says;
           rest = s .rest;

@@ -1,5 +1,6 @@
 pub mod Trees
 pub mod Fragments
 pub mod Sizes
+pub mod Words
 pub mod Notes
 pub mod Fields

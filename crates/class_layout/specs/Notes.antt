@@ -1,15 +1,20 @@
--- What `prepare` notes of a table in two lists: for each class its size with all that it holds and its alignment's exponent, for each
--- fragment its size. Byte by byte from the back: what a class holds stands behind its record, and is noted before it.
+-- What `prepare` notes of a table in two lists: for each class its size with all that it holds, and the word of its alignment's exponent and
+-- of what it sets (Words); for each fragment its size. Byte by byte from the back: what a class holds stands behind its record, and is noted before it.
 use mathlib.Core.Path.{_≡_}
-use Prim.Native.Nat.{ℕ, zero, suc, _+_, _-_, _≤_}
+use Prim.Native.Nat.{ℕ, zero, suc, _+_, _-_, _*_, _≤_, _<_}
 use mathlib.Core.List.{List, [], _∷_}
 use mathlib.Core.Bool.{Bool, true, false, _&&_}
 use lib.ListN.{length, getD, set}
 use lib.Dec.{leb}
-use Rattle.rules.specs.Class.{string}
+use Rattle.rules.specs.Class.{string, sets}
 use Rattle.rules.specs.Record.{u8}
+use Rattle.rules.specs.Record.{Shape, bitField, lebField, signedLebField, zeroString, text, blob, textOf, blobOf, members, elements}
+use Rattle.rules.specs.Record.{elementsOf, option?, options}
 use Rattle.class_layout.specs.declared.Reach.{Reach}
-use Rattle.class_layout.specs.Trees.{shapeOf, Stood, behindMembers, nextIn, nextAt, alignMembers, alignIn, alignAt, whole}
+use Rattle.class_layout.specs.Trees.{shapeOf, optionClass, Stood, behindMembers, behindOptions, nextIn, classAt, nextAt, alignMembers}
+use Rattle.class_layout.specs.Trees.{alignIn, alignAt, whole}
+use Rattle.table_records.specs.Named.{namedAt}
+use Rattle.class_layout.specs.Words.{wordOf, alignOfWord, setsOfWord, setsOne, setsBoth, SaysSet}
 use Rattle.class_layout.specs.Fragments.{behindFragment, fragmentsOf}
 use Rattle.class_layout.specs.Sizes.{Sized}
 
@@ -20,12 +25,39 @@ pub record Notes : Type 0 where
 abbrev pub notes : List ℕ → List ℕ → Notes
 notes s a = record { sizes = s; aligns = a }
 
--- what the notes say of the class at a byte: where it ends, of which alone the definitions of Trees ask here, and its exponent
+-- what the notes say of the class at a byte: where it ends, of which alone the definitions of Trees ask here, its exponent, and what it sets
 unfoldable pub endNoted : List ℕ → ℕ → Stood
 endNoted s p = record { class = string; next = p + getD s p 0 }
 
 unfoldable pub alignNoted : List ℕ → ℕ → ℕ
-alignNoted a p = getD a p 0
+alignNoted a p = alignOfWord (getD a p 0)
+
+unfoldable pub setsNoted : List ℕ → ℕ → ℕ
+setsNoted a p = setsOfWord (getD a p 0)
+
+-- what members set, and options, by what h says of each class; and what a class sets by its record, and h of what is behind it
+unfoldable pub setsMembers : (ℕ → ℕ) → (ℕ → Stood) → ℕ → ℕ → ℕ
+setsMembers h f at zero = 0
+setsMembers h f at (suc n) = setsBoth (h at) (setsMembers h f ((f at) .next) n)
+
+unfoldable pub setsOptions : (ℕ → ℕ) → (ℕ → Stood) → List ℕ → ℕ → ℕ → ℕ
+setsOptions h f t at zero = 0
+setsOptions h f t at (suc n) = setsBoth (h (optionClass t at)) (setsOptions h f t ((f (optionClass t at)) .next) n)
+
+unfoldable pub setsIn : (ℕ → ℕ) → (ℕ → Stood) → List ℕ → ℕ → Shape → ℕ
+setsIn h f t at (bitField k) = setsOne (namedAt t at)
+setsIn h f t at lebField = setsOne (namedAt t at)
+setsIn h f t at signedLebField = setsOne (namedAt t at)
+setsIn h f t at zeroString = setsOne (namedAt t at)
+setsIn h f t at text = setsOne (namedAt t at)
+setsIn h f t at blob = setsOne (namedAt t at)
+setsIn h f t at textOf = setsOne (namedAt t at)
+setsIn h f t at blobOf = setsOne (namedAt t at)
+setsIn h f t at members = setsMembers h f (at + 3) (u8 t (at + 1))
+setsIn h f t at elements = h (at + 4)
+setsIn h f t at elementsOf = h (at + 3)
+setsIn h f t at option? = h (at + 3 + 18 * u8 t (at + 2))
+setsIn h f t at options = setsOptions h f t (at + 3) (u8 t (at + 2))
 
 -- where the class that a record announces ends, and its exponent, by the notes of what is behind the record
 abbrev pub endBy : List ℕ → Notes → ℕ → ℕ
@@ -33,6 +65,9 @@ endBy t x p = nextIn (endNoted (x .sizes)) t p (shapeOf (u8 t p))
 
 abbrev pub alignBy : List ℕ → Notes → ℕ → ℕ
 alignBy t x p = alignIn (alignNoted (x .aligns)) (endNoted (x .sizes)) t p (shapeOf (u8 t p))
+
+abbrev pub setsBy : List ℕ → Notes → ℕ → ℕ
+setsBy t x p = setsIn (setsNoted (x .aligns)) (endNoted (x .sizes)) t p (shapeOf (u8 t p))
 
 -- 0 where that lies past the table, as no class does
 unfoldable pub sizeTo : List ℕ → ℕ → ℕ → ℕ
@@ -44,7 +79,10 @@ isClass k = leb 16 k && leb k 32
 
 unfoldable pub noteAt : List ℕ → ℕ → Notes → Notes
 noteAt t p x =
-    elim (isClass (u8 t p)) [ true ↦ notes (set (x .sizes) p (sizeTo t p (endBy t x p))) (set (x .aligns) p (alignBy t x p)) | false ↦ x ]
+    elim (isClass (u8 t p)) [
+      | true ↦ notes (set (x .sizes) p (sizeTo t p (endBy t x p))) (set (x .aligns) p (wordOf (alignBy t x p) (setsBy t x p)))
+      | false ↦ x
+    ]
 
 -- the bytes below p, from the back
 unfoldable pub noteBelow : List ℕ → ℕ → Notes → Notes
@@ -66,7 +104,8 @@ SizedClasses t s = (d p : ℕ) → whole d t p → p + getD s p 0 ≡ nextAt d t
 -- the notes of the class at a byte are right
 pub record NotedClass (t : List ℕ) (x : Notes) (d p : ℕ) : Type 0 where
   pub size : p + getD (x .sizes) p 0 ≡ nextAt d t p
-  pub align : getD (x .aligns) p 0 ≡ alignAt d t p
+  pub align : alignNoted (x .aligns) p ≡ alignAt d t p
+  pub sets : SaysSet (setsNoted (x .aligns) p) (sets (classAt d t p))
 
 -- what a reading goes by: of every fragment, and of every byte at which a class stands whole
 pub record Prepared (t : List ℕ) (x : Notes) : Type 0 where
@@ -79,11 +118,19 @@ pub record Prepared (t : List ℕ) (x : Notes) : Type 0 where
 pub record Reaches (t : List ℕ) (x : Notes) (p : ℕ) (r : Reach) : Type 0 where
   pub end : r .next ≡ endBy t x p
   pub align : r .align ≡ alignBy t x p
+  pub sets : (r .sets ≡ setsBy t x p) × (r .sets < 8192)
   pub onward : p ≤ r .next
 
 pub record ReachesMembers (s a : List ℕ) (p n : ℕ) (r : Reach) : Type 0 where
   pub end : r .next ≡ behindMembers (endNoted s) p n
   pub align : r .align ≡ alignMembers (alignNoted a) (endNoted s) p n
+  pub sets : (r .sets ≡ setsMembers (setsNoted a) (endNoted s) p n) × (r .sets < 8192)
+  pub onward : p ≤ r .next
+
+pub record ReachesOptions (t : List ℕ) (x : Notes) (p n : ℕ) (r : Reach) : Type 0 where
+  pub end : r .next ≡ behindOptions (endNoted (x .sizes)) t p n
+  pub align : r .align ≡ 0
+  pub sets : (r .sets ≡ setsOptions (setsNoted (x .aligns)) (endNoted (x .sizes)) t p n) × (r .sets < 8192)
   pub onward : p ≤ r .next
 
 -- What `prepare` does: every word of both lists, and what they are good for

@@ -1,6 +1,7 @@
 -- The class that stands at a byte of a table, as total functions of the bytes: its tree, the byte behind it, its alignment's exponent, and
 -- that it stands whole. `d` is how many depths it may have, its own among them. Of an accepted table they are what the rules' parse
 -- finds (proofs/Stands); a reader goes by them and parses nothing.
+use mathlib.Core.Path.{_≡_}
 use Prim.Native.Nat.{ℕ, zero, suc, _+_, _-_, _*_, _≤_, max}
 use mathlib.Core.List.{List, [], _∷_}
 use lib.ListN.{length, getD}
@@ -187,12 +188,39 @@ wholeIn g f t at elementsOf = (u8 t (at + 2) ≤ 6) × g (at + 3)
 wholeIn g f t at option? = (at + 3 + 18 * u8 t (at + 2) ≤ length t) × g (at + 3 + 18 * u8 t (at + 2))
 wholeIn g f t at options = (1 ≤ u8 t (at + 2)) × wholeOptions g f t (at + 3) (u8 t (at + 2))
 
--- the record itself is there, and is of a class; then what it announces
+-- That the ranges and the options that a class announces are records of their kinds, "33" and "34" (The class table)
+
+unfoldable pub rangeKinds : List ℕ → ℕ → ℕ → Type 0
+rangeKinds t at zero = Unit {0}
+rangeKinds t at (suc n) = (u8 t at ≡ 33) × rangeKinds t (at + 18) n
+
+unfoldable pub optionKinds : (ℕ → Stood) → List ℕ → ℕ → ℕ → Type 0
+optionKinds f t at zero = Unit {0}
+optionKinds f t at (suc n) =
+    (u8 t at ≡ 34) × rangeKinds t (at + 2) (u8 t (at + 1)) × optionKinds f t ((f (optionClass t at)) .next) n
+
+unfoldable pub kindsIn : (ℕ → Stood) → List ℕ → ℕ → Shape → Type 0
+kindsIn f t at (bitField k) = Unit {0}
+kindsIn f t at lebField = Unit {0}
+kindsIn f t at signedLebField = Unit {0}
+kindsIn f t at zeroString = Unit {0}
+kindsIn f t at text = Unit {0}
+kindsIn f t at blob = Unit {0}
+kindsIn f t at textOf = Unit {0}
+kindsIn f t at blobOf = Unit {0}
+kindsIn f t at members = Unit {0}
+kindsIn f t at elements = Unit {0}
+kindsIn f t at elementsOf = Unit {0}
+kindsIn f t at option? = rangeKinds t (at + 3) (u8 t (at + 2))
+kindsIn f t at options = optionKinds f t (at + 3) (u8 t (at + 2))
+
+-- the record itself is there, and is of a class; then what it announces, and of which kinds that is
 pub record Whole (g : ℕ → Type 0) (f : ℕ → Stood) (t : List ℕ) (at : ℕ) : Type 0 where
   pub low : 16 ≤ u8 t at
   pub high : u8 t at ≤ 32
   pub there : at + recordSize (shapeOf (u8 t at)) ≤ length t
   pub parts : wholeIn g f t at (shapeOf (u8 t at))
+  pub kinds : kindsIn f t at (shapeOf (u8 t at))
 
 unfoldable pub whole : ℕ → List ℕ → ℕ → Type 0
 whole zero t at = ⊥

@@ -2,6 +2,7 @@
 // From the back, byte by byte: what a class holds stands behind its record, so that its notes are there when the record is met. No
 // recursion is needed, and every class at any depth is noted; bytes that only look like one are noted too, and nobody asks of them.
 use class_layout::openings::behind_fragment;
+use class_layout::words::word_of;
 use class_reach::reach_of;
 use numbers::kinds;
 use table_records::bodies::PREAMBLE_SIZE;
@@ -17,7 +18,7 @@ ghost use Rattle.class_layout.specs.Notes.{notes, sizeTo, noteAt, noteBelow, no
 
 // Notes the sizes and alignments of an accepted table's classes, and the sizes of its fragments. The words of bytes that are
 // neither the number of a class's kind nor a fragment's first stay as they came. A size fits 16 bits: no class begins at byte 0.
-pub fn prepare(table: &[u8], sizes: &mut [u16], aligns: &mut [u8])
+pub fn prepare(table: &[u8], sizes: &mut [u16], aligns: &mut [u16])
     requires { ⌜ checked (now table) ≡ Accepted (byteLength (length (now table))) ⌝ }
     requires { ⌜ (length (now table) ≤ length (now sizes)) × (length (now table) ≤ length (now aligns)) ⌝ }
     ensures { λ _. ⌜ Made (now (table .entry)) (notes (now (sizes .entry)) (now (aligns .entry))) (notes (now (sizes .exit)) (now (aligns .exit))) ⌝ }
@@ -40,7 +41,7 @@ fn note_fragments(table: &[u8], sizes: &mut [u16])
 }
 
 // All classes, from the last byte on.
-fn note_classes(table: &[u8], sizes: &mut [u16], aligns: &mut [u8])
+fn note_classes(table: &[u8], sizes: &mut [u16], aligns: &mut [u16])
     requires { ⌜ (length (now table) ≤ length (now sizes)) × (length (now table) ≤ length (now aligns)) × (length (now table) ≤ 65536) × (u8 (now table) 0 < 16) ⌝ }
     ensures { λ _. ⌜ notes (now (sizes .exit)) (now (aligns .exit)) ≡ noteBelow (now (table .entry)) (length (now (table .entry))) (notes (now (sizes .entry)) (now (aligns .entry))) ⌝ }
 {
@@ -52,7 +53,7 @@ fn note_classes(table: &[u8], sizes: &mut [u16], aligns: &mut [u8])
 }
 
 // The class at a byte, if the byte is a kind of one.
-fn note_class(table: &[u8], at: usize, sizes: &mut [u16], aligns: &mut [u8])
+fn note_class(table: &[u8], at: usize, sizes: &mut [u16], aligns: &mut [u16])
     requires { ⌜ (length (now table) ≤ length (now sizes)) × (length (now table) ≤ length (now aligns)) × (length (now table) ≤ 65536) × (u8 (now table) 0 < 16) ⌝ }
     requires { ⌜ at < length (now table) ⌝ }
     ensures { λ _. ⌜ notes (now (sizes .exit)) (now (aligns .exit)) ≡ noteAt (now (table .entry)) at (notes (now (sizes .entry)) (now (aligns .entry))) ⌝ }
@@ -67,7 +68,7 @@ fn note_class(table: &[u8], at: usize, sizes: &mut [u16], aligns: &mut [u8])
     let reach = reach_of(table, at, sizes, aligns);
     let size = size_to(table, at, reach.next);
     sizes[at] = size;
-    aligns[at] = reach.align;
+    aligns[at] = word_of(reach.align, reach.sets);
 }
 
 // The size of what begins at a byte and ends at another; 0 if that lies past the table.

@@ -32,7 +32,9 @@ fn say_fault_from_9(number: u64) {
             b"this kind is not allowed here, or this root is foreign, repeated or out of turn",
         ),
         10 => say(b"a number is outside its range"),
-        11 => say(b"a slot is named that is not allowed here"),
+        11 => say(
+            b"a slot is named that is not allowed here, or is set both inside an array element and outside it",
+        ),
         12 => say(b"a role is given that is not allowed here"),
         13 => say(
             b"a range has low above high, signs are mixed, or the ranges of two options meet",
@@ -81,7 +83,9 @@ fn say_refusal_to_29(number: u8) {
         23 => say(b"the byte order changes off a byte boundary"),
         24 => say(b"a LEB128 number is too long or too large"),
         25 => say(b"there is no zero byte before the bound"),
-        26 => say(b"a slot is read that no field has set"),
+        26 => say(
+            b"a slot is read that no field has set, or only one in an array element that is over",
+        ),
         27 => say(b"a slot is read that is of the wrong sort"),
         28 => say(b"a length is above 65,535"),
         29 => say(b"the selector is in no option"),

@@ -8,3 +8,6 @@ pub mod Steps
 pub mod Lists
 pub mod Cases
 pub mod Slots
+pub mod Forgets
+pub mod Parsed
+pub mod Rests

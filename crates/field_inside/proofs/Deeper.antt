@@ -10,7 +10,7 @@ use Rattle.frame.specs.declared.Frame.{Frame}
 use Rattle.class_layout.proofs.Depths.{deeper, members-deeper}
 use Rattle.field_inside.specs.declared.look.Inside.{Inside}
 use Rattle.field_inside.specs.declared.look.Inside.the-variants.{Members, Elements, Refused}
-use Rattle.field_inside.specs.Inside.{opened}
+use Rattle.field_inside.specs.Inside.{elementOf, opened}
 use Rattle.field_inside.specs.Held.{Held}
 
 module _ (d d′ : ℕ) (t : List ℕ) (l : d ≤ d′) (f : Frame) (from : BitPlace) where
@@ -25,5 +25,5 @@ module _ (d d′ : ℕ) (t : List ℕ) (l : d ≤ d′) (f : Frame) (from : BitP
   opened-deeper e k (Members p v at n) s h =
       ap (λ cs. (listed (entry k p 0 v) p ⨾ readMembers e cs) s) (members-deeper d d′ t at n l (h .classes) .same)
   opened-deeper e k (Elements p v at n) s h =
-      ap (λ c. (listed (entry k p 0 v) p ⨾ times n (read e (c .class))) s) (deeper d d′ t l at (h .class) .1)
+      ap (λ c. (listed (entry k p 0 v) p ⨾ times n (elementOf e (c .class))) s) (deeper d d′ t l at (h .class) .1)
   opened-deeper e k (Refused r) s h = refl

@@ -16,9 +16,9 @@ use Rattle.field_inside.specs.declared.opening.Entered.{Entered}
 use Rattle.field_inside.specs.Inside.{within, standing}
 use Rattle.field_inside.specs.Opening.{openedAs, listHolder, listOpened, enteredAt, listEntered}
 
-pub opened-by : (p : BitPlace) (k : ℕ) (ws : List ℕ) {o i : Inside} (j : Inside) → o ≡ i → o ≡ j
-    → (openedAs p j ≡ openedAs p i) × (listOpened k j ws ≡ listOpened k i ws)
-opened-by p k ws j look e = rw (sym look ∙ e) (refl, refl)
+pub opened-by : (a : List ℕ) (p : BitPlace) (k : ℕ) (ws : List ℕ) {o i : Inside} (j : Inside) → o ≡ i → o ≡ j
+    → (openedAs a p j ≡ openedAs a p i) × (listOpened k j ws ≡ listOpened k i ws)
+opened-by a p k ws j look e = rw (sym look ∙ e) (refl, refl)
 
 abbrev entered : Bool → BitPlace → Entered
 entered on p = record { on = on; place = p }

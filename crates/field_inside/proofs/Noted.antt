@@ -11,8 +11,9 @@ use Rattle.rules.specs.Record.{elementsOf, option?, options, u8}
 use Rattle.rules.specs.Class.{Sign, anyHolds}
 use Rattle.facts.proofs.Cases.{_▷_, below}
 use Rattle.class_layout.specs.Trees.{shapeOf, shapes, recordSize, rangesAt, optionClass, Stood, stoodAt, nextAt}
-use Rattle.class_layout.specs.Trees.{wholeMembers, wholeOptions, wholeIn, whole}
+use Rattle.class_layout.specs.Trees.{wholeMembers, wholeOptions, wholeIn, whole, kindsIn}
 use Rattle.class_layout.specs.Notes.{Notes, endNoted, Prepared}
+use Rattle.class_layout.proofs.Announced.{same-kinds}
 use Rattle.class_layout.proofs.Turns.{whole-inside}
 use Rattle.class_layout.proofs.Aligned.{aligned}
 use Rattle.field_choice.specs.declared.Choice.the-variants.{Class}
@@ -73,6 +74,11 @@ module _ (t : List ℕ) (x : Notes) (r : Prepared t x) where
       shape-too t (whole d t) (InTable t) (stoodAt d t) (endNoted (x .sizes)) (λ p v. whole-inside d t p v) (end-same d) at
       (shapeOf (u8 t at)) (w .parts)
 
+  kinds-too : (d at : ℕ) → whole (suc d) t at → kindsIn (endNoted (x .sizes)) t at (shapeOf (u8 t at))
+  unfolding whole
+  kinds-too d at w =
+      same-kinds t (whole d t) (stoodAt d t) (endNoted (x .sizes)) (end-same d) at (shapeOf (u8 t at)) (w .parts) (w .kinds)
+
   pub opens : (d at : ℕ) → whole d t at → 28 ≤ u8 t at → HolderStands t x at
   unfolding whole
   opens zero at w k = absurd w
@@ -81,7 +87,7 @@ module _ (t : List ℕ) (x : Notes) (r : Prepared t x) where
     sizes = r .sized .room;
     aligns = r .room;
     kind = k;
-    stands = record { low = w .low; high = w .high; there = w .there; parts = parts-too d at w };
+    stands = record { low = w .low; high = w .high; there = w .there; parts = parts-too d at w; kinds = kinds-too d at w };
     align = rw (r .classes (suc d) at w .align) (aligned (suc d) t at w .1);
   }
 

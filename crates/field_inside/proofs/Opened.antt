@@ -38,7 +38,7 @@ use Rattle.field_inside.specs.declared.look.Inside.{Inside}
 use Rattle.field_inside.specs.declared.look.Inside.the-variants.{Members, Refused}
 use Rattle.field_choice.specs.Choice.{InTable, byNumber, presentAt, byFlag, byRanges, optionalClass, optionalAt, optionFrom}
 use Rattle.field_choice.specs.Choice.{variantIn, variantAt}
-use Rattle.field_inside.specs.Inside.{slotReadIn, slotReadAt, within, standing, membersFrom, elementsFrom, byLength}
+use Rattle.field_inside.specs.Inside.{elementOf, slotReadIn, slotReadAt, within, standing, membersFrom, elementsFrom, byLength}
 use Rattle.field_inside.specs.Inside.{optionalInside, variantInside, bitsNoted, behindNoted, insideIn, insideOf, opened}
 use Rattle.field_inside.proofs.Holders.{five}
 use Rattle.field_inside.proofs.Noted.{option-same, end-same}
@@ -92,10 +92,10 @@ module _ (b uuid : List ℕ) (f : Frame) (s : State) (d : ℕ) (t : List ℕ) wh
       (rw (members-counted (stoodAt d t) from n) (entered k a n (readMembers e (membersAt (stoodAt d t) from n))))
 
   elements-opened : (k a from n : ℕ)
-      → (fit e a 0 ⨾ field e k a 0 n ⨾ times n (read e (classAt d t from))) s
+      → (fit e a 0 ⨾ field e k a 0 n ⨾ times n (elementOf e (classAt d t from))) s
       ≡ opened e k d t (standing f a (s .place) (elementsFrom n from)) s
   unfolding opened aligned alignedAt
-  elements-opened k a from n = stands-opened k a _ (elementsFrom n from) (entered k a n (times n (read e (classAt d t from))))
+  elements-opened k a from n = stands-opened k a _ (elementsFrom n from) (entered k a n (times n (elementOf e (classAt d t from))))
 
   -- A length, and a number: "slot checks 26, 27, 28"
 

@@ -12,14 +12,15 @@ use Rattle.rules.specs.Limits.{tableLimit, noSlot}
 use Rattle.rules.specs.Record.{Shape, bitField, lebField, signedLebField, zeroString, text, blob, textOf, blobOf, members, elements, elementsOf, option?, options, u8, u16}
 use Rattle.rules.specs.Entry.{entry}
 use Rattle.rules.specs.Step.{Step, _⨾_, refuse, listed}
-use Rattle.rules.specs.Field.{Env, times, read, readMembers}
+use Rattle.rules.specs.Class.{Class as FieldClass}
+use Rattle.rules.specs.Field.{Env, times, forget, read, readMembers}
 use Rattle.frame.specs.declared.Frame.{Frame}
 use Rattle.slots.specs.declared.Length.{Length}
 use Rattle.slots.specs.declared.Length.the-variants.{Of, NotOf}
 use Rattle.frame.specs.Framed.{alignedAt}
 use Rattle.slots.specs.Taken.{lengthOf}
 use Rattle.class_layout.specs.Trees.{shapeOf, membersAt, stoodAt, classAt, Whole}
-use Rattle.class_layout.specs.Notes.{Notes, endNoted}
+use Rattle.class_layout.specs.Notes.{Notes, endNoted, alignNoted}
 use Rattle.field_choice.specs.declared.Choice.{Choice}
 use Rattle.field_choice.specs.declared.Choice.the-variants.{Class, Nothing, Refused as NotTold}
 use Rattle.field_inside.specs.declared.look.Inside.{Inside}
@@ -78,7 +79,7 @@ variantInside p (NotTold r) = Refused r
 
 -- the alignment noted of the class at a byte, in bits
 abbrev pub bitsNoted : Notes → ℕ → ℕ
-bitsNoted x at = 2 ^ getD (x .aligns) at 0
+bitsNoted x at = 2 ^ alignNoted (x .aligns) at
 
 -- the byte behind the record of the class at a byte, as it is noted
 abbrev pub behindNoted : Notes → ℕ → ℕ
@@ -105,9 +106,13 @@ insideOf t x at f p c = insideIn t x at f p c (shapeOf (u8 t at))
 
 -- What is done with it: the field's entry, and then the fields inside, which may have d depths
 
+-- an element of an array: "at the start and the end of each array element, the slots .. become unset" (02, 3)
+abbrev pub elementOf : Env → FieldClass → Step
+elementOf e c = forget c ⨾ read e c ⨾ forget c
+
 unfoldable pub opened : Env → ℕ → ℕ → List ℕ → Inside → Step
 opened e k d t (Members p v from n) s = (listed (entry k p 0 v) p ⨾ readMembers e (membersAt (stoodAt d t) from n)) s
-opened e k d t (Elements p v from n) s = (listed (entry k p 0 v) p ⨾ times n (read e (classAt d t from))) s
+opened e k d t (Elements p v from n) s = (listed (entry k p 0 v) p ⨾ times n (elementOf e (classAt d t from))) s
 opened e k d t (Refused r) s = refuse r s
 
 -- What the code goes by: a class of kinds 28 to 32 stands at a byte, with all that it holds in the table, and what is noted of it can be
@@ -119,4 +124,4 @@ pub record HolderStands (t : List ℕ) (x : Notes) (at : ℕ) : Type 0 where
   pub aligns : length t ≤ length (x .aligns)
   pub kind : 28 ≤ u8 t at
   pub stands : Whole (InTable t) (endNoted (x .sizes)) t at
-  pub align : getD (x .aligns) at 0 ≤ 6
+  pub align : alignNoted (x .aligns) at ≤ 6

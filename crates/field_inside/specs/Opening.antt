@@ -3,25 +3,31 @@ use Prim.Native.Nat.{ℕ}
 use mathlib.Core.List.{List, [], _∷_, _++_}
 use mathlib.Core.Bool.{Bool, true, false, not}
 use lib.ListN.{drop}
-use lib.Dec.{ltb}
+use lib.Dec.{eqb, ltb}
 use Rattle.rules.specs.declared.BitPlace.{BitPlace}
 use Rattle.rules.specs.declared.Refusal.the-variants.{PastBound}
 use Rattle.rules.specs.Entry.{entry, words}
 use Rattle.frame.specs.declared.Frame.{Frame}
 use Rattle.frame.specs.Framed.{alignedAt}
+use Rattle.class_layout.specs.Notes.{setsNoted}
 use Rattle.field_inside.specs.declared.look.Inside.{Inside}
 use Rattle.field_inside.specs.declared.look.Inside.the-variants.{Members, Elements, Refused}
 use Rattle.field_inside.specs.declared.opening.Opened.{Opened}
 use Rattle.field_inside.specs.declared.opening.Entered.{Entered}
 
 -- n members from a byte on, or n elements of the class there
-unfoldable pub wentIn : BitPlace → ℕ → ℕ → Bool → Opened
-wentIn p from n elements = record { on = true; why = PastBound; place = p; from = from; count = n; elements = elements }
+unfoldable pub wentIn : BitPlace → ℕ → ℕ → Bool → ℕ → Opened
+wentIn p from n elements forgets =
+    record { on = true; why = PastBound; place = p; from = from; count = n; elements = elements; forgets = forgets }
 
-unfoldable pub openedAs : BitPlace → Inside → Opened
-openedAs p (Members q v from n) = wentIn q from n false
-openedAs p (Elements q v from n) = wentIn q from n true
-openedAs p (Refused r) = record { on = false; why = r; place = p; from = 0; count = 0; elements = false }
+-- what is forgotten around each of n elements of the class at a byte, as it is noted; nothing where there is no element
+unfoldable pub forgetsAt : List ℕ → ℕ → ℕ → ℕ
+forgetsAt a from n = elim (eqb n 0) [ true ↦ 0 | false ↦ setsNoted a from ]
+
+unfoldable pub openedAs : List ℕ → BitPlace → Inside → Opened
+openedAs a p (Members q v from n) = wentIn q from n false 0
+openedAs a p (Elements q v from n) = wentIn q from n true (forgetsAt a from n)
+openedAs a p (Refused r) = record { on = false; why = r; place = p; from = 0; count = 0; elements = false; forgets = 0 }
 
 -- the list behind the entry of a field of the kind k, which has no bits of its own
 abbrev pub listHolder : ℕ → BitPlace → ℕ → List ℕ → List ℕ

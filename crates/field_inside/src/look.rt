@@ -1,5 +1,6 @@
 // What a field of kinds 28 to 32 holds, once its slot and its alignment have passed: so many classes one behind the other, or one class so
 // many times; with the place and the value of its own entry. Nothing is listed here, and no field inside is read.
+use class_layout::words::align_of;
 use field_choice::Choice;
 use field_choice::choose_option;
 use field_choice::choose_optional;
@@ -56,7 +57,7 @@ pub fn slot_read(table: &[u8], at: usize) -> usize
 pub fn look(
     table: &[u8],
     sizes: &[u16],
-    aligns: &[u8],
+    aligns: &[u16],
     at: usize,
     frame: Frame,
     place: BitPlace,
@@ -70,20 +71,26 @@ pub fn look(
         kinds::STRUCTURE => members(
             count_at(table, at + 1),
             at + bodies::STRUCTURE_SIZE,
-            aligns[at],
+            align_of(aligns[at]),
             frame,
             place,
         ),
         kinds::STATIC_ARRAY => elements(
             u16_at(table, at + 1),
             at + bodies::STATIC_ARRAY_SIZE,
-            aligns[at],
+            align_of(aligns[at]),
             frame,
             place,
         ),
         kinds::DYNAMIC_ARRAY => match length_of(content) {
             Length::NotOf(why) => Inside::Refused(why),
-            Length::Of(n) => elements(n, at + bodies::DYNAMIC_ARRAY_SIZE, aligns[at], frame, place),
+            Length::Of(n) => elements(
+                n,
+                at + bodies::DYNAMIC_ARRAY_SIZE,
+                align_of(aligns[at]),
+                frame,
+                place,
+            ),
         },
         kinds::OPTIONAL => optional(
             choose_optional(table, at, content),
@@ -94,11 +101,11 @@ pub fn look(
     }
 }
 
-fn members(count: usize, from: usize, exponent: u8, frame: Frame, place: BitPlace) -> Inside
+fn members(count: usize, from: usize, exponent: u64, frame: Frame, place: BitPlace) -> Inside
     requires { ⌜ (exponent ≤ 6) × (frame .start .0 ≤ place .0) × (place .0 + 64 ≤ 2 ^ 64) ⌝ }
     ensures { λ r. ⌜ r ≡ standing frame (2 ^ exponent) place (membersFrom count from) ⌝ }
 {
-    let aligned = places::align(place, frame.start, exponent as u64);
+    let aligned = places::align(place, frame.start, exponent);
     let told = Inside::Members {
         place: aligned,
         value: count as u64,
@@ -108,11 +115,11 @@ fn members(count: usize, from: usize, exponent: u8, frame: Frame, place: BitPlac
     within(frame, aligned, told)
 }
 
-fn elements(count: usize, from: usize, exponent: u8, frame: Frame, place: BitPlace) -> Inside
+fn elements(count: usize, from: usize, exponent: u64, frame: Frame, place: BitPlace) -> Inside
     requires { ⌜ (exponent ≤ 6) × (frame .start .0 ≤ place .0) × (place .0 + 64 ≤ 2 ^ 64) ⌝ }
     ensures { λ r. ⌜ r ≡ standing frame (2 ^ exponent) place (elementsFrom count from) ⌝ }
 {
-    let aligned = places::align(place, frame.start, exponent as u64);
+    let aligned = places::align(place, frame.start, exponent);
     let told = Inside::Elements {
         place: aligned,
         value: count as u64,

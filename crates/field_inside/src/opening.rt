@@ -1,6 +1,8 @@
 // A field of kinds 28 to 32 opened: its own entry is listed, and what it holds is said in numbers alone, for a run of fields.
 use crate::look::Inside;
 use crate::look::look;
+use class_layout::words::align_of;
+use class_layout::words::sets_of;
 use frame::Frame;
 use listing::entry::write;
 use numbers::kinds;
@@ -12,14 +14,15 @@ use table_bytes::wide64;
 ghost use mathlib.Core.Path.{_≡_};
 ghost use mathlib.Core.List.{[], _∷_, _++_};
 ghost use Prim.Native.Nat.{_+_, _≤_, _<_, _^_};
-ghost use lib.ListN.{length, drop, getD};
+ghost use lib.ListN.{length, drop};
 ghost use Rattle.rules.specs.Record.{u8};
 ghost use Rattle.rules.specs.Entry.{words, entry};
-ghost use Rattle.class_layout.specs.Notes.{notes};
+ghost use Rattle.class_layout.specs.Notes.{notes, alignNoted};
 ghost use Rattle.field_inside.specs.Inside.{insideOf, HolderStands};
-ghost use Rattle.field_inside.specs.Opening.{openedAs, listOpened, enteredAt, listEntered, wentIn};
+ghost use Rattle.field_inside.specs.Opening.{openedAs, listOpened, enteredAt, listEntered, wentIn, forgetsAt};
 
-// A field that was opened: its place, and what it holds, as `Inside` has it; or why it was not, at the place from which it was looked for.
+// A field that was opened: its place, and what it holds, as `Inside` has it, with what is forgotten around each element (02, 3); or why it
+// was not, at the place from which it was looked for.
 pub struct Opened {
     pub on: bool,
     pub why: Refusal,
@@ -27,13 +30,14 @@ pub struct Opened {
     pub from: usize,
     pub count: usize,
     pub elements: bool,
+    pub forgets: usize,
 }
 
 // Opens the field of the class at a byte, and lists its entry, where there is room for it. `content` is what the slot holds that it reads.
 pub fn open_field(
     table: &[u8],
     sizes: &[u16],
-    aligns: &[u8],
+    aligns: &[u16],
     frame: Frame,
     at: usize,
     place: BitPlace,
@@ -44,7 +48,8 @@ pub fn open_field(
     requires { ⌜ (frame .start .0 ≤ place .0) × (place .0 + 64 ≤ 2 ^ 64) ⌝ }
     requires { ⌜ 4 ≤ length (now list) ⌝ }
     ensures { λ r. ⌜
-        r ≡ openedAs place (insideOf (now (table .entry)) (notes (now (sizes .entry)) (now (aligns .entry))) at frame place content)
+        r ≡ openedAs (now (aligns .entry)) place
+        (insideOf (now (table .entry)) (notes (now (sizes .entry)) (now (aligns .entry))) at frame place content)
         ⌝ }
     ensures { λ _. ⌜
         now (list .exit) ≡ listOpened (u8 (now (table .entry)) at)
@@ -60,6 +65,7 @@ pub fn open_field(
             from: 0,
             count: 0,
             elements: false,
+            forgets: 0,
         },
         Inside::Members {
             place: there,
@@ -68,7 +74,7 @@ pub fn open_field(
             count,
         } => {
             list_holder(kind, there, value, list);
-            went_in(there, from, count, false)
+            went_in(there, from, count, false, 0)
         }
         Inside::Elements {
             place: there,
@@ -77,13 +83,14 @@ pub fn open_field(
             count,
         } => {
             list_holder(kind, there, value, list);
-            went_in(there, from, count, true)
+            let forgets = forgotten_around(aligns, from, count);
+            went_in(there, from, count, true, forgets)
         }
     }
 }
 
-fn went_in(place: BitPlace, from: usize, count: usize, elements: bool) -> Opened
-    ensures { λ r. ⌜ r ≡ wentIn place from count elements ⌝ }
+fn went_in(place: BitPlace, from: usize, count: usize, elements: bool, forgets: usize) -> Opened
+    ensures { λ r. ⌜ r ≡ wentIn place from count elements forgets ⌝ }
 {
     Opened {
         on: true,
@@ -92,7 +99,21 @@ fn went_in(place: BitPlace, from: usize, count: usize, elements: bool) -> Opened
         from,
         count,
         elements,
+        forgets,
     }
+}
+
+// What is forgotten around each of so many elements of the class at a byte: what it sets; nothing where there is no element.
+fn forgotten_around(aligns: &[u16], at: usize, count: usize) -> usize
+    ensures { λ r. ⌜ r ≡ forgetsAt (now (aligns .entry)) at count ⌝ }
+{
+    if count == 0 {
+        return 0;
+    }
+    if at < aligns.len() {
+        return sets_of(aligns[at]);
+    }
+    0
 }
 
 // A structure's place, and whether that is not past the bound.
@@ -104,21 +125,22 @@ pub struct Entered {
 // The same of the structure at a byte, which reads no slot: what it holds stands in its record.
 pub fn enter_structure(
     table: &[u8],
-    aligns: &[u8],
+    aligns: &[u16],
     frame: Frame,
     at: usize,
     from: BitPlace,
     list: &mut [u64],
 ) -> Entered
-    requires { ⌜ (at + 2 ≤ length (now table)) × (at < length (now aligns)) × (getD (now aligns) at 0 ≤ 6) ⌝ }
+    requires { ⌜ (at + 2 ≤ length (now table)) × (at < length (now aligns)) × (alignNoted (now aligns) at ≤ 6) ⌝ }
     requires { ⌜ (frame .start .0 ≤ from .0) × (from .0 + 64 ≤ 2 ^ 64) ⌝ }
     requires { ⌜ 4 ≤ length (now list) ⌝ }
-    ensures { λ r. ⌜ r ≡ enteredAt frame (2 ^ getD (now (aligns .entry)) at 0) from ⌝ }
+    ensures { λ r. ⌜ r ≡ enteredAt frame (2 ^ alignNoted (now (aligns .entry)) at) from ⌝ }
     ensures { λ _. ⌜
-        now (list .exit) ≡ listEntered frame (2 ^ getD (now (aligns .entry)) at 0) from (u8 (now (table .entry)) (at + 1)) (now (list .entry))
+        now (list .exit) ≡ listEntered frame (2 ^ alignNoted (now (aligns .entry)) at) from (u8 (now (table .entry)) (at + 1))
+        (now (list .entry))
         ⌝ }
 {
-    let place = places::align(from, frame.start, wide64(aligns[at]));
+    let place = places::align(from, frame.start, align_of(aligns[at]));
     if frame.bound.0 < place.0 {
         return Entered { on: false, place };
     }

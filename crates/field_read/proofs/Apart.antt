@@ -16,6 +16,7 @@ use Rattle.rules.specs.Verdict.{stopAt}
 use Rattle.rules.specs.Slots.{Slots}
 use Rattle.rules.specs.Entry.{entry}
 use Rattle.rules.specs.Record.{u8}
+use Rattle.rules.specs.Class.{sets}
 use Rattle.rules.specs.Step.{Step, _⨾_, listed}
 use Rattle.rules.specs.Field.{read}
 use Rattle.facts.proofs.Numbers.{lt-or-ge}
@@ -27,14 +28,14 @@ use Rattle.listing.proofs.Parts.{Part, lent, merged}
 use Rattle.field_inside.specs.declared.look.Inside.{Inside}
 use Rattle.field_inside.specs.declared.look.Inside.the-variants.{Members, Elements, Refused}
 use Rattle.field_inside.specs.declared.opening.Opened.{Opened}
-use Rattle.field_inside.specs.Opening.{openedAs, listOpened, wentIn, listHolder}
+use Rattle.field_inside.specs.Opening.{openedAs, forgetsAt, listOpened, wentIn, listHolder}
 use Rattle.field_runs.specs.declared.Run.{Run}
 use Rattle.field_runs.specs.Run.{run, over, behindRun, aloneRun}
-use Rattle.field_runs.specs.Ahead.{ahead, WholeRun}
+use Rattle.field_runs.specs.Ahead.{ahead, WholeRun, Forgets}
 use Rattle.field_runs.proofs.Ahead.{heldRead, alone-reads, alone-stands, instead}
 use Rattle.field_read.specs.Reads.{stateAt}
 use Rattle.field_read.proofs.Round.{Loop, env, left, Round, Stops, round-over, Holder, insideHere, holder-part, rest-stands}
-use Rattle.field_read.proofs.Round.{Told, members-told, elements-told, entry-put, open-same, open-stops, open-few}
+use Rattle.field_read.proofs.Round.{Told, members-told, elements-told, forgets-told, entry-put, open-same, open-stops, open-few}
 
 -- The same loop with something else behind its run
 
@@ -63,41 +64,44 @@ pub record ApartRound (w : Loop) (r : Run) (ws : List ℕ) (used : ℕ) (st : Pr
   pub rest-stands : WholeRun (w .depths) (w .table) (behindRun r (w .notes .sizes) (r .next) (r .todo - 1))
   pub stops : o .on ≡ false → Stops w (stopAt (o .why) (st .place)) used (merged used ws ys)
   pub goes : o .on ≡ true → Round (apartFrom w (behindRun r (w .notes .sizes) (r .next) (r .todo - 1)))
-      (aloneRun (o .from) (o .count) (o .elements)) (merged used ws ys) (used + 4) (stateAt (o .place) (st .order) st) l
+      (aloneRun (o .from) (o .count) (o .elements) (o .forgets)) (merged used ws ys) (used + 4) (stateAt (o .place) (st .order) st) l
 
 module _ {w : Loop} {r : Run} {ws : List ℕ} {used : ℕ} {st : Progress} {l : Slots} {c : Content} (h : Holder w r ws used st l c) where
   abbrev rest : Run
   rest = behindRun r (w .notes .sizes) (r .next) (r .todo - 1)
 
-  told-round : {p : BitPlace} {v from n : ℕ} {elements : Bool} → Told h p v from n elements
-      → Round (apartFrom w rest) (aloneRun from n elements) (merged used ws (listHolder (u8 (w .table) (r .next)) p v (lent used ws)))
+  told-round : {p : BitPlace} {v from n : ℕ} {elements : Bool} (f : ℕ) → Told h p v from n elements
+      → (elements ≡ true → Forgets n f (sets (classAt (w .depths) (w .table) from)))
+      → Round (apartFrom w rest) (aloneRun from n elements f) (merged used ws (listHolder (u8 (w .table) (r .next)) p v (lent used ws)))
       (used + 4) (stateAt p (st .order) st) l
-  told-round {p} {v} {from} {n} {elements} q =
+  told-round {p} {v} {from} {n} {elements} f q right =
       let d = w .depths in
       let t = w .table in
       let m = listed (entry (u8 t (r .next)) p 0 v) p in
-      let alone = ahead d t (env w) (aloneRun from n elements) in
+      let alone = ahead d t (env w) (aloneRun from n elements f) in
       let here = full st l (length (w .list) - used) in
       let reads = instead (read (env w) (classAt d t (r .next))) m (heldRead d t (env w) from n elements) (left w rest) here (q .reads) in
       record {
-        stands = alone-stands d t from n elements (q .class) (q .parts);
+        stands = alone-stands d t from n elements f (q .class) right (q .parts);
         noted = h .round .noted;
         framed = q .framed;
         many = h .round .many;
         part = entry-put h p v (read (env w) (classAt d t (r .next)) ⨾ left w rest) (alone ⨾ left w rest) (holder-part h)
-            (reads ∙ ap (λ (x : Step). (m ⨾ (x ⨾ left w rest)) here) (sym (alone-reads d t (env w) from n elements)));
+            (reads ∙ ap (λ (x : Step). (m ⨾ (x ⨾ left w rest)) here) (sym (alone-reads d t (env w) from n elements f right)));
       }
 
-  apart-goes : (i : Inside) → insideHere h ≡ i → openedAs (st .place) i .on ≡ true →
-      let o = openedAs (st .place) i in
-      Round (apartFrom w rest) (aloneRun (o .from) (o .count) (o .elements))
+  apart-goes : (i : Inside) → insideHere h ≡ i → openedAs (w .notes .aligns) (st .place) i .on ≡ true →
+      let o = openedAs (w .notes .aligns) (st .place) i in
+      Round (apartFrom w rest) (aloneRun (o .from) (o .count) (o .elements) (o .forgets))
       (merged used ws (listOpened (u8 (w .table) (r .next)) i (lent used ws))) (used + 4) (stateAt (o .place) (st .order) st) l
   unfolding openedAs wentIn listOpened
-  apart-goes (Members p v from n) e on = told-round (members-told h e)
-  apart-goes (Elements p v from n) e on = told-round (elements-told h e)
+  apart-goes (Members p v from n) e on = told-round 0 (members-told h e) (λ b. absurd (clash b))
+  apart-goes (Elements p v from n) e on =
+      let q = elements-told h e in
+      told-round (forgetsAt (w .notes .aligns) from n) q (λ b. forgets-told h from n (q .class b))
   apart-goes (Refused why) e on = absurd (clash on)
 
-  pub apart-round : {o : Opened} {ys : List ℕ} → o ≡ openedAs (st .place) (insideHere h)
+  pub apart-round : {o : Opened} {ys : List ℕ} → o ≡ openedAs (w .notes .aligns) (st .place) (insideHere h)
       → ys ≡ listOpened (u8 (w .table) (r .next)) (insideHere h) (lent used ws) → ApartRound w r ws used st l o ys
   apart-round e f = rw (e, f) record {
     same = open-same h (insideHere h);

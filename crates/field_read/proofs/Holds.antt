@@ -15,19 +15,22 @@ use Rattle.rules.specs.Slots.{Slots, slotAt}
 use Rattle.rules.specs.Entry.{entry, words}
 use Rattle.rules.specs.declared.Content.{Content}
 use Rattle.rules.specs.Record.{u8}
+use Rattle.rules.specs.Class.{sets}
 use Rattle.rules.specs.Step.{State, Step, after, _⨾_, refuse, listed}
 use Rattle.facts.proofs.Truth.{clash}
-use Rattle.class_layout.specs.Trees.{whole, wholeMembers, stoodAt}
+use Rattle.class_layout.specs.Trees.{whole, wholeMembers, stoodAt, classAt}
 use Rattle.class_layout.specs.Notes.{Notes, Prepared}
 use Rattle.field_inside.specs.declared.look.Inside.{Inside}
 use Rattle.field_inside.specs.declared.look.Inside.the-variants.{Members, Elements, Refused}
 use Rattle.field_inside.specs.declared.opening.Opened.{Opened}
-use Rattle.field_inside.specs.Opening.{openedAs, wentIn, listOpened}
+use Rattle.field_inside.specs.Opening.{openedAs, forgetsAt, wentIn, listOpened}
 use Rattle.field_inside.specs.Inside.{insideOf, slotReadAt, opened, HolderStands}
 use Rattle.field_inside.specs.Held.{Held, Placed, HeldMembers, HeldElements}
 use Rattle.field_inside.proofs.Noted.{opens}
 use Rattle.field_inside.proofs.Opened.{inside-read}
+use Rattle.field_inside.proofs.Forgotten.{forgets-none, forgets-some}
 use Rattle.field_inside.proofs.Held.{inside-whole}
+use Rattle.field_runs.specs.Ahead.{Forgets}
 use Rattle.frame.specs.declared.Frame.{Frame}
 use Rattle.frame.specs.Framed.{Framed, envOf}
 use Rattle.listing.specs.declared.Progress.{Progress}
@@ -59,6 +62,11 @@ pub record Closed (w : Call) (ws : List ℕ) (r : Field) : Type 0 where
   pub same : length ws ≡ length (w .list)
   pub stops : (v : Stop) → r .went ≡ Stopped v → CallReads w (stoppedCall w v (4 + r .used)) ws
   pub goes : r .went ≡ On → CallReads w (record { went = On; used = 4 + r .used; state = r .state; slots = r .slots }) ws
+
+-- the class of an opened array's elements, and what is forgotten around each
+pub record ElementsStand (d : ℕ) (t : List ℕ) (o : Opened) : Type 0 where
+  pub class : whole d t (o .from)
+  pub forgets : Forgets (o .count) (o .forgets) (sets (classAt d t (o .from)))
 
 -- the same at numbers of the code's own
 pub closed-same : {w : Call} {ws ws′ : List ℕ} {r r′ : Field} → ws′ ≡ ws → r′ ≡ r → Closed w ws r → Closed w ws′ r′
@@ -156,31 +164,39 @@ module _ {b u : List ℕ} {f : Frame} {t : List ℕ} {x : Notes} {d at : ℕ} {c
   abbrev told : Inside
   told = insideOf t x at f (st .place) c
 
-  refused-told : (j : Inside) → told ≡ j → openedAs (st .place) j .on ≡ false
-      → CallReads this (stoppedCall this (stopAt (openedAs (st .place) j .why) (st .place)) 0) (listOpened (u8 t at) j ws)
+  refused-told : (j : Inside) → told ≡ j → openedAs (x .aligns) (st .place) j .on ≡ false
+      → CallReads this (stoppedCall this (stopAt (openedAs (x .aligns) (st .place) j .why) (st .place)) 0) (listOpened (u8 t at) j ws)
   unfolding openedAs wentIn listOpened
   refused-told (Members p v from n) e off = absurd (clash (sym off))
   refused-told (Elements p v from n) e off = absurd (clash (sym off))
   refused-told (Refused why) e off = refusal-reads (sym e) refl
 
   members-told : (j : Inside) → told ≡ j →
-      let o = openedAs (st .place) j in
+      let o = openedAs (x .aligns) (st .place) j in
       o .on ≡ true → o .elements ≡ false → wholeMembers (whole (d - 1) t) (stoodAt (d - 1) t) (o .from) (o .count) × Framed b f (o .place)
   unfolding openedAs wentIn
   members-told (Members p v from n) e on one = members-held (sym e) refl
   members-told (Elements p v from n) e on one = absurd (clash (sym one))
   members-told (Refused why) e on one = absurd (clash on)
 
+  -- what is forgotten around each element is noted of its class
+  forgets-noted : (from n : ℕ) → whole (d - 1) t from → Forgets n (forgetsAt (x .aligns) from n) (sets (classAt (d - 1) t from))
+  forgets-noted from n class =
+      let says = h .noted .classes (d - 1) from class .sets in
+      record { none = forgets-none (x .aligns) from n (λ _. says); some = forgets-some (x .aligns) from n (λ _. says) }
+
   elements-told : (j : Inside) → told ≡ j →
-      let o = openedAs (st .place) j in
-      o .on ≡ true → o .elements ≡ true → whole (d - 1) t (o .from) × Framed b f (o .place)
+      let o = openedAs (x .aligns) (st .place) j in
+      o .on ≡ true → o .elements ≡ true → ElementsStand (d - 1) t o × Framed b f (o .place)
   unfolding openedAs wentIn
   elements-told (Members p v from n) e on one = absurd (clash one)
-  elements-told (Elements p v from n) e on one = elements-held (sym e) refl
+  elements-told (Elements p v from n) e on one =
+      let q = elements-held (sym e) refl in
+      (record { class = q .0; forgets = forgets-noted from n (q .0) }, q .1)
   elements-told (Refused why) e on one = absurd (clash on)
 
   members-did : {ys : List ℕ} {r : Field} (j : Inside) → told ≡ j →
-      let o = openedAs (st .place) j in
+      let o = openedAs (x .aligns) (st .place) j in
       o .on ≡ true → o .elements ≡ false
       → FieldReads (membersRead (d - 1) t (o .from) (o .count) (envOf b u f)) (atPlace (o .place) st) l r
       (lent 4 (listOpened (u8 t at) j ws)) ys
@@ -191,7 +207,7 @@ module _ {b u : List ℕ} {f : Frame} {t : List ℕ} {x : Notes} {d at : ℕ} {c
   members-did (Refused why) e on one did = absurd (clash on)
 
   elements-did : {ys : List ℕ} {r : Field} (j : Inside) → told ≡ j →
-      let o = openedAs (st .place) j in
+      let o = openedAs (x .aligns) (st .place) j in
       o .on ≡ true → o .elements ≡ true
       → FieldReads (elementsRead (d - 1) t (o .from) (o .count) (envOf b u f)) (atPlace (o .place) st) l r
       (lent 4 (listOpened (u8 t at) j ws)) ys
@@ -202,7 +218,7 @@ module _ {b u : List ℕ} {f : Frame} {t : List ℕ} {x : Notes} {d at : ℕ} {c
   elements-did (Refused why) e on one did = absurd (clash on)
 
   -- the same of what the code says
-  module _ {o : Opened} {ws₁ : List ℕ} (e : o ≡ openedAs (st .place) told) (list : ws₁ ≡ listOpened (u8 t at) told ws) where
+  module _ {o : Opened} {ws₁ : List ℕ} (e : o ≡ openedAs (x .aligns) (st .place) told) (list : ws₁ ≡ listOpened (u8 t at) told ws) where
     pub open-refused : o .on ≡ false → CallReads this (stoppedCall this (stopAt (o .why) (st .place)) 0) ws₁
     open-refused off = rw (list, e) (refused-told told refl (rw e at off))
 
@@ -210,7 +226,7 @@ module _ {b u : List ℕ} {f : Frame} {t : List ℕ} {x : Notes} {d at : ℕ} {c
         → wholeMembers (whole (d - 1) t) (stoodAt (d - 1) t) (o .from) (o .count) × Framed b f (o .place)
     open-members on one = rw e (members-told told refl (rw e at on) (rw e at one))
 
-    pub open-elements : o .on ≡ true → o .elements ≡ true → whole (d - 1) t (o .from) × Framed b f (o .place)
+    pub open-elements : o .on ≡ true → o .elements ≡ true → ElementsStand (d - 1) t o × Framed b f (o .place)
     open-elements on one = rw e (elements-told told refl (rw e at on) (rw e at one))
 
     pub members-open : {ys : List ℕ} {r : Field} → o .on ≡ true → o .elements ≡ false

@@ -17,16 +17,17 @@ use Rattle.rules.specs.declared.Refusal.{Refusal}
 use Rattle.rules.specs.declared.Refusal.the-variants.{ListFull, PastBound}
 use Rattle.rules.specs.Limits.{slotCount}
 use Rattle.rules.specs.Verdict.{stopAt}
-use Rattle.rules.specs.Slots.{Slots, slotAt, setSlot}
+use Rattle.rules.specs.Slots.{Slots, slotAt, setSlot, unset}
 use Rattle.rules.specs.Entry.{entry, words}
 use Rattle.rules.specs.Record.{u8}
 use Rattle.rules.specs.Faults.{roles, roleOf}
 use Rattle.rules.specs.Class.{Class, fixed, leb128, signedLeb128, string, staticString, staticBlob, dynamicString, dynamicBlob}
-use Rattle.rules.specs.Class.{structure, staticArray, dynamicArray, flagged, optional, variant}
+use Rattle.rules.specs.Class.{sets, structure, staticArray, dynamicArray, flagged, optional, variant}
 use Rattle.rules.specs.Step.{State, Out, stop, go, Step, onto, after, _⨾_, pass, refuse, listed, change, withSlots, withSaid}
 use Rattle.rules.specs.Field.{Env, read, readFixed, store, say as saying, role}
 use Rattle.facts.specs.Bytes.{Bytes}
 use Rattle.facts.proofs.Truth.{clash}
+use Rattle.facts.proofs.Forgets.{length-unset}
 use Rattle.facts.proofs.Steps.{listOf, onto-nil, after-onto, seq-assoc, pass-seq}
 use Rattle.class_layout.specs.Trees.{stoodAt, classAt, nextAt, behindMembers, whole, wholeMembers}
 use Rattle.class_layout.specs.Fields.{readFields, onward}
@@ -60,17 +61,18 @@ use Rattle.field_inside.specs.declared.opening.Entered.{Entered}
 use Rattle.field_inside.specs.declared.opening.Opened.{Opened}
 use Rattle.field_inside.specs.Inside.{insideOf, slotReadAt, opened, standing, membersFrom, bitsNoted}
 use Rattle.field_inside.specs.Held.{Held, Placed, HeldMembers, HeldElements}
-use Rattle.field_inside.specs.Opening.{openedAs, listOpened, wentIn, listHolder, enteredAt, listEntered}
+use Rattle.field_inside.specs.Opening.{openedAs, forgetsAt, listOpened, wentIn, listHolder, enteredAt, listEntered}
 use Rattle.field_inside.proofs.Holders.{inside-structure}
 use Rattle.field_inside.proofs.Entering.{entered-on, entered-off}
 use Rattle.field_inside.proofs.Opened.{inside-read}
+use Rattle.field_inside.proofs.Forgotten.{forgets-none, forgets-some}
 use Rattle.field_inside.proofs.Held.{inside-whole, Ends, inside-ends}
 use Rattle.field_inside.proofs.Deeper.{held-deeper, opened-deeper}
 use Rattle.field_runs.specs.declared.Run.{Run}
 use Rattle.field_runs.specs.Run.{over, free, element, firstAt, countOf, behindRun, openedRun, intoRun}
-use Rattle.field_runs.specs.Ahead.{ahead, WholeRun}
-use Rattle.field_runs.proofs.Cases.{first-member, count-members, element-yes, first-element, into-parts}
-use Rattle.field_runs.proofs.Ahead.{Same, heldRead, instead, over-reads, sort-reads, sort-stands, behind-reads, behind-stands, tailRead}
+use Rattle.field_runs.specs.Ahead.{ahead, WholeRun, Forgets}
+use Rattle.field_runs.proofs.Cases.{Begun, member-begun, first-member, count-members, element-yes, first-element, into-parts}
+use Rattle.field_runs.proofs.Ahead.{elements-times, Same, heldRead, instead, over-reads, sort-reads, sort-stands, behind-reads, behind-stands, tailRead}
 use Rattle.field_runs.proofs.Openings.{Holds, into-opens}
 use Rattle.laws.proofs.Between.{read-between}
 use Rattle.field_read.specs.declared.Field.{Field}
@@ -256,7 +258,7 @@ still-framed b u f c l {st} {st′} {l′} {n} {ws} h on did =
 
 -- The first field's class, and what is left behind it
 
-module _ {w : Loop} {r : Run} {ws : List ℕ} {used : ℕ} {st : Progress} {l : Slots} (h : Round w r ws used st l) (some : 0 < countOf r) where
+module _ {w : Loop} {r : Run} {ws : List ℕ} {used : ℕ} {st : Progress} {l : Slots} (h : Round w r ws used st l) (some : Begun r) where
   abbrev firstClass : Class
   firstClass = classAt (w .depths) (w .table) (firstAt r)
 
@@ -267,19 +269,20 @@ module _ {w : Loop} {r : Run} {ws : List ℕ} {used : ℕ} {st : Progress} {l : 
   sized d p v = h .noted .classes d p v .size
 
   pub first-there : whole (w .depths) (w .table) (firstAt r)
-  first-there = foremost (element r) (w .depths) (w .table) (firstAt r) (countOf r) some
-      (sort-stands (w .depths) (w .table) r (h .stands) some) .stands
+  first-there = foremost (element r) (w .depths) (w .table) (firstAt r) (countOf r) (some .some)
+      (sort-stands (w .depths) (w .table) r (h .stands) (some .some)) .stands
 
   first-left : left w r ≡ (read (env w) firstClass ⨾ left w behindFirst)
   first-left =
       let d = w .depths in
       let t = w .table in
-      let one = foremost (element r) d t (firstAt r) (countOf r) some (sort-stands d t r (h .stands) some) in
+      let one = foremost (element r) d t (firstAt r) (countOf r) (some .some) (sort-stands d t r (h .stands) (some .some)) in
       let tail = tailRead d t (env w) r in
-      ap (λ (m : Step). m ⨾ w .behind) (sort-reads d t (env w) r ∙ ap (λ (m : Step). m ⨾ tail) (one .reads (env w)) ∙ seq-assoc _ _ _)
+      ap (λ (m : Step). m ⨾ w .behind) (sort-reads d t (env w) r (some .plain) ∙ ap (λ (m : Step). m ⨾ tail) (one .reads (env w)) ∙ seq-assoc _ _ _)
       ∙ seq-assoc _ _ _
       ∙ ap (λ (m : Step). read (env w) firstClass ⨾ (m ⨾ w .behind))
-      (sym (behind-reads d t (w .notes .sizes) sized r (firstAt r) (countOf r - 1) first-there (first-element r) (env w)))
+      (sym (behind-reads d t (w .notes .sizes) sized r (firstAt r) (countOf r - 1) first-there (first-element r)
+      (some .plain) (env w)))
 
   first-part : Part (w .all) (read (env w) firstClass ⨾ left w behindFirst) (w .list) ws used st l
   first-part = subst (λ (m : Step). Part (w .all) m (w .list) ws used st l) first-left (h .part)
@@ -288,8 +291,9 @@ module _ {w : Loop} {r : Run} {ws : List ℕ} {used : ℕ} {st : Progress} {l : 
   first-stands =
       let d = w .depths in
       let t = w .table in
-      behind-stands d t (w .notes .sizes) sized r (firstAt r) (countOf r - 1) first-there (first-element r) (h .stands)
-      (foremost (element r) d t (firstAt r) (countOf r) some (sort-stands d t r (h .stands) some) .rest)
+      behind-stands d t (w .notes .sizes) sized r (firstAt r) (countOf r - 1) first-there (first-element r) (some .plain)
+      (h .stands)
+      (foremost (element r) d t (firstAt r) (countOf r) (some .some) (sort-stands d t r (h .stands) (some .some)) .rest)
 
   pub round-full : length ws - used < 4 → Stops w (stopAt ListFull (st .place)) used ws
   unfolding refuse
@@ -319,7 +323,7 @@ unfolding leavesRead stopsAt stoppedLeaves onward
 again-at t b u f x at zero p o room = refl
 again-at t b u f x at (suc n) p o room = then-at _ at (suc n) p o _ _ (λ q. again-at t b u f x at n _ _ _)
 
-module _ {w : Loop} {r : Run} {ws : List ℕ} {used : ℕ} {st : Progress} {l : Slots} (h : Round w r ws used st l) (some : 0 < countOf r)
+module _ {w : Loop} {r : Run} {ws : List ℕ} {used : ℕ} {st : Progress} {l : Slots} (h : Round w r ws used st l) (some : Begun r)
     (bytes : Bytes (w .stream)) (x : Content) (kind : u8 (w .table) (firstAt r) < 28) (room : 4 ≤ length ws - used)
     (told : slotAt l (leafSlot (w .table) (firstAt r)) ≡ x) where
   abbrev pub leavesOf : LeavesListed
@@ -334,7 +338,7 @@ module _ {w : Loop} {r : Run} {ws : List ℕ} {used : ℕ} {st : Progress} {l : 
 
   say : LeavesSay (element r) (w .depths) (w .table) (w .stream) (w .uuid) (w .frame) (firstAt r) (countOf r) begun leavesOf
   say = leaves-read (element r) (w .depths) (w .table) (w .stream) (w .uuid) (w .frame) x bytes (firstAt r) (countOf r) begun
-      (sort-stands (w .depths) (w .table) r (h .stands) some) some kind (h .framed) (omega (arith, lent-room used ws)) (h .many) told
+      (sort-stands (w .depths) (w .table) r (h .stands) (some .some)) (some .some) kind (h .framed) (omega (arith, lent-room used ws)) (h .many) told
 
   abbrev tail : Step
   tail = tailRead (w .depths) (w .table) (env w) r
@@ -343,7 +347,7 @@ module _ {w : Loop} {r : Run} {ws : List ℕ} {used : ℕ} {st : Progress} {l : 
   fields = readFields (element r) (w .depths) (w .table) (firstAt r) (countOf r) (env w)
 
   left-reads : left w r ≡ (fields ⨾ (tail ⨾ w .behind))
-  left-reads = ap (λ (m : Step). m ⨾ w .behind) (sort-reads (w .depths) (w .table) (env w) r) ∙ seq-assoc _ _ _
+  left-reads = ap (λ (m : Step). m ⨾ w .behind) (sort-reads (w .depths) (w .table) (env w) r (some .plain)) ∙ seq-assoc _ _ _
 
   stop-reads : leavesOf .leaves .on ≡ false
       → left w r begun ≡ stop (leavesOf .entries) (stopAt (leavesOf .leaves .why) (leavesOf .leaves .place))
@@ -391,7 +395,8 @@ module _ {w : Loop} {r : Run} {ws : List ℕ} {used : ℕ} {st : Progress} {l : 
       let next = onward (element r) (q .at) (nextAt (w .depths) (w .table) (q .at)) in
       let rest = readFields (element r) (w .depths) (w .table) next (q .todo) (env w) in
       let sized : SizedClasses (w .table) (w .notes .sizes) = λ d p v. h .noted .classes d p v .size in
-      let back = behind-reads (w .depths) (w .table) (w .notes .sizes) sized r (q .at) (q .todo) (go .stands) last-at (env w) in
+      let back = behind-reads (w .depths) (w .table) (w .notes .sizes) sized r (q .at) (q .todo) (go .stands) last-at (some .plain)
+      (env w) in
       let same : ((act ⨾ (say ⨾ rest)) ⨾ (tail ⨾ w .behind)) ≡ dueLeft =
       seq-assoc act (say ⨾ rest) (tail ⨾ w .behind)
       ∙ ap (λ (m : Step). act ⨾ m) (seq-assoc say rest (tail ⨾ w .behind)
@@ -406,7 +411,8 @@ module _ {w : Loop} {r : Run} {ws : List ℕ} {used : ℕ} {st : Progress} {l : 
       let go = say .goes on in
       let sized : SizedClasses (w .table) (w .notes .sizes) = λ d p v. h .noted .classes d p v .size in
       record {
-        stands = behind-stands (w .depths) (w .table) (w .notes .sizes) sized r _ _ (go .stands) last-at (h .stands) (go .rest);
+        stands = behind-stands (w .depths) (w .table) (w .notes .sizes) sized r _ _ (go .stands) last-at (some .plain) (h .stands)
+            (go .rest);
         noted = h .noted;
         framed = go .framed;
         many = h .many;
@@ -428,7 +434,7 @@ pub record LeavesRound (w : Loop) (r : Run) (ws : List ℕ) (used : ℕ) (st : P
       r′ (merged used ws ys) (used + q .used) (stateAt (q .place) (q .order) st) l
 
 pub leaves-round : {w : Loop} {r : Run} {ws : List ℕ} {used : ℕ} {st : Progress} {l : Slots} (h : Round w r ws used st l)
-    (some : 0 < countOf r) (bytes : Bytes (w .stream)) (x : Content) (kind : u8 (w .table) (firstAt r) < 28) (room : 4 ≤ length ws - used)
+    (some : Begun r) (bytes : Bytes (w .stream)) (x : Content) (kind : u8 (w .table) (firstAt r) < 28) (room : 4 ≤ length ws - used)
     (told : slotAt l (leafSlot (w .table) (firstAt r)) ≡ x) {q : Leaves} {ys : List ℕ}
     → q ≡ (leavesOf h some bytes x kind room told) .leaves → ys ≡ listBehind (leavesOf h some bytes x kind room told) (lent used ws)
     → LeavesRound w r ws used st l q ys
@@ -451,6 +457,24 @@ stored i x h = record {
   noted = h .noted;
   framed = h .framed;
   many = rw (length-set) (h .many);
+  part = record {
+    listed = h .part .listed;
+    list = h .part .list;
+    counted = h .part .counted;
+    room = h .part .room;
+    rest = h .part .rest ∙ ap (onto (h .part .listed)) (onto-nil _);
+  };
+}
+
+-- the slots of an element are forgotten
+pub forgot : {w : Loop} {m : Step} {r : Run} {ws : List ℕ} {used : ℕ} {st : Progress} {l : Slots} (is : List ℕ)
+    → Kept w (change (λ s. withSlots (unset (s .slots) is) s) ⨾ m) r ws used st l → Kept w m r ws used st (unset l is)
+unfolding _⨾_ after change withSlots
+forgot {l = l} is h = record {
+  stands = h .stands;
+  noted = h .noted;
+  framed = h .framed;
+  many = length-unset l is ∙ h .many;
   part = record {
     listed = h .part .listed;
     list = h .part .list;
@@ -594,11 +618,11 @@ pub record Holder (w : Loop) (r : Run) (ws : List ℕ) (used : ℕ) (st : Progre
 -- what was opened: it stopped the loop, or its parts stand in the run
 pub record OpenRound (w : Loop) (r : Run) (ws : List ℕ) (used : ℕ) (st : Progress) (l : Slots) (i : Inside) : Type 0 where
   pub same : length (merged used ws (listOpened (u8 (w .table) (r .next)) i (lent used ws))) ≡ length (w .list)
-  pub stops : openedAs (st .place) i .on ≡ false → Stops w (stopAt (openedAs (st .place) i .why) (st .place)) used
+  pub stops : openedAs (w .notes .aligns) (st .place) i .on ≡ false → Stops w (stopAt (openedAs (w .notes .aligns) (st .place) i .why) (st .place)) used
       (merged used ws (listOpened (u8 (w .table) (r .next)) i (lent used ws)))
-  pub goes : openedAs (st .place) i .on ≡ true
-      → let o = openedAs (st .place) i in
-      Round w (intoRun (u8 (w .table) (r .next)) r (w .notes .sizes) (o .from) (o .count) (o .elements))
+  pub goes : openedAs (w .notes .aligns) (st .place) i .on ≡ true
+      → let o = openedAs (w .notes .aligns) (st .place) i in
+      Round w (intoRun (u8 (w .table) (r .next)) r (w .notes .sizes) (o .from) (o .count) (o .elements) (o .forgets))
       (merged used ws (listOpened (u8 (w .table) (r .next)) i (lent used ws))) (used + 4) (stateAt (o .place) (st .order) st) l
 
 module _ {w : Loop} {r : Run} {ws : List ℕ} {used : ℕ} {st : Progress} {l : Slots} {c : Content} (h : Holder w r ws used st l c) where
@@ -655,8 +679,8 @@ module _ {w : Loop} {r : Run} {ws : List ℕ} {used : ℕ} {st : Progress} {l : 
   abbrev pub restHere : Run
   restHere = behindRun r (w .notes .sizes) at (r .todo - 1)
 
-  some-here : 0 < countOf r
-  some-here = rw (count-members r (h .some)) (h .some)
+  some-here : Begun r
+  some-here = member-begun r (h .some)
 
   pub holder-part : Part (w .all) (read (env w) (classAt d t at) ⨾ left w restHere) (w .list) ws used st l
   holder-part = rw (first-member r (h .some), count-members r (h .some)) at (first-part (h .round) some-here)
@@ -688,7 +712,9 @@ module _ {w : Loop} {r : Run} {ws : List ℕ} {used : ℕ} {st : Progress} {l : 
       let q : HeldElements d t (w .frame) (st .place) p from = rw e at held in
       record {
         framed = placed p (q .place);
-        reads = class-reads ∙ ap (λ i. opened (env w) (u8 t at) d t i here) e;
+        reads =
+            class-reads ∙ ap (λ i. opened (env w) (u8 t at) d t i here) e
+            ∙ ap (λ (m : Step). (listed (entry (u8 t at) p 0 v) p ⨾ m) here) (sym (elements-times d t (env w) from n));
         class = λ _. q .class;
         parts = λ b. absurd (clash (sym b));
       }
@@ -701,16 +727,27 @@ module _ {w : Loop} {r : Run} {ws : List ℕ} {used : ℕ} {st : Progress} {l : 
   entry-put p v m g part reads =
       part-put part (entry (u8 t at) p 0 v ∷ []) 4 refl (omega (arith, lent-room used ws, h .room)) refl p (st .order) g reads
 
+  -- what is forgotten around each element is noted of its class
+  pub forgets-told : (from n : ℕ) → whole d t from → Forgets n (forgetsAt (w .notes .aligns) from n) (sets (classAt d t from))
+  forgets-told from n class =
+      let says = h .round .noted .classes d from class .sets in
+      record {
+        none = forgets-none (w .notes .aligns) from n (λ _. says);
+        some = forgets-some (w .notes .aligns) from n (λ _. says);
+      }
+
   -- and its parts stand in the run
-  opened-round : {p : BitPlace} {v from n : ℕ} {elements : Bool} → Told p v from n elements
+  opened-round : {p : BitPlace} {v from n : ℕ} {elements : Bool} (f : ℕ) → Told p v from n elements
       → Holds d t r (h .round .stands) (h .some) (w .notes .sizes) (u8 t at) from n elements
-      → Round w (intoRun (u8 t at) r (w .notes .sizes) from n elements) (merged used ws (listHolder (u8 t at) p v (lent used ws)))
+      → (elements ≡ true → Forgets n f (sets (classAt d t from)))
+      → Round w (intoRun (u8 t at) r (w .notes .sizes) from n elements f) (merged used ws (listHolder (u8 t at) p v (lent used ws)))
       (used + 4) (stateAt p (st .order) st) l
-  opened-round {p} {v} {from} {n} {elements} q holds =
+  opened-round {p} {v} {from} {n} {elements} f q holds right =
       let sizes = w .notes .sizes in
-      let into = intoRun (u8 t at) r sizes from n elements in
+      let into = intoRun (u8 t at) r sizes from n elements f in
       let m = listed (entry (u8 t at) p 0 v) p in
-      let opens = into-opens d t r (h .round .stands) (h .some) sizes (u8 t at) from n elements holds (env w) here m (q .reads) in
+      let opens =
+      into-opens d t r (h .round .stands) (h .some) sizes (u8 t at) from n elements f holds right (env w) here m (q .reads) in
       record {
         stands = opens .stands;
         noted = h .round .noted;
@@ -739,21 +776,21 @@ module _ {w : Loop} {r : Run} {ws : List ℕ} {used : ℕ} {st : Progress} {l : 
       put-length (h .round .part) (entry (u8 t at) p 0 v ∷ []) 4 refl (omega (arith, lent-room used ws, h .room)) refl
   open-same (Refused why) = ap length (unlent used ws) ∙ part-length (h .round .part)
 
-  pub open-stops : (i : Inside) → insideHere ≡ i → openedAs (st .place) i .on ≡ false
-      → Stops w (stopAt (openedAs (st .place) i .why) (st .place)) used (merged used ws (listOpened (u8 t at) i (lent used ws)))
+  pub open-stops : (i : Inside) → insideHere ≡ i → openedAs (w .notes .aligns) (st .place) i .on ≡ false
+      → Stops w (stopAt (openedAs (w .notes .aligns) (st .place) i .why) (st .place)) used (merged used ws (listOpened (u8 t at) i (lent used ws)))
   unfolding openedAs wentIn listOpened
   open-stops (Members p v from n) e b = absurd (clash (sym b))
   open-stops (Elements p v from n) e b = absurd (clash (sym b))
   open-stops (Refused why) e b = refused-round why e
 
-  few-told : (i : Inside) → Held d t (w .frame) (st .place) i → openedAs (st .place) i .elements ≡ false
-      → openedAs (st .place) i .count ≤ length t
+  few-told : (i : Inside) → Held d t (w .frame) (st .place) i → openedAs (w .notes .aligns) (st .place) i .elements ≡ false
+      → openedAs (w .notes .aligns) (st .place) i .count ≤ length t
   unfolding Held openedAs wentIn
   few-told (Members q v from n) k e = members-few d t from n (k .classes)
   few-told (Elements q v from n) k e = absurd (clash (sym e))
   few-told (Refused why) k e = omega arith
 
-  pub open-few : openedAs (st .place) insideHere .elements ≡ false → openedAs (st .place) insideHere .count ≤ length t
+  pub open-few : openedAs (w .notes .aligns) (st .place) insideHere .elements ≡ false → openedAs (w .notes .aligns) (st .place) insideHere .count ≤ length t
   open-few = few-told insideHere held
 
   -- an array, or a variant, is opened in its run only where nothing is put off
@@ -765,13 +802,13 @@ module _ {w : Loop} {r : Run} {ws : List ℕ} {used : ℕ} {st : Progress} {l : 
       record {
         same = open-same (Members p v from n);
         stops = open-stops (Members p v from n) e;
-        goes = λ b. opened-round q record {
+        goes = λ b. opened-round 0 q record {
           noted = λ d p v. h .round .noted .classes d p v .size;
           many = λ b. absurd (clash b);
           one = λ b k. (z .0 k, may (λ x. absurd (omega arith)) (λ x. absurd (omega arith)));
           parts = q .parts;
           ends = λ b k. z .1 k;
-        };
+        } (λ b. absurd (clash b));
       }
   open-round may (Elements p v from n) e =
       let q = elements-told e in
@@ -779,13 +816,13 @@ module _ {w : Loop} {r : Run} {ws : List ℕ} {used : ℕ} {st : Progress} {l : 
       record {
         same = open-same (Elements p v from n);
         stops = open-stops (Elements p v from n) e;
-        goes = λ b. opened-round q record {
+        goes = λ b. opened-round (forgetsAt (w .notes .aligns) from n) q record {
           noted = λ d p v. h .round .noted .classes d p v .size;
           many = λ b. (may (z .0) (z .1), q .class b);
           one = λ b. absurd (clash (sym b));
           parts = q .parts;
           ends = λ b. absurd (clash (sym b));
-        };
+        } (λ b. forgets-told from n (q .class b));
       }
   open-round may (Refused why) e = record {
     same = open-same (Refused why);
@@ -798,12 +835,12 @@ pub record CodeRound (w : Loop) (r : Run) (ws : List ℕ) (used : ℕ) (st : Pro
   pub same : length (merged used ws ys) ≡ length (w .list)
   pub few : o .elements ≡ false → o .count ≤ length (w .table)
   pub stops : o .on ≡ false → Stops w (stopAt (o .why) (st .place)) used (merged used ws ys)
-  pub goes : o .on ≡ true → Round w (intoRun (u8 (w .table) (r .next)) r (w .notes .sizes) (o .from) (o .count) (o .elements))
+  pub goes : o .on ≡ true → Round w (intoRun (u8 (w .table) (r .next)) r (w .notes .sizes) (o .from) (o .count) (o .elements) (o .forgets))
       (merged used ws ys) (used + 4) (stateAt (o .place) (st .order) st) l
 
 pub code-round : {w : Loop} {r : Run} {ws : List ℕ} {used : ℕ} {st : Progress} {l : Slots} {c : Content} (h : Holder w r ws used st l c)
     → ((u8 (w .table) (r .next) ≡ 28 → ⊥) → (u8 (w .table) (r .next) ≡ 31 → ⊥) → free r ≡ true) → {o : Opened} {ys : List ℕ}
-    → o ≡ openedAs (st .place) (insideHere h) → ys ≡ listOpened (u8 (w .table) (r .next)) (insideHere h) (lent used ws)
+    → o ≡ openedAs (w .notes .aligns) (st .place) (insideHere h) → ys ≡ listOpened (u8 (w .table) (r .next)) (insideHere h) (lent used ws)
     → CodeRound w r ws used st l o ys
 code-round h may e f =
     let q = open-round h may (insideHere h) refl in
@@ -842,7 +879,7 @@ enter-round {w} {r} {ws} {used} {st} {l} {c} h k {o} {ys} e f = by (o .on) refl
         rw (f ∙ on .1, e) record {
           same = rw k at (q .same);
           stops = λ off. absurd (clash (sym off ∙ ap (λ z. z .on) (sym e) ∙ b));
-          goes = λ _. rw (sym (into-parts 28 r (w .notes .sizes) (r .next + 3) n false refl (λ z. omega arith))) (rw k at (q .goes refl));
+          goes = λ _. rw (sym (into-parts 28 r (w .notes .sizes) (r .next + 3) n false 0 refl (λ z. omega arith))) (rw k at (q .goes refl));
         }
     by false b =
         let off = entered-off (w .frame) a (st .place) n (lent used ws) (membersFrom n (r .next + 3)) (ap (λ z. z .on) (sym e) ∙ b) in

@@ -8,6 +8,7 @@ use Rattle.rules.specs.Slots.{Slots}
 use Rattle.rules.specs.Step.{Out, Step, pass}
 use Rattle.rules.specs.Field.{Env, read, readMembers, times}
 use Rattle.class_layout.specs.Trees.{stoodAt, classAt, membersAt}
+use Rattle.field_inside.specs.Inside.{elementOf}
 use Rattle.frame.specs.declared.Frame.{Frame}
 use Rattle.frame.specs.Framed.{envOf}
 use Rattle.listing.specs.declared.Progress.{Progress}
@@ -47,7 +48,7 @@ abbrev pub membersRead : ℕ → List ℕ → ℕ → ℕ → Env → Step
 membersRead d t at n e = readMembers e (membersAt (stoodAt d t) at n)
 
 abbrev pub elementsRead : ℕ → List ℕ → ℕ → ℕ → Env → Step
-elementsRead d t at n e = times n (read e (classAt d t at))
+elementsRead d t at n e = times n (elementOf e (classAt d t at))
 
 -- a list keeps its length
 pub did-length : {o : Out} {came st : Progress} {went : Went} {n : ℕ} {l : Slots} {ws ys : List ℕ} → Did o came went n st l ws ys

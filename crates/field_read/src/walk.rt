@@ -5,6 +5,8 @@
 // What stopped hands back state and slots as they came, whatever was read inside it; only the list keeps what was listed.
 use crate::Field;
 use crate::at;
+use class_slots::ONE_SLOT;
+use class_slots::forgotten;
 use field_inside::look::slot_read;
 use field_inside::opening::enter_structure;
 use field_inside::opening::open_field;
@@ -15,6 +17,7 @@ use field_runs::elements;
 use field_runs::first;
 use field_runs::forward;
 use field_runs::into;
+use field_runs::is_border;
 use field_runs::is_element;
 use field_runs::is_open;
 use field_runs::is_over;
@@ -41,19 +44,21 @@ ghost use mathlib.Core.Path.{_≡_};
 ghost use Prim.Native.Nat.{_+_, _^_, _≤_, _<_};
 ghost use lib.ListN.{length};
 ghost use Rattle.rules.specs.Record.{u8};
+ghost use Rattle.rules.specs.Class.{sets};
 ghost use Rattle.rules.specs.Verdict.{stopAt};
 ghost use Rattle.rules.specs.Field.{read, readMembers, times};
 ghost use Rattle.frame.specs.Framed.{Framed, envOf};
 ghost use Rattle.class_layout.specs.Trees.{whole, wholeMembers, stoodAt, classAt, membersAt};
 ghost use Rattle.class_layout.specs.Notes.{notes, Prepared};
-ghost use Rattle.field_runs.specs.Ahead.{ahead, WholeRun};
+ghost use Rattle.field_inside.specs.Inside.{elementOf};
+ghost use Rattle.field_runs.specs.Ahead.{ahead, WholeRun, Forgets};
 ghost use Rattle.field_read.specs.Reads.{FieldReads, stoppedField, entered};
 
 // The field of the class at a byte, which holds fields, where there is room for its entry. `left` depths are left, its own among them.
 pub fn read_field(
     table: &[u8],
     sizes: &[u16],
-    aligns: &[u8],
+    aligns: &[u16],
     uuid: &[u8],
     stream: &[u8],
     frame: Frame,
@@ -94,6 +99,7 @@ pub fn read_field(
             frame,
             o.from,
             o.count,
+            o.forgets,
             left - 1, // for elements
             next,
             slots,
@@ -143,7 +149,7 @@ fn behind_entry(inside: Field, st: Progress, slots: [Slot; 64]) -> Field
 pub fn walk_members(
     table: &[u8],
     sizes: &[u16],
-    aligns: &[u8],
+    aligns: &[u16],
     uuid: &[u8],
     stream: &[u8],
     frame: Frame,
@@ -182,22 +188,24 @@ pub fn walk_members(
 fn walk_elements(
     table: &[u8],
     sizes: &[u16],
-    aligns: &[u8],
+    aligns: &[u16],
     uuid: &[u8],
     stream: &[u8],
     frame: Frame,
     at: usize,
     count: usize,
+    forgets: usize,
     left: usize,
     st: Progress,
     given: [Slot; 64],
     list: &mut [u64],
 ) -> Field
     requires { ⌜ whole left (now table) at ⌝ }
+    requires { ⌜ Forgets count forgets (sets (classAt left (now table) at)) ⌝ }
     requires { ⌜ Prepared (now table) (notes (now sizes) (now aligns)) ⌝ }
     requires { ⌜ Framed (now stream) frame (st .place) ⌝ }
     ensures { λ r. ⌜
-        FieldReads (times count (read (envOf (now (stream .entry)) (now (uuid .entry)) frame) (classAt left (now (table .entry)) at)))
+        FieldReads (times count (elementOf (envOf (now (stream .entry)) (now (uuid .entry)) frame) (classAt left (now (table .entry)) at)))
         st given r (now (list .entry)) (now (list .exit))
         ⌝ }
 {
@@ -208,7 +216,7 @@ fn walk_elements(
         uuid,
         stream,
         frame,
-        elements(at, count),
+        elements(at, count, forgets),
         left,
         st,
         given,
@@ -223,7 +231,7 @@ fn walk_elements(
 fn walk(
     table: &[u8],
     sizes: &[u16],
-    aligns: &[u8],
+    aligns: &[u16],
     uuid: &[u8],
     stream: &[u8],
     frame: Frame,
@@ -248,6 +256,15 @@ fn walk(
     let mut used: usize = 0;
     let mut run = begun;
     loop {
+        if is_border(run) {
+            if run.forgets <= ONE_SLOT {
+                let only = run.forgets - 1;
+                let unset = Content::Unset;
+                slots[only] = Slot { content: unset };
+            } else {
+                slots = forgotten(table, sizes, run.again, slots);
+            }
+        }
         run = forward(run);
         if is_over(run) {
             return Field {
@@ -351,7 +368,7 @@ fn walk(
                 return refused(why, place, used, st, given);
             }
             place = o.place;
-            run = into(kind, run, sizes, o.from, o.count, o.elements);
+            run = into(kind, run, sizes, o.from, o.count, o.elements, o.forgets);
             used = used + 4;
             continue;
         }

@@ -9,10 +9,11 @@ ghost use mathlib.Core.Bool.{false};
 ghost use Prim.Native.Nat.{_+_, _<_, _^_};
 ghost use lib.ListN.{length};
 ghost use Rattle.field_runs.specs.Run.{membersRun, elementsRun, aloneRun, free, over, element, firstAt, countOf};
-ghost use Rattle.field_runs.specs.Run.{canOpen, forwardRun, behindRun, takenRun, openedRun, putOffRun, intoRun};
+ghost use Rattle.field_runs.specs.Run.{border, canOpen, forwardRun, behindRun, takenRun, openedRun, putOffRun, intoRun};
 
 // `todo` classes one behind the other from the byte `next` on; then the class at `again`, `more` times; then `rest` classes from `later`
-// on. What comes before these is in elements of the class at `array`, or in no array's, where that is 0.
+// on. `forgets`, where it is not 0: each time that class is an element of an array, what comes before it is too, and the slots that it can
+// set are forgotten at the element's start and end (02, 3); the number says which, as it is noted (class_layout, words).
 pub struct Run {
     pub next: usize,
     pub todo: usize,
@@ -20,11 +21,8 @@ pub struct Run {
     pub more: usize,
     pub later: usize,
     pub rest: usize,
-    pub array: usize,
+    pub forgets: usize,
 }
-
-// No class stands at the table's first byte.
-const NO_ARRAY: usize = 0;
 
 // `count` classes one behind the other.
 pub fn members(at: usize, count: usize) -> Run
@@ -37,13 +35,13 @@ pub fn members(at: usize, count: usize) -> Run
         more: 0,
         later: at,
         rest: 0,
-        array: NO_ARRAY,
+        forgets: 0,
     }
 }
 
 // One class, `count` times.
-pub fn elements(at: usize, count: usize) -> Run
-    ensures { λ r. ⌜ r ≡ elementsRun at count ⌝ }
+pub fn elements(at: usize, count: usize, forgets: usize) -> Run
+    ensures { λ r. ⌜ r ≡ elementsRun at count forgets ⌝ }
 {
     Run {
         next: at,
@@ -52,16 +50,16 @@ pub fn elements(at: usize, count: usize) -> Run
         more: count,
         later: at,
         rest: 0,
-        array: at,
+        forgets,
     }
 }
 
 // What a field holds, in a run of its own: elements of one class, or members.
-pub fn alone(at: usize, count: usize, many: bool) -> Run
-    ensures { λ r. ⌜ r ≡ aloneRun at count many ⌝ }
+pub fn alone(at: usize, count: usize, many: bool, forgets: usize) -> Run
+    ensures { λ r. ⌜ r ≡ aloneRun at count many forgets ⌝ }
 {
     if many {
-        return elements(at, count);
+        return elements(at, count, forgets);
     }
     members(at, count)
 }
@@ -76,7 +74,7 @@ pub fn is_over(run: Run) -> bool
     if run.more != 0 {
         return false;
     }
-    if run.array != NO_ARRAY {
+    if run.forgets != 0 {
         return false;
     }
     run.rest == 0
@@ -92,7 +90,7 @@ pub fn is_free(run: Run) -> bool
     if 0 < run.rest {
         return false;
     }
-    run.array == NO_ARRAY
+    run.forgets == 0
 }
 
 // Whether what the first member of a kind holds can be read in its run: an optional's class always, in its place.
@@ -105,7 +103,17 @@ pub fn is_open(kind: u8, run: Run) -> bool
     is_free(run)
 }
 
-// What was put off comes forward where nothing else is left, and the array whose last element was read is closed.
+// Whether an element begins or ends here whose slots are forgotten.
+pub fn is_border(run: Run) -> bool
+    ensures { λ r. ⌜ r ≡ border run ⌝ }
+{
+    if is_element(run) {
+        return run.forgets != 0;
+    }
+    false
+}
+
+// Behind the border: the next element as a member, where slots are forgotten; what was put off, where nothing else is left.
 pub fn forward(run: Run) -> Run
     ensures { λ r. ⌜ r ≡ forwardRun run ⌝ }
 {
@@ -113,6 +121,9 @@ pub fn forward(run: Run) -> Run
         return run;
     }
     if 0 < run.more {
+        if run.forgets != 0 {
+            return taken(run);
+        }
         return run;
     }
     members(run.later, run.rest)
@@ -158,7 +169,7 @@ pub fn behind(run: Run, sizes: &[u16], last: usize, left: usize) -> Run
             more: left,
             later: run.later,
             rest: run.rest,
-            array: run.array,
+            forgets: run.forgets,
         };
     }
     Run {
@@ -168,7 +179,7 @@ pub fn behind(run: Run, sizes: &[u16], last: usize, left: usize) -> Run
         more: run.more,
         later: run.later,
         rest: run.rest,
-        array: run.array,
+        forgets: run.forgets,
     }
 }
 
@@ -187,7 +198,7 @@ pub fn taken(run: Run) -> Run
         more: run.more - 1,
         later: run.later,
         rest: run.rest,
-        array: run.array,
+        forgets: run.forgets,
     }
 }
 
@@ -203,14 +214,14 @@ pub fn opened(run: Run, from: usize, parts: usize) -> Run
         more: run.more,
         later: run.later,
         rest: run.rest,
-        array: run.array,
+        forgets: run.forgets,
     }
 }
 
 // A class so many times, as elements of an array or of none, and what is behind the first member later.
-pub fn put_off(run: Run, sizes: &[u16], at: usize, times: usize, array: usize) -> Run
+pub fn put_off(run: Run, sizes: &[u16], at: usize, times: usize, forgets: usize) -> Run
     requires { ⌜ (0 < run .todo) × (run .next < length (now sizes)) × (run .next < 2 ^ 63) ⌝ }
-    ensures { λ r. ⌜ r ≡ putOffRun run (now (sizes .entry)) at times array ⌝ }
+    ensures { λ r. ⌜ r ≡ putOffRun run (now (sizes .entry)) at times forgets ⌝ }
 {
     let next = run.next;
     Run {
@@ -220,22 +231,30 @@ pub fn put_off(run: Run, sizes: &[u16], at: usize, times: usize, array: usize) -
         more: times,
         later: next + size_at(sizes, next),
         rest: run.todo - 1,
-        array,
+        forgets,
     }
 }
 
-// Into the first member: its parts; a variant's class; or its elements.
-pub fn into(kind: u8, run: Run, sizes: &[u16], from: usize, parts: usize, elements: bool) -> Run
+// Into the first member: its parts; a variant's class; or its elements, and what is forgotten around each.
+pub fn into(
+    kind: u8,
+    run: Run,
+    sizes: &[u16],
+    from: usize,
+    parts: usize,
+    elements: bool,
+    forgets: usize,
+) -> Run
     requires { ⌜
         (0 < run .todo) × (elements ≡ false → run .todo + parts < 2 ^ 63) × (run .next < length (now sizes)) × (run .next < 2 ^ 63)
         ⌝ }
-    ensures { λ r. ⌜ r ≡ intoRun kind run (now (sizes .entry)) from parts elements ⌝ }
+    ensures { λ r. ⌜ r ≡ intoRun kind run (now (sizes .entry)) from parts elements forgets ⌝ }
 {
     if elements {
-        return put_off(run, sizes, from, parts, from);
+        return put_off(run, sizes, from, parts, forgets);
     }
     if kind == kinds::VARIANT {
-        return put_off(run, sizes, from, 1, NO_ARRAY);
+        return put_off(run, sizes, from, 1, 0);
     }
     opened(run, from, parts)
 }

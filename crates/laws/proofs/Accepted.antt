@@ -20,11 +20,12 @@ use Rattle.rules.specs.Table.{StreamClass, EventClass, Table, asked, findStream
 use Rattle.rules.specs.Parse.{Parsed, bad, good, Parser, then, sound, missing, one, Ranges, rangeOf, countOf, selected}
 use Rattle.rules.specs.Parse.{isRoot, anyRoot, noTable, rootOf, rootNumbers, isTimed, hasUuid, add}
 use Rattle.rules.specs.Parse.{parseRanges, parseMembers, parseOptions, parseShape, parseBody, parseClass, parseRoots}
-use Rattle.rules.specs.Parse.{parseFragment, parseOpened, parseFragments, parse}
+use Rattle.rules.specs.Parse.{parseFragment, parseOpened, parseFragments, parseTable, parse}
 use Rattle.rules.specs.Faults.{pick, Ids, noIds, seen, Spot, top, inside, memberSpot, Under, out, badNumber, badSlot, isTop}
 use Rattle.rules.specs.Faults.{recordFault, classFault, optionFault, rootFault, openFault, firstFault}
 use Rattle.facts.proofs.Truth.{or-false, or-true}
 use Rattle.facts.proofs.Faults.{pick-zero, pick-false}
+use Rattle.facts.proofs.Parsed.{parse-table}
 use Rattle.laws.proofs.Law.{Fits, FitMembers, FitOptions, FitRoot}
 use Rattle.laws.proofs.Sound.{no-fault}
 
@@ -302,9 +303,9 @@ module _ {N : ℕ → Type 0} {S : ℕ → ℕ → Type 0} {W : ℕ → Type 0} 
       by true rec = (unfold noTable in record { header = tt; streams = tt; events = tt }, g)
       by false rec = yields-one _ q _ _ x g (λ r e c. opened rec r)
 
-  yields-parse : (x : List ℕ) → G x → Yields FitTable (parse x)
-  unfolding parse
-  yields-parse x g = by (missing x || ltb 65536 (length x))
+  yields-table : (x : List ℕ) → G x → Yields FitTable (parseTable x)
+  unfolding parseTable
+  yields-table x g = by (missing x || ltb 65536 (length x))
     where
       rest : Parser Table
       rest x = then (parseRoots noIds false false [] x) λ cs x. parseFragments (length x) noIds x
@@ -345,7 +346,7 @@ module _ {N : ℕ → Type 0} {S : ℕ → ℕ → Type 0} {W : ℕ → Type 0} 
   pub accepted-fits : (x : List ℕ) (t : Table) (y : List ℕ) → G x → parse x ≡ good t y → Fitting N S W (asked t)
   unfolding asked
   accepted-fits x t y g p =
-      let f : FitTable t × G y = subst (Yields FitTable) p (yields-parse x g) in
+      let f : FitTable t × G y = subst (Yields FitTable) (parse-table x t y p) (yields-table x g) in
       record {
         header = f .0 .header;
         context = λ i c q. stream-fits (t .streams) i c (f .0 .streams) q .0;

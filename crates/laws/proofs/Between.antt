@@ -15,7 +15,7 @@ use Rattle.rules.specs.declared.Order.{Order}
 use Rattle.rules.specs.declared.LastOrder.{LastOrder}
 use Rattle.rules.specs.declared.LastOrder.the-variants.{Was}
 use Rattle.rules.specs.declared.Content.{Content}
-use Rattle.rules.specs.declared.Content.the-variants.{Unsigned, Signed}
+use Rattle.rules.specs.declared.Content.the-variants.{Unset, Unsigned, Signed}
 use Rattle.rules.specs.declared.Said.{Said}
 use Rattle.rules.specs.declared.Leb.{Leb}
 use Rattle.rules.specs.declared.Leb.the-variants.{Value, Past, Large}
@@ -130,6 +130,10 @@ module _ (e : Env) where
     unfolding withOrder
     set-order n o = changing In At NoMore _ (λ s h. (record { from = h .0 .from; to = h .0 .to; kept = h .0 .kept }, h .1))
 
+    unset-slot : (i : ℕ) → Holding J (store i Unset)
+    unfolding store withSlots
+    unset-slot i = changing In At NoMore _ (λ s h. record { from = h .from; to = h .to; kept = h .kept })
+
     set-slot : (n i : ℕ) (x : Content) → Fine (Behind n) (store i x) (Behind n)
     unfolding store withSlots
     set-slot n i x = changing In At NoMore _ (λ s h. (record { from = h .0 .from; to = h .0 .to; kept = h .0 .kept }, h .1))
@@ -226,6 +230,7 @@ module _ (e : Env) where
       seq = λ h k. h ⨾ᵇ k;
       dueʳ = λ h. dued In At NoMore stops tt h;
       passes = held-pass;
+      unsets = λ i z. unset-slot i;
       unset = refusing In At NoMore stops SlotUnset tt;
       wrongSort = refusing In At NoMore stops SlotOfWrongSort tt;
       inNone = refusing In At NoMore stops SelectorInNoOption tt;

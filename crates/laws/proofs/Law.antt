@@ -5,33 +5,37 @@
 -- Fits, FitMembers, FitOptions,  what is asked of the numbers of a class, of members, of options and of a root
 --   FitRoot
 -- fits, fitMembers, fitRoot      where every number will do, every class does
+-- Each, each-sets                what is asked of each slot of a list: of a class that fits, it holds of those that it sets
 -- SlotOf                         what is asked of a slot's number
 -- Law                            a law of steps, by the parts that every reading is made of
 -- law-read, law-members,         it holds of a field's reading, of members one after another, of a root's
 --   law-root
 -- law-times                      it holds of a step that is done n times
+-- law-forget                     it holds where a class's slots are forgotten
 -- Any, any-slot, law-any         a law that asks nothing of the numbers
 use Prim.Native.Nat.{ℕ, zero, suc, _+_, _^_, _≤_, max}
 use native.Mathlib.Omega.{arith}
 use lib.Pow.{pow-pos}
+use mathlib.Core.List.{List, [], _∷_, _++_}
 use mathlib.Core.Bool.{Bool, true, false}
 use mathlib.Core.Option.{Option, none, some}
-use lib.Dec.{ltb}
+use lib.Dec.{ltb, eqb}
 use Rattle.rules.specs.declared.Order.{Order}
 use Rattle.rules.specs.declared.Refusal.the-variants.{SlotUnset, SlotOfWrongSort, LengthTooLarge, SelectorInNoOption}
 use Rattle.rules.specs.declared.Content.{Content}
 use Rattle.rules.specs.declared.Content.the-variants.{Unset, Flag, Unsigned, Signed}
-use Rattle.rules.specs.Limits.{lengthLimit}
+use Rattle.rules.specs.Limits.{lengthLimit, noSlot}
 use Rattle.rules.specs.Leb128.{lebUnsigned, lebSigned}
 use Rattle.rules.specs.Text.{zeroAt}
 use Rattle.rules.specs.Step.{Step, _⨾_, refuse, check, due, pass}
 use Rattle.rules.specs.Class.{Role, noRole, Sort, Sign, plain, signed as withSign, anyHolds, alignOf}
 use Rattle.rules.specs.Class.{Class, fixed, leb128, signedLeb128, string, staticString, staticBlob, dynamicString, dynamicBlob}
 use Rattle.rules.specs.Class.{structure, staticArray, dynamicArray, flagged, optional, variant}
-use Rattle.rules.specs.Class.{Classes, noMember, member, Options, noOption, option, count}
-use Rattle.rules.specs.Field.{Env, aligned, fit, field, asFlag, asNumber, asLength, fromSlot, ahead, times, present}
+use Rattle.rules.specs.Class.{Classes, noMember, member, Options, noOption, option, count, setting, sets, membersSet, optionsSet}
+use Rattle.rules.specs.Field.{Env, aligned, fit, field, store, asFlag, asNumber, asLength, fromSlot, ahead, times, forget, present}
 use Rattle.rules.specs.Field.{readFixed, readLeb, readZero, readText, readBlob, read, readMembers, readOption}
 use Rattle.rules.specs.Packet.{readRoot}
+use Rattle.facts.proofs.Forgets.{forgetting, forget-as, forgetting-none, forgetting-more}
 
 -- the kinds of a field's entry
 abbrev pub FieldKind : ℕ → Type 0
@@ -99,6 +103,53 @@ module _ (N S W : ℕ → Type 0) where
     fitRoot none = tt
     fitRoot (some c) = fits c
 
+-- what is asked of each slot of a list
+abbrev pub Each : (ℕ → Type 0) → List ℕ → Type 0
+Each S [] = Unit {0}
+Each S (i ∷ is) = S i × Each S is
+
+each-append : (S : ℕ → Type 0) (is js : List ℕ) → Each S is → Each S js → Each S (is ++ js)
+each-append S [] js h k = k
+each-append S (i ∷ is) js h k = (h .0, each-append S is js (h .1) k)
+
+each-setting : (S : ℕ → Type 0) (i : ℕ) → S i → Each S (setting i)
+unfolding setting
+each-setting S i h = by (eqb i noSlot)
+  where
+    by : (b : Bool) → Each S (elim b [ true ↦ [] | false ↦ i ∷ [] ])
+    by true = tt
+    by false = (h, tt)
+
+-- of a class that fits, the slots that it sets and all that it holds
+module _ (N S W : ℕ → Type 0) where
+  mutual
+    unfolding sets membersSet optionsSet
+
+    pub each-sets : (c : Class) → Fits N S W c → Each S (sets c)
+    each-sets (fixed k n o a i r) w = each-setting S i (w .1)
+    each-sets (leb128 i r) w = each-setting S i w
+    each-sets (signedLeb128 i) w = each-setting S i w
+    each-sets string w = tt
+    each-sets (staticString n) w = tt
+    each-sets (staticBlob n r) w = tt
+    each-sets (dynamicString i) w = tt
+    each-sets (dynamicBlob i) w = tt
+    each-sets (structure a cs) w = each-members cs (w .1)
+    each-sets (staticArray n a c) w = each-sets c (w .1)
+    each-sets (dynamicArray i a c) w = each-sets c w
+    each-sets (flagged i c) w = each-sets c w
+    each-sets (optional i g rs c) w = each-sets c w
+    each-sets (variant i g os) w = each-options os 0 w
+
+    each-members : (cs : Classes) → FitMembers N S W cs → Each S (membersSet cs)
+    each-members noMember w = tt
+    each-members (member c cs) w = each-append S (sets c) (membersSet cs) (each-sets c (w .0)) (each-members cs (w .1))
+
+    each-options : (os : Options) (k : ℕ) → FitOptions N S W os k → Each S (optionsSet os)
+    each-options noOption k w = tt
+    each-options (option rs c os) k w =
+        each-append S (sets c) (optionsSet os) (each-sets c (w .1)) (each-options os (k + 1) (w .2))
+
 -- what is asked of a slot's number
 abbrev pub SlotOf : (ℕ → Type 0) → Content → Type 0
 SlotOf W Unset = Unit {0}
@@ -113,6 +164,8 @@ pub record Law (e : Env) (N S W : ℕ → Type 0) (L R : Step → Type 0) : Type
   pub seq : {m n : Step} → L m → L n → L (m ⨾ n)
   pub dueʳ : {m : Step} → R m → L (due ⨾ m)
   pub passes : L pass
+  -- an element's slots are forgotten, one after another
+  pub unsets : (i : ℕ) → S i → L (store i Unset)
   pub unset : R (refuse SlotUnset)
   pub wrongSort : R (refuse SlotOfWrongSort)
   pub inNone : R (refuse SelectorInNoOption)
@@ -159,6 +212,17 @@ module _ (e : Env) {N S W : ℕ → Type 0} {L R : Step → Type 0} (h : Law e N
   law-times zero g = h .passes
   law-times (suc n) g = h .seq g (law-times n g)
 
+  law-forgetting : (is : List ℕ) → Each S is → L (forgetting is)
+  law-forgetting [] w = rw forgetting-none (h .passes)
+  law-forgetting (i ∷ is) w = rw (forgetting-more i is) (h .seq (h .unsets i (w .0)) (law-forgetting is (w .1)))
+
+  pub law-forget : (c : Class) → Fits N S W c → L (forget c)
+  law-forget c w = rw (forget-as c) (law-forgetting (sets c) (each-sets N S W c w))
+
+  -- an element
+  law-element : (c : Class) {m : Step} → Fits N S W c → L m → L (forget c ⨾ m ⨾ forget c)
+  law-element c w g = h .seq (law-forget c w) (h .seq g (law-forget c w))
+
   law-if : (b : Bool) {x y : Step} → R x → R y → R (elim b [ true ↦ x | false ↦ y ])
   law-if true p q = p
   law-if false p q = q
@@ -181,9 +245,11 @@ module _ (e : Env) {N S W : ℕ → Type 0} {L R : Step → Type 0} (h : Law e N
     law-read (dynamicString i) w = h .dueʳ (h .slot i _ (λ x p. law-length x _ p (λ n q. h .texts 26 n (omega arith))))
     law-read (dynamicBlob i) w = h .dueʳ (h .slot i _ (λ x p. law-length x _ p (λ n q. h .blobs 27 n noRole (omega arith))))
     law-read (structure a cs) w = h .dueʳ (h .heads 28 _ _ (omega arith) (one-le a _) (w .0) (law-members cs (w .1)))
-    law-read (staticArray n a c) w = h .dueʳ (h .heads 29 _ _ (omega arith) (one-le a _) (w .0) (law-times n (law-read c (w .1))))
+    law-read (staticArray n a c) w =
+        h .dueʳ (h .heads 29 _ _ (omega arith) (one-le a _) (w .0) (law-times n (law-element c (w .1) (law-read c (w .1)))))
     law-read (dynamicArray i a c) w =
-        h .dueʳ (h .slot i _ (λ x p. law-length x _ p (λ n q. h .heads 30 _ _ (omega arith) (one-le a _) q (law-times n (law-read c w)))))
+        h .dueʳ (h .slot i _ (λ x p. law-length x _ p (λ n q.
+        h .heads 30 _ _ (omega arith) (one-le a _) q (law-times n (law-element c w (law-read c w))))))
     law-read (flagged i c) w = h .dueʳ (h .slot i _ (λ x p. law-flag x _ (λ b. law-present b (law-read c w))))
     law-read (optional i g rs c) w = h .dueʳ (h .slot i _ (λ x p. law-number g x _ p (λ v q. law-present (anyHolds g v rs) (law-read c w))))
     law-read (variant i g os) w = h .dueʳ (h .slot i _ (λ x p. law-number g x _ p (λ v q. law-option g v 0 os w)))

@@ -15,7 +15,7 @@ use Rattle.rules.specs.declared.Order.{Order}
 use Rattle.rules.specs.declared.LastOrder.{LastOrder}
 use Rattle.rules.specs.declared.LastOrder.the-variants.{Was}
 use Rattle.rules.specs.declared.Content.{Content}
-use Rattle.rules.specs.declared.Content.the-variants.{Unsigned, Signed}
+use Rattle.rules.specs.declared.Content.the-variants.{Unset, Unsigned, Signed}
 use Rattle.rules.specs.declared.Said.{Said}
 use Rattle.rules.specs.declared.Leb.{Leb}
 use Rattle.rules.specs.declared.Leb.the-variants.{Value, Past, Large}
@@ -687,6 +687,12 @@ module _ (e e′ : Env) (y : Like e e′) where
           λ q. from e′ q .dueʳ (h .held′ q);
     };
     passes = record { rel = λ s b. inl (exact-pass e e′ .at l s); held = λ q. from e q .passes; held′ = λ q. from e′ q .passes };
+    unsets = λ i. record {
+      rel = λ s b. inl (exact-store i Unset .at l s);
+      held = λ q. from e q .unsets i tt;
+      held′ =
+          λ q. from e′ q .unsets i tt;
+    };
     unset = record { rel = λ s b. inl (exact-refuse e e′ SlotUnset .at l s); held = λ q. from e q .unset; held′ = λ q. from e′ q .unset };
     wrongSort = record {
       rel = λ s b. inl (exact-refuse e e′ SlotOfWrongSort .at l s);

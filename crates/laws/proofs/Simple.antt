@@ -13,7 +13,7 @@ use Rattle.rules.specs.declared.Order.{Order}
 use Rattle.rules.specs.declared.LastOrder.{LastOrder}
 use Rattle.rules.specs.declared.LastOrder.the-variants.{Was}
 use Rattle.rules.specs.declared.Content.{Content}
-use Rattle.rules.specs.declared.Content.the-variants.{Unsigned, Signed}
+use Rattle.rules.specs.declared.Content.the-variants.{Unset, Unsigned, Signed}
 use Rattle.rules.specs.declared.Said.{Said}
 use Rattle.rules.specs.declared.Leb.{Leb}
 use Rattle.rules.specs.declared.Leb.the-variants.{Value, Past, Large}
@@ -166,6 +166,7 @@ module _ (e : Env) {S : ℕ → Type 0} {L R : Step → Type 0} (h : Simple e S 
     seq = λ a b. h .seq a b;
     dueʳ = λ a. h .dueʳ a;
     passes = h .passes;
+    unsets = λ i w. h .stores i Unset w;
     unset = h .refuses SlotUnset (omega arith);
     wrongSort = h .refuses SlotOfWrongSort (omega arith);
     inNone = h .refuses SelectorInNoOption (omega arith);

@@ -35,10 +35,10 @@ use Rattle.laws.proofs.Between.{Held, In, At, NoMore, Holding}
 use Rattle.packet_alone.specs.Behind.{upTo, toEnd, contradict, eventsOf, contentStep, ofClass, ofStream, packet}
 use Rattle.laws.specs.Far.{away, farEntry, farAll, far, farOut}
 use Rattle.laws.proofs.Far.{far-onto, Exact, exact-refuse}
-use Rattle.laws.specs.Far.{Cut, Rel}
+use Rattle.laws.specs.Far.{Rel}
 use Rattle.laws.proofs.Far.{exact-pass, rel-check, rel-due}
 use Rattle.laws.specs.Far.{Like}
-use Rattle.laws.proofs.Pair.{Pair, pairs, pair-root, onto-go, through}
+use Rattle.laws.proofs.Pair.{Pair, pair-root, onto-go, through}
 use Rattle.laws.proofs.Pair.{from, there-between, rel-onto, seq-pair}
 
 -- the last event's clock as it is

@@ -40,7 +40,7 @@ use Rattle.rules.specs.Class.{structure, staticArray, dynamicArray, flagged, op
 use Rattle.rules.specs.Class.{noOption, option as anOption, count}
 use Rattle.rules.specs.Field.{Env, aligned, fit, field, store, newClock, say, role, blobRole as roleOfBytes, fromSlot, asFlag, asNumber}
 use Rattle.rules.specs.Field.{asLength, valueOf, slotOf, ahead, bytesAt, readFixed, readLeb, readZero, readText, readBlob, times}
-use Rattle.rules.specs.Field.{present, read, readMembers, readOption}
+use Rattle.rules.specs.Field.{forget, present, read, readMembers, readOption}
 use Rattle.rules.specs.Packet.{readRoot}
 use Rattle.rules.specs.Record.{Shape, bitField, lebField, signedLebField, zeroString, text, blob, textOf, blobOf, members, elements}
 use Rattle.rules.specs.Record.{elementsOf, option?, options, Says, Fragment, preamble, traceClass, clockClass, streamClass, eventClass}
@@ -48,11 +48,12 @@ use Rattle.rules.specs.Record.{Record, unknown, fragment, root, class, range, o
 use Rattle.rules.specs.Table.{StreamClass, EventClass, Table, asked, findStream, findEvent, Asked}
 use Rattle.rules.specs.Parse.{Parsed, bad, good, Parser, then, sound, missing, one, Ranges, countOf, parseRanges, parseMembers}
 use Rattle.rules.specs.Parse.{parseOptions, selected, parseShape, parseBody, parseClass, isRoot, anyRoot, parseRoots, noTable, rootOf}
-use Rattle.rules.specs.Parse.{rootNumbers, isTimed, hasUuid, add, parseFragment, parseOpened, parseFragments, parse}
+use Rattle.rules.specs.Parse.{rootNumbers, isTimed, hasUuid, add, parseFragment, parseOpened, parseFragments, parseTable, parse}
 use Rattle.rules.specs.Faults.{pick, Ids, recordFault, Spot, top, inside, memberSpot, Under, roleOf, roles, numberRole, blobRole, badRole}
 use Rattle.rules.specs.Faults.{badSlot, badNumber, classFault, isTop, optionFault, rootFault, openFault, seen, firstFault, noIds}
 use Rattle.facts.proofs.Truth.{and-left}
 use Rattle.facts.proofs.Faults.{pick-zero, pick-false}
+use Rattle.facts.proofs.Parsed.{parse-table}
 use Rattle.laws.proofs.Sound.{no-fault}
 use Rattle.laws.proofs.Triple.{Triple, then as thenᵗ, passing, changing, refusing, checks, untested, dued}
 
@@ -325,9 +326,9 @@ yields-fragments (suc left) q x = by (missing x) (λ q x. yields-fragments left 
     by true rec = unfold noTable in (tt, tt)
     by false rec = yields-one _ q _ _ x (λ r c. opened rec r)
 
-yields-parse : (x : List ℕ) → Yields OtherTable (parse x)
-unfolding parse
-yields-parse x = by (missing x || ltb 65536 (length x))
+yields-table : (x : List ℕ) → Yields OtherTable (parseTable x)
+unfolding parseTable
+yields-table x = by (missing x || ltb 65536 (length x))
   where
     rest : Parser Table
     rest x = then (parseRoots noIds false false [] x) λ cs x. parseFragments (length x) noIds x
@@ -366,7 +367,7 @@ event-others (d ∷ cs) i j c h p = by (eqb (d .stream) i && eqb (d .id) j) p (�
 pub header-only : (x : List ℕ) (t : Table) (y : List ℕ) → parse x ≡ good t y → HeaderOnly (asked t)
 unfolding asked
 header-only x t y p =
-    let f : OtherTable t = subst (Yields OtherTable) p (yields-parse x) in
+    let f : OtherTable t = subst (Yields OtherTable) (parse-table x t y p) (yields-table x) in
     record {
       context = λ i c q. stream-others (t .streams) i c (f .0) q .0;
       header = λ i c q. stream-others (t .streams) i c (f .0) q .1;
@@ -537,6 +538,14 @@ module _ (j : ℕ) where
     keeps-times zero g = keeps-pass
     keeps-times (suc n) g = g ⨾ᵏ keeps-times n g
 
+    keeps-forget : (c : Class) → Keeps (forget c)
+    unfolding forget withSlots
+    keeps-forget c = keeps-change _ (λ s. refl)
+
+    -- an element
+    keeps-element : (c : Class) {m : Step} → Keeps m → Keeps (forget c ⨾ m ⨾ forget c)
+    keeps-element c g = keeps-forget c ⨾ᵏ g ⨾ᵏ keeps-forget c
+
     keeps-present : (b : Bool) {m : Step} → Keeps m → Keeps (present e b m)
     unfolding present
     keeps-present true g = keeps-field e 31 1 0 1 ⨾ᵏ g
@@ -565,9 +574,9 @@ module _ (j : ℕ) where
       keeps-read (dynamicString i) w = keeps-due (keeps-slot i _ (λ x. keeps-length x _ (λ n. keeps-text 26 n)))
       keeps-read (dynamicBlob i) w = keeps-due (keeps-slot i _ (λ x. keeps-length x _ (λ n. keeps-blob 27 n noRole)))
       keeps-read (structure a cs) w = keeps-due (keeps-head 28 _ _ (keeps-members cs w))
-      keeps-read (staticArray n a c) w = keeps-due (keeps-head 29 _ _ (keeps-times n (keeps-read c w)))
+      keeps-read (staticArray n a c) w = keeps-due (keeps-head 29 _ _ (keeps-times n (keeps-element c (keeps-read c w))))
       keeps-read (dynamicArray i a c) w =
-          keeps-due (keeps-slot i _ (λ x. keeps-length x _ (λ n. keeps-head 30 _ _ (keeps-times n (keeps-read c w)))))
+          keeps-due (keeps-slot i _ (λ x. keeps-length x _ (λ n. keeps-head 30 _ _ (keeps-times n (keeps-element c (keeps-read c w))))))
       keeps-read (flagged i c) w = keeps-due (keeps-slot i _ (λ x. keeps-flag x _ (λ b. keeps-present b (keeps-read c w))))
       keeps-read (optional i g rs c) w =
           keeps-due (keeps-slot i _ (λ x. keeps-number g x _ (λ v. keeps-present (anyHolds g v rs) (keeps-read c w))))

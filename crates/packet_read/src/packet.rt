@@ -40,7 +40,7 @@ ghost use Rattle.packet_read.specs.Pieces.{behindHeader, freshState, Len
 pub fn read_packet(
     table: &[u8],
     sizes: &[u16],
-    aligns: &[u8],
+    aligns: &[u16],
     index: &[u32],
     uuid: &[u8],
     header: TablePlace,
@@ -113,7 +113,7 @@ pub fn read_packet(
 fn read_behind_header(
     table: &[u8],
     sizes: &[u16],
-    aligns: &[u8],
+    aligns: &[u16],
     index: &[u32],
     uuid: &[u8],
     stream: &[u8],

@@ -17,7 +17,7 @@ ghost use Rattle.event_turns.specs.Roots.{classOf, RootStands};
 pub fn read_root(
     table: &[u8],
     sizes: &[u16],
-    aligns: &[u8],
+    aligns: &[u16],
     uuid: &[u8],
     stream: &[u8],
     frame: Frame,

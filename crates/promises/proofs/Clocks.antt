@@ -367,6 +367,7 @@ module _ (e : Env) where
     seq = λ h k. h ⨾ᵗ k;
     dueʳ = λ h. tick-due ⨾ᵗ h;
     passes = tick-pass;
+    unsets = λ i z. unfold store withSlots in tick-change _ (λ s. refl);
     unset = tick-refuse SlotUnset (λ q. omega arith);
     wrongSort = tick-refuse SlotOfWrongSort (λ q. omega arith);
     inNone = tick-refuse SelectorInNoOption (λ q. omega arith);

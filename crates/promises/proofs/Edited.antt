@@ -7,81 +7,32 @@ use mathlib.Core.Bool.{Bool, true, false, not, _&&_, _||_}
 use mathlib.Core.Option.{Option}
 use lib.ListN.{length, length-append, length-drop, take, drop, take-append-drop}
 use lib.Seq.{take-at}
-use lib.Dec.{ltb, eqb}
+use lib.Dec.{eqb}
 use borrow.Author.Tests.{ltb-false, le-ltb, eqb-true, eq-eqb}
 use Rattle.rules.specs.Class.{Class}
 use Rattle.rules.specs.Record.{Record, unknown, fragment, root, class, range, option, Fragment, preamble}
-use Rattle.rules.specs.Record.{traceClass, clockClass, streamClass, eventClass, recordOf, size, behind}
+use Rattle.rules.specs.Record.{traceClass, clockClass, streamClass, eventClass, recordOf, size, behind, layoutOf, layouts, no, u8}
 use Rattle.rules.specs.Table.{Table}
-use Rattle.rules.specs.Parse.{Parsed, bad, good, Parser, then, sound, missing, one, anyRoot, parseRoots, parseFragment}
-use Rattle.rules.specs.Parse.{parseOpened, parseFragments, add, isTimed, hasUuid, rootNumbers, noTable, parse}
+use Rattle.rules.specs.Parse.{Parsed, good, then, sound, missing, one, anyRoot, parseFragment}
+use Rattle.rules.specs.Parse.{parseOpened, parseFragments, add, noTable, parseTable}
+use Rattle.rules.specs.Homes.{Homes, noHomes, walked, walkRoots, homesOf, homesBefore, headerHomes, streamHomes}
+use Rattle.rules.specs.Homes.{walkRest, walkFragments, isWhole, walk as walkTable}
+use Rattle.facts.proofs.Parsed.{NoFault, parse-table, parse-walk, table-parse}
 use Rattle.rules.specs.Faults.{pick, Ids, recordFault, fragmentFault, among, pairAmong, many, openFault, seen, firstFault, noIds}
 use Rattle.facts.proofs.Truth.{or-false, and-left}
 use Rattle.facts.proofs.Faults.{pick-zero, pick-false}
-use Rattle.laws.proofs.Sound.{Sound, no-fault}
 use Rattle.promises.proofs.TableRounds.{behind-less}
 use Rattle.promises.proofs.Local.{Whole, Plain, nothing, after, isFragment, whole-size, whole-record, whole-behind}
-use Rattle.promises.proofs.Local.{whole-missing, first-whole, first-split, first-record, bad-good, one-whole}
-use Rattle.promises.proofs.Roots.{Stops, Rooted, roots-local}
+use Rattle.promises.proofs.Local.{whole-missing, one-whole}
+use Rattle.promises.proofs.Roots.{Stops}
+use Rattle.promises.proofs.Homed.{RootsEnd}
+use Rattle.promises.proofs.Fragments.{nil-of, missing-nil, Clean, RootsOf, Front, front, Start, start, behind-first}
+use Rattle.promises.proofs.Fragments.{walk-step, goes-behind}
 use Rattle.promises.specs.Edition.{keep, keepStreams, keepEvents, both, stays, part, leaveRecords, leave, Editions}
-
-nil-of : (x : List ℕ) → length x ≤ 0 → x ≡ []
-nil-of [] h = refl
-nil-of (b ∷ x) h = absurd (omega arith)
 
 keepIf : Bool → List ℕ → List ℕ
 keepIf true x = x
 keepIf false x = []
-
--- what a success went through
-
-record Through {A B : Type 0} (o : Parsed A) (F : A → Parser B) (b : B) (y : List ℕ) : Type 0 where
-  a : A
-  x : List ℕ
-  first : o ≡ good a x
-  second : F a x ≡ good b y
-
-through : {A B : Type 0} (o : Parsed A) (F : A → Parser B) (b : B) (y : List ℕ) → then o F ≡ good b y → Through o F b y
-unfolding then
-through (bad n x) F b y h = absurd (bad-good n x b y h)
-through (good a x) F b y h = record { a = a; x = x; first = refl; second = h }
-
--- a fragment's first record that has no fault behind what was seen
-abbrev Clean : Ids → Fragment → Type 0
-Clean q g = recordFault false q (fragment g) (openFault q (fragment g)) ≡ 0
-
--- the roots of a fragment, from x to y
-abbrev RootsOf : Fragment → List ℕ → List (Option Class) → List ℕ → Type 0
-RootsOf g x cs y = Rooted (isTimed g) (hasUuid g) (rootNumbers g) x cs y
-
-record ParsedFragment (n : ℕ) (q : Ids) (x : List ℕ) (t : Table) (y : List ℕ) : Type 0 where
-  g : Fragment
-  fits : size x ≤ length x
-  is : recordOf x ≡ fragment g
-  clean : Clean q g
-  goes : parseFragment q (parseFragments n) g (behind x) ≡ good t y
-
-opens : (n : ℕ) (q : Ids) (x : List ℕ) (t : Table) (y : List ℕ)
-    → missing x ≡ false → parseFragments (suc n) q x ≡ good t y → ParsedFragment n q x t y
-unfolding parseFragments one sound parseOpened openFault
-opens n q x t y m h = by _ refl (rw (m, parseFragments) at h)
-  where
-    nine : (r : Record) → recordOf x ≡ r → Sound (missing x) (ltb (length x) (size x)) (openFault q r)
-        → recordFault (ltb (length x) (size x)) q r (openFault q r) ≡ 0
-        → parseOpened q (parseFragments n) r (behind x) ≡ good t y → ParsedFragment n q x t y
-    nine unknown e s c h = absurd (omega (arith, s .later))
-    nine (fragment g) e s c h = record { g = g; fits = ltb-false _ _ (s .fits); is = e; clean = rw (s .fits) at c; goes = h }
-    nine (root r) e s c h = absurd (omega (arith, s .later))
-    nine (class k) e s c h = absurd (omega (arith, s .later))
-    nine (range k l i) e s c h = absurd (omega (arith, s .later))
-    nine (option k) e s c h = absurd (omega (arith, s .later))
-
-    by : (v : ℕ) → pick (missing x) 3 (recordFault (ltb (length x) (size x)) q (recordOf x) (openFault q (recordOf x))) ≡ v
-        → sound v x (λ x′. parseOpened q (parseFragments n) (recordOf x) x′) ≡ good t y → ParsedFragment n q x t y
-    by zero e h =
-        let s = no-fault (missing x) (ltb (length x) (size x)) q (recordOf x) (openFault q (recordOf x)) e in
-        nine (recordOf x) refl s (pick-zero (missing x) 2 _ e) h
-    by (suc v) e h = absurd (bad-good (suc v) x t y h)
 
 module _ (ks : ℕ → Bool) (ke : ℕ → ℕ → Bool) where
   -- what a round leaves of x, with n more behind it, by whether x is at its end
@@ -376,11 +327,6 @@ module _ (ks : ℕ → Bool) (ke : ℕ → ℕ → Bool) where
   unfolding left leaveRecords
   main-nil q′ now x t p k = rw (p, k) (same-nil q′)
 
-  missing-nil : (x : List ℕ) → missing x ≡ true → x ≡ []
-  unfolding missing
-  missing-nil [] h = refl
-  missing-nil (b ∷ x) h = let z : _≡_ {A = ℕ} 0 1 = cc in absurd (omega arith)
-
   same-left : (q′ : Ids) (x′ : List ℕ) (now : Bool) (g : Fragment) (cs : List (Option Class)) (t : Table)
       → stays ks ke now (fragment g) ≡ false → Same q′ x′ t → Same q′ x′ (add g cs t)
   same-left q′ x′ now g cs t s h = record {
@@ -411,26 +357,12 @@ module _ (ks : ℕ → Bool) (ke : ℕ → ℕ → Bool) where
         let h = rec (seen q g) q′ (fewer-left q q′ f now g e) x₁ t₁ y₁ len p false in
         rw (left-here false e) (same-left q′ (left false x₁) now g cs t₁ e h)
 
-  walk-one : (n : ℕ) → Walk n → (q q′ : Ids) → Fewer q q′ → (x : List ℕ) (t : Table) (y : List ℕ) → length x ≤ suc n → missing x ≡ false
-      → ParsedFragment n q x t y → (now : Bool) → Same q′ (left now x) t
-  unfolding parseFragment
-  walk-one n rec q q′ f x t y l m o now =
-      let g = o .g in
-      let roots = parseRoots (seen q g) (isTimed g) (hasUuid g) (rootNumbers g) (behind x) in
-      let p₁ = through roots (λ cs x. then (parseFragments n (seen q g) x) (λ t x. good (add g cs t) x)) t y (o .goes) in
-      let r = roots-local (isTimed g) (hasUuid g) (rootNumbers g) (seen q g) (behind x) (p₁ .a) (p₁ .x) (p₁ .first) in
-      let p₂ = through (parseFragments n (seen q g) (p₁ .x)) (λ t x. good (add g (p₁ .a) t) x) t y (p₁ .second) in
-      let e₂ : _≡_ {A = Parsed Table} (good (add g (p₁ .a) (p₂ .a)) (p₂ .x)) (good t y) = p₂ .second in
-      let te : add g (p₁ .a) (p₂ .a) ≡ t = cc in
-      let bl : length (r .u ++ p₁ .x) ≤ n = rw (r .split) at (behind-less x n m l) in
-      let len : length (p₁ .x) ≤ n = omega (arith, simp length-append at bl) in
-      let w = take (size x) x in
-      let hw = first-whole x m (o .fits) in
-      let hr = first-record x m (o .fits) ∙ o .is in
-      let xe : x ≡ w ++ (r .u ++ p₁ .x) = sym (first-split x) ∙ ap (λ l. w ++ l) (r .split) in
-      subst (Same q′ (left now x)) te
-      (walk-by n rec q q′ f now x w g hw hr (o .clean) (behind x) (p₁ .x) (p₁ .a) r xe len (p₂ .a) (p₂ .x) (p₂ .first)
-      (stays ks ke now (fragment g)) refl)
+  walk-one : (n : ℕ) → Walk n → (q q′ : Ids) → Fewer q q′ → (x : List ℕ) (t : Table) (y : List ℕ) → Front n q x t y → (now : Bool)
+      → Same q′ (left now x) t
+  walk-one n rec q q′ f x t y o now =
+      subst (Same q′ (left now x)) (o .all)
+      (walk-by n rec q q′ f now x (o .w) (o .g) (o .whole) (o .is) (o .clean) (behind x) (o .x₁) (o .cs) (o .roots) (o .split) (o .len)
+      (o .t₁) (o .y₁) (o .rest) (stays ks ke now (fragment (o .g))) refl)
 
   walk : (n : ℕ) → Walk n
   unfolding parseFragments
@@ -441,7 +373,7 @@ module _ (ks : ℕ → Bool) (ke : ℕ → ℕ → Bool) where
       by rec true e =
           let h′ : _≡_ {A = Parsed Table} (good noTable x) (good t y) = rw (e, parseFragments) at h in
           let te : noTable ≡ t = cc in main-nil q′ now x t (missing-nil x e) (sym te)
-      by rec false e = walk-one n rec q q′ f x t y l e (opens n q x t y e h) now
+      by rec false e = walk-one n rec q q′ f x t y (front n q x t y l e h) now
 
   -- what stays is no longer than the whole
   part-short : (b : Bool) (x : List ℕ) → length (part ks ke b x) + length (behind x) ≤ length x
@@ -459,31 +391,120 @@ module _ (ks : ℕ → Bool) (ke : ℕ → ℕ → Bool) where
       by k true = omega arith
       by k false = simp length-append (omega (arith, part-short (stays ks ke now (recordOf x)) x))
 
-  first-free : (r : Record) → firstFault false r ≡ 0 → stays ks ke true r ≡ true
-  unfolding firstFault stays pick
-  first-free unknown h = refl
-  first-free (fragment (preamble v)) h = refl
-  first-free (fragment (traceClass u l)) h = refl
-  first-free (fragment (clockClass i f)) h = refl
-  first-free (fragment (streamClass i c)) h = absurd (omega arith)
-  first-free (fragment (eventClass i j)) h = absurd (omega arith)
-  first-free (root r) h = refl
-  first-free (class y) h = refl
-  first-free (range g l k) h = refl
-  first-free (option n) h = refl
+  -- One slot, one home: a fragment that stays gets the same test in both tables
 
-  first-fits : (s : Bool) (r : Record) → firstFault s r ≡ 0 → s ≡ false
-  unfolding firstFault
-  first-fits s unknown h = absurd (omega arith)
-  first-fits s (fragment (preamble v)) h = pick-false s 2 _ h
-  first-fits s (fragment (traceClass u l)) h = pick-false s 2 _ h
-  first-fits s (fragment (clockClass i f)) h = pick-false s 2 _ h
-  first-fits s (fragment (streamClass i c)) h = pick-false s 2 _ h
-  first-fits s (fragment (eventClass i j)) h = pick-false s 2 _ h
-  first-fits s (root r) h = pick-false s 2 _ h
-  first-fits s (class y) h = pick-false s 2 _ h
-  first-fits s (range g l k) h = pick-false s 2 _ h
-  first-fits s (option n) h = pick-false s 2 _ h
+  abbrev HomesAs : List (ℕ × Homes) → List (ℕ × Homes) → Type 0
+  HomesAs l l′ = (i : ℕ) → ks i ≡ true → homesOf l′ i ≡ homesOf l i
+
+  before-kept : (h : Homes) (l l′ : List (ℕ × Homes)) → HomesAs l l′ → (now : Bool) (g : Fragment) → stays ks ke now (fragment g) ≡ true
+      → homesBefore h l′ g ≡ homesBefore h l g
+  unfolding homesBefore stays both
+  before-kept h l l′ f now (preamble v) s = refl
+  before-kept h l l′ f now (traceClass u x) s = refl
+  before-kept h l l′ f now (clockClass i k) s = refl
+  before-kept h l l′ f now (streamClass i c) s = refl
+  before-kept h l l′ f now (eventClass i j) s = f i (and-left (ks i) (ke i j) s)
+
+  homes-kept : (l l′ : List (ℕ × Homes)) → HomesAs l l′ → (g : Fragment) (k : Homes) → HomesAs (streamHomes g k l) (streamHomes g k l′)
+  unfolding streamHomes homesOf
+  homes-kept l l′ f (preamble v) k = f
+  homes-kept l l′ f (traceClass u x) k = f
+  homes-kept l l′ f (clockClass i c) k = f
+  homes-kept l l′ f (streamClass i c) k = λ j h. ap (λ o. elim (eqb i j) [ true ↦ k | false ↦ o ]) (f j h)
+  homes-kept l l′ f (eventClass i j) k = f
+
+  homes-left : (l l′ : List (ℕ × Homes)) → HomesAs l l′ → (now : Bool) (g : Fragment) (k : Homes) → stays ks ke now (fragment g) ≡ false
+      → HomesAs (streamHomes g k l) l′
+  unfolding streamHomes homesOf stays
+  homes-left l l′ f now (preamble v) k s = f
+  homes-left l l′ f now (traceClass u x) k s = f
+  homes-left l l′ f now (clockClass i c) k s = f
+  homes-left l l′ f now (streamClass i c) k s = λ j h.
+      f j h ∙ ap (λ b. elim b [ true ↦ k | false ↦ homesOf l j ]) (sym (apart (λ n. not (ks n)) i j (ap not s) (ap not h)))
+  homes-left l l′ f now (eventClass i j) k s = f
+
+  header-left : (now : Bool) (g : Fragment) (k h : Homes) → stays ks ke now (fragment g) ≡ false → headerHomes g k h ≡ h
+  unfolding headerHomes stays
+  header-left now (preamble v) k h s = refl
+  header-left now (traceClass u x) k h s = let z : _≡_ {A = ℕ} 0 1 = cc in absurd (omega arith)
+  header-left now (clockClass i c) k h s = refl
+  header-left now (streamClass i c) k h s = refl
+  header-left now (eventClass i j) k h s = refl
+
+  -- no fault in x; none in x′, which stays of it
+  abbrev Homely : List ℕ → List ℕ → Type 0
+  Homely x x′ = (h : Homes) (l l′ : List (ℕ × Homes)) → HomesAs l l′ → (m : ℕ) → length x ≤ m → NoFault (walkFragments m h l x)
+      → (m′ : ℕ) → NoFault (walkFragments m′ h l′ x′)
+
+  -- a fragment, its roots u, and x₁ behind them
+  module _ (now : Bool) (w u x₁ : List ℕ) (g : Fragment) (cs : List (Option Class)) (hw : Whole w) (e : recordOf w ≡ fragment g)
+      (r : (h : Homes) → RootsEnd cs h u) (sx : Stops x₁) where
+    homely-kept : (z : List ℕ) → Stops z → stays ks ke now (fragment g) ≡ true → Homely x₁ z → Homely (w ++ (u ++ x₁)) (w ++ (u ++ z))
+    homely-kept z sz s rec h l l′ a m n f zero = unfold walkFragments in tt
+    homely-kept z sz s rec h l l′ a m n f (suc m′) =
+        let b = goes-behind w u x₁ g cs hw e r sx h l m n f in
+        let len : length u ≤ length (u ++ z) = rw (length-append u z) (omega arith) in
+        let p : walkRoots (length (u ++ z)) (homesBefore h l′ g) (u ++ z) ≡ walked (b .k) z =
+        ap (λ o. walkRoots (length (u ++ z)) o (u ++ z)) (before-kept h l l′ a now g s) ∙ b .goes (length (u ++ z)) z len sz in
+        let q : NoFault (walkRest (walkFragments m′) h l′ g (walked (b .k) z)) = unfold walkRest in
+        rec (headerHomes g (b .k) h) (streamHomes g (b .k) l) (streamHomes g (b .k) l′) (homes-kept l l′ a g (b .k)) (b .m) (b .len)
+        (b .none) m′ in
+        subst NoFault (sym (walk-step m′ h l′ w (u ++ z) g hw e)) (subst (λ o. NoFault (walkRest (walkFragments m′) h l′ g o)) (sym p) q)
+
+    homely-left : (z : List ℕ) → stays ks ke now (fragment g) ≡ false → Homely x₁ z → Homely (w ++ (u ++ x₁)) z
+    homely-left z s rec h l l′ a m n f m′ =
+        let b = goes-behind w u x₁ g cs hw e r sx h l m n f in
+        rec h (streamHomes g (b .k) l) l′ (homes-left l l′ a now g (b .k) s) (b .m) (b .len)
+        (subst (λ o. NoFault (walkFragments (b .m) o (streamHomes g (b .k) l) x₁)) (header-left now g (b .k) h s) (b .none)) m′
+
+  homely-nil : (now : Bool) (x : List ℕ) → x ≡ [] → Homely x (left now x)
+  unfolding left leaveRecords walkFragments isWhole size layoutOf u8 layouts no
+  homely-nil now x p = rw p (λ h l l′ a m n f m′. by h l′ m′)
+    where
+      by : (h : Homes) (l : List (ℕ × Homes)) (m : ℕ) → NoFault (walkFragments m h l (left now []))
+      by h l zero = tt
+      by h l (suc m) = tt
+
+  abbrev WalkHomes : ℕ → Type 0
+  WalkHomes n =
+      (q q′ : Ids) → Fewer q q′ → (x : List ℕ) (t : Table) (y : List ℕ) → length x ≤ n → parseFragments n q x ≡ good t y
+      → (now : Bool) → Homely x (left now x)
+
+  homely-one : (n : ℕ) → WalkHomes n → (q q′ : Ids) → Fewer q q′ → (x : List ℕ) (t : Table) (y : List ℕ) → Front n q x t y → (now : Bool)
+      → Homely x (left now x)
+  unfolding keepIf
+  homely-one n rec q q′ f x t y o now =
+      let g = o .g in
+      by g (o .w) (o .whole) (o .is) (o .roots .u) (o .x₁) (o .roots .plain) (o .roots .stops) (o .split) (o .cs) (o .ends)
+      (λ e. (
+        rec (seen q g) (seen q′ g) (fewer-kept q q′ f now g e) (o .x₁) (o .t₁) (o .y₁) (o .len) (o .rest) true,
+        walk n (seen q g) (seen q′ g) (fewer-kept q q′ f now g e) (o .x₁) (o .t₁) (o .y₁) (o .len) (o .rest) true .stops,
+      ))
+      (λ e. rec (seen q g) q′ (fewer-left q q′ f now g e) (o .x₁) (o .t₁) (o .y₁) (o .len) (o .rest) false)
+      (stays ks ke now (fragment g)) refl
+    where
+      by : (g : Fragment) (w : List ℕ) → Whole w → recordOf w ≡ fragment g → (u x₁ : List ℕ) → Plain u → Stops x₁ → x ≡ w ++ (u ++ x₁)
+          → (cs : List (Option Class)) → ((h : Homes) → RootsEnd cs h u)
+          → (stays ks ke now (fragment g) ≡ true → Homely x₁ (left true x₁) × Stops (left true x₁))
+          → (stays ks ke now (fragment g) ≡ false → Homely x₁ (left false x₁))
+          → (s : Bool) → stays ks ke now (fragment g) ≡ s → Homely x (left now x)
+      by g w hw hr u x₁ pl sx xe cs re a b true e =
+          let le : left now x ≡ w ++ (u ++ left true x₁) =
+          ap (left now) xe ∙ left-whole now w (u ++ x₁) hw ∙ rw (hr, e) (ap (λ l. w ++ l) (left-plain true u x₁ pl)) in
+          rw (le, xe) (homely-kept now w u x₁ g cs hw hr re sx (left true x₁) (a e .1) e (a e .0))
+      by g w hw hr u x₁ pl sx xe cs re a b false e =
+          let le : left now x ≡ left false x₁ =
+          ap (left now) xe ∙ left-whole now w (u ++ x₁) hw ∙ rw (hr, e) (left-plain false u x₁ pl) in
+          rw (le, xe) (homely-left now w u x₁ g cs hw hr re sx (left false x₁) e (b e))
+
+  walk-homes : (n : ℕ) → WalkHomes n
+  unfolding parseFragments
+  walk-homes zero q q′ f x t y l h now = homely-nil now x (nil-of x l)
+  walk-homes (suc n) q q′ f x t y l h now = by (walk-homes n) (missing x) refl
+    where
+      by : WalkHomes n → (b : Bool) → missing x ≡ b → Homely x (left now x)
+      by rec true e = homely-nil now x (missing-nil x e)
+      by rec false e = homely-one n rec q q′ f x t y (front n q x t y l e h) now
 
   none-fewer : Fewer noIds noIds
   none-fewer = record {
@@ -495,59 +516,48 @@ module _ (ks : ℕ → Bool) (ke : ℕ → ℕ → Bool) where
     events≤ = omega arith;
   }
 
-  behind-first : Parser Table
-  behind-first x = then (parseRoots noIds false false [] x) (λ cs x. parseFragments (length x) noIds x)
-
-  parse-first : (w z : List ℕ) → Whole w → length (w ++ z) ≤ 65536 → firstFault false (recordOf w) ≡ 0 → parse (w ++ z) ≡ behind-first z
-  unfolding parse sound behind-first
+  parse-first : (w z : List ℕ) → Whole w → length (w ++ z) ≤ 65536 → firstFault false (recordOf w) ≡ 0
+      → parseTable (w ++ z) ≡ behind-first z
+  unfolding parseTable sound behind-first
   parse-first w z hw l c =
       let k : size (w ++ z) ≤ length (w ++ z) = rw (whole-size w z hw, length-append w z) (omega (arith, hw .whole)) in
-      rw (whole-missing w z hw, le-ltb 65536 (length (w ++ z)) l, le-ltb _ _ k, whole-record w z hw, c, parse)
+      rw (whole-missing w z hw, le-ltb 65536 (length (w ++ z)) l, le-ltb _ _ k, whole-record w z hw, c, parseTable)
       (ap behind-first (whole-behind w z hw))
 
-  -- the first record, and what is behind it
-  edit-first : (x : List ℕ) (t : Table) (y : List ℕ) → missing x ≡ false → length x ≤ 65536
-      → firstFault (ltb (length x) (size x)) (recordOf x) ≡ 0 → behind-first (behind x) ≡ good t y
-      → parse (left true x) ≡ good (kept t) []
-  unfolding behind-first keepIf left then
-  edit-first x t y m l c h =
-      let fs = first-fits (ltb (length x) (size x)) (recordOf x) c in
-      let fits = ltb-false (length x) (size x) fs in
-      let w = take (size x) x in
-      let hw = first-whole x m fits in
-      let hr = first-record x m fits in
-      let c′ : firstFault false (recordOf x) ≡ 0 = rw fs at c in
-      let p₁ = through (parseRoots noIds false false [] (behind x)) (λ cs x. parseFragments (length x) noIds x) t y h in
-      let r = roots-local false false [] noIds (behind x) (p₁ .a) (p₁ .x) (p₁ .first) in
-      let s = walk (length (p₁ .x)) noIds noIds none-fewer (p₁ .x) t y (omega arith) (p₁ .second) true in
-      let xe : x ≡ w ++ (r .u ++ p₁ .x) = sym (first-split x) ∙ ap (λ l. w ++ l) (r .split) in
-      let le : left true x ≡ w ++ (r .u ++ left true (p₁ .x)) =
-      ap (left true) xe ∙ left-whole true w (r .u ++ p₁ .x) hw
-      ∙ rw (hr, first-free (recordOf x) c′) (ap (λ l. w ++ l) (left-plain true (r .u) (p₁ .x) (r .plain))) in
-      let ll : length (w ++ (r .u ++ left true (p₁ .x))) ≤ 65536 =
-      omega (arith, l, subst (λ z. length z ≤ length x) le (left-short (length x) true x)) in
-      rw le
-      (parse-first w (r .u ++ left true (p₁ .x)) hw ll (rw hr c′)
-      ∙ ap (λ o. then o (λ cs x. parseFragments (length x) noIds x)) (r .again noIds (left true (p₁ .x)) (s .stops))
-      ∙ s .parses (length (left true (p₁ .x))) (omega arith))
+  -- the preamble, and what stays behind it
+  module _ (x : List ℕ) (t : Table) (y : List ℕ) (s : Start x t y) where
+    left-start : left true x ≡ s .w ++ (s .roots .u ++ left true (s .x₁))
+    unfolding keepIf stays
+    left-start =
+        ap (left true) (s .split) ∙ left-whole true (s .w) (s .roots .u ++ s .x₁) (s .whole)
+        ∙ rw (s .is) (ap (λ l. s .w ++ l) (left-plain true (s .roots .u) (s .x₁) (s .roots .plain)))
 
-  edited : (x : List ℕ) (t : Table) (y : List ℕ) → parse x ≡ good t y → parse (leave ks ke x) ≡ good (kept t) []
-  unfolding parse sound leave left behind-first
-  edited x t y h = by (missing x || ltb 65536 (length x)) refl h
-    where
-      by2 : missing x ≡ false → length x ≤ 65536 → (v : ℕ) → firstFault (ltb (length x) (size x)) (recordOf x) ≡ v
-          → sound v x behind-first ≡ good t y → parse (leave ks ke x) ≡ good (kept t) []
-      by2 m l zero e h = edit-first x t y m l e h
-      by2 m l (suc v) e h = absurd (bad-good (suc v) x t y h)
+    same-start : Same noIds (left true (s .x₁)) t
+    same-start = walk (length (s .x₁)) noIds noIds none-fewer (s .x₁) t y (omega arith) (s .rest) true
 
-      by : (b : Bool) → (missing x || ltb 65536 (length x)) ≡ b
-          → elim b as (λ _. Parsed Table) [
-            | true ↦ bad 1 x
-            | false ↦ sound (firstFault (ltb (length x) (size x)) (recordOf x)) x behind-first
-          ] ≡ good t y
-          → parse (leave ks ke x) ≡ good (kept t) []
-      by true e h = absurd (bad-good 1 x t y h)
-      by false e h = by2 (or-false (missing x) _ e .0) (ltb-false 65536 (length x) (or-false (missing x) _ e .1)) _ refl h
+    edit-first : parseTable (left true x) ≡ good (kept t) []
+    unfolding behind-first left then
+    edit-first =
+        let z = left true (s .x₁) in
+        let ll : length (s .w ++ (s .roots .u ++ z)) ≤ 65536 =
+        omega (arith, s .limit, subst (λ z. length z ≤ length x) left-start (left-short (length x) true x)) in
+        rw left-start
+        (parse-first (s .w) (s .roots .u ++ z) (s .whole) ll (rw (s .is) (s .clean))
+        ∙ ap (λ o. then o (λ cs x. parseFragments (length x) noIds x)) (s .roots .again noIds z (same-start .stops))
+        ∙ same-start .parses (length z) (omega arith))
+
+    -- and so the short table's walk finds no fault
+    edit-homes : NoFault (walkTable x) → NoFault (walkTable (left true x))
+    unfolding walkTable stays
+    edit-homes nf =
+        let rec = walk-homes (length (s .x₁)) noIds noIds none-fewer (s .x₁) t y (omega arith) (s .rest) true in
+        let k = homely-kept true (s .w) (s .roots .u) (s .x₁) (preamble (s .v)) (s .cs) (s .whole) (s .is) (s .ends) (s .roots .stops)
+        (left true (s .x₁)) (same-start .stops) refl rec in
+        let k′ : Homely x (left true x) = subst (λ z. Homely z (left true x)) (sym (s .split)) (subst (Homely _) (sym left-start) k) in
+        k′ noHomes [] [] (λ i h. refl) (length x) (omega arith) nf (length (left true x))
 
 pub editions : Editions
-editions ks ke x t y h = edited ks ke x t y h
+unfolding leave left
+editions ks ke x t y h =
+    let s = start x t y (parse-table x t y h) in
+    table-parse (leave ks ke x) (edit-homes ks ke x t y s (parse-walk x t y h)) ∙ edit-first ks ke x t y s

@@ -10,7 +10,12 @@ mod Packets
 mod Local
 mod TableRounds
 mod Roots
+mod Settings
+mod Homed
+mod Fragments
 mod Edited
+mod HomesBefore
+mod SlotHomes
 mod Figures
 mod Leave
 mod Exact
@@ -25,6 +30,7 @@ mod Answers
 pub mod Promised
 mod Only
 mod OnlyRan
+mod Elements
 mod Cases
 mod Counted
 mod Rejected

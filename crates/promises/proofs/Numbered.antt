@@ -6,16 +6,19 @@ use mathlib.Core.List.{List, [], _∷_, _++_}
 use mathlib.Core.Bool.{Bool, true, false, not, _&&_, _||_}
 use mathlib.Core.Option.{Option, none}
 use lib.ListN.{length}
-use lib.Dec.{ltb, leb}
+use lib.Dec.{ltb, leb, eqb}
 use Rattle.rules.specs.Limits.{tableLimit, depthLimit}
 use Rattle.rules.specs.Class.{Sign, Range, Class}
 use Rattle.rules.specs.Record.{Shape, bitField, lebField, signedLebField, zeroString, text, blob, textOf, blobOf, members, elements, elementsOf, option?, options}
 use Rattle.rules.specs.Record.{Says, Fragment, preamble, traceClass, clockClass, streamClass, eventClass}
 use Rattle.rules.specs.Record.{Record, unknown, fragment, root, class, range, option, recordOf, behind, size}
+use Rattle.rules.specs.Faults.{slotNotAllowed}
 use Rattle.rules.specs.Faults.{pick, Ids, noIds, seen, fragmentFault, recordFault, firstFault, Spot, top, inside, memberSpot, Under, classFault, rangeFault, optionFault, rootFault, openFault}
 use Rattle.rules.specs.Table.{Table}
 use Rattle.rules.specs.Parse.{Parsed, bad, good, Parser, then, sound, missing, one, Ranges, rangeOf, countOf, parseRanges, parseOptions, parseMembers, parseShape, parseBody, parseClass}
-use Rattle.rules.specs.Parse.{isRoot, anyRoot, parseRoots, rootNumbers, isTimed, hasUuid, parseFragment, parseOpened, parseFragments, parse}
+use Rattle.rules.specs.Parse.{isRoot, anyRoot, parseRoots, rootNumbers, isTimed, hasUuid, parseFragment, parseOpened, parseFragments}
+use Rattle.rules.specs.Parse.{parseTable, orFault, parse}
+use Rattle.rules.specs.Homes.{Walked, fault, walked, lost, walk}
 
 -- Tests
 
@@ -211,12 +214,27 @@ fragments-numbered zero q x = tt
 fragments-numbered (suc left) q x =
     numbered-if (missing x) _ _ tt (one-numbered q _ _ x (open-15 q) (λ r y. opened-numbered q (parseFragments left) (λ s v. fragments-numbered left s v) r y))
 
-table-numbered : (x : List ℕ) → Numbered (parse x)
-unfolding parse
+table-numbered : (x : List ℕ) → Numbered (parseTable x)
+unfolding parseTable
 table-numbered x =
     numbered-if (missing x || ltb tableLimit (length x)) _ _ (omega arith)
     (sound-numbered _ x _ (first-15 _ (recordOf x)) (λ y.
     then-numbered (parseRoots noIds false false [] y) _ (roots-numbered noIds false false [] y) (λ cs z. fragments-numbered (length z) noIds z)))
 
+-- 11 of a slot of two homes, or the parser's number
+or-numbered : (o : Parsed Table) (w : Walked) → Numbered o → Numbered (orFault o w)
+unfolding orFault
+or-numbered (good t x) (fault y) h = omega arith
+or-numbered (good t x) (walked hs y) h = tt
+or-numbered (good t x) lost h = tt
+or-numbered (bad n x) (walked hs y) h = h
+or-numbered (bad n x) lost h = h
+or-numbered (bad n x) (fault y) h =
+    numbered-if (ltb (length x) (length y) || (eqb (length x) (length y) && ltb slotNotAllowed n)) _ _ (omega arith) h
+
+all-numbered : (x : List ℕ) → Numbered (parse x)
+unfolding parse
+all-numbered x = or-numbered (parseTable x) (walk x) (table-numbered x)
+
 pub refused-number : (x : List ℕ) (n : ℕ) (y : List ℕ) → parse x ≡ bad n y → (1 ≤ n) × (n ≤ 15)
-refused-number x n y h = subst Numbered h (table-numbered x)
+refused-number x n y h = subst Numbered h (all-numbered x)

@@ -167,6 +167,12 @@ no-slack = record {
   role = λ m st ws. record { same = role-same m st ws };
   field = λ m st l ws. record { same = field-same m st l ws };
   notes = λ t x. record { same = λ r r′ p q. p .notes ∙ sym (q .notes) };
-  reach = λ t x p. record { same = λ r r′ h k. λ i. record { next = (h .end ∙ sym (k .end)) i; align = (h .align ∙ sym (k .align)) i } };
+  reach = λ t x p. record {
+    same = λ r r′ h k. λ i. record {
+      next = (h .end ∙ sym (k .end)) i;
+      align = (h .align ∙ sym (k .align)) i;
+      sets = (h .sets .0 ∙ sym (k .sets .0)) i;
+    };
+  };
   opening = λ k. record { same = opening-same k };
 }

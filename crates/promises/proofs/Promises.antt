@@ -6,6 +6,8 @@ use Rattle.promises.proofs.Leave.{nothing-left}
 use Rattle.promises.proofs.Exact.{demand-3}
 use Rattle.promises.proofs.Finds.{demand-3-figures}
 use Rattle.promises.proofs.Laws.{the-laws}
+use Rattle.promises.proofs.Elements.{elements}
+use Rattle.promises.proofs.SlotHomes.{slot-homes}
 use Rattle.promises.proofs.Promised.{demands}
 use Rattle.promises.proofs.Only.{no-slack}
 use Rattle.promises.proofs.OnlyRan.{no-slack-ran}
@@ -32,6 +34,8 @@ all-promises = record {
   figures = figures;
   cases = cases;
   the-laws = the-laws;
+  elements = elements;
+  slot-homes = slot-homes;
   bits-cut = bits-cut;
   leb-settled = leb-settled;
   apart = apart;

@@ -58,7 +58,7 @@ plain-here n u y z nothing h s = stops-here n z s
 plain-here n u y z (after {u = v} w hw k p) h s =
     rw (append-assoc w v z) (whole-here n w (v ++ z) hw ∙ sym (whole-here n w (v ++ y) hw) ∙ rw (append-assoc w v y) at h)
 
-one-bad : {A : Type 0} (q : Ids) (more : Record → ℕ) (n : ℕ) (x : List ℕ) (a : A) (y : List ℕ)
+pub one-bad : {A : Type 0} (q : Ids) (more : Record → ℕ) (n : ℕ) (x : List ℕ) (a : A) (y : List ℕ)
     → one q more (λ r x. bad n x) x ≡ good a y → ⊥
 unfolding one sound
 one-bad q more n x a y h = by (pick (missing x) 3 (recordFault (ltb (length x) (size x)) q (recordOf x) (more (recordOf x)))) h
@@ -74,7 +74,7 @@ pub record Rooted (timed u? : Bool) (ns : List ℕ) (x : List ℕ) (cs : List (O
   pub stops : Stops y
   pub again : (q : Ids) (z : List ℕ) → Stops z → parseRoots q timed u? ns (u ++ z) ≡ good cs z
 
-root-there : (n : ℕ) (x : List ℕ) → isRoot n (recordOf x) ≡ true → missing x ≡ false
+pub root-there : (n : ℕ) (x : List ℕ) → isRoot n (recordOf x) ≡ true → missing x ≡ false
 unfolding missing recordOf layoutOf layouts no u8 isRoot
 root-there n [] h = let z : _≡_ {A = ℕ} 0 1 = cc in absurd (omega arith)
 root-there n (b ∷ x) h = refl

@@ -13,7 +13,7 @@ use Rattle.rules.specs.declared.Order.{Order}
 use Rattle.rules.specs.declared.LastOrder.{LastOrder}
 use Rattle.rules.specs.declared.LastOrder.the-variants.{Was}
 use Rattle.rules.specs.declared.Content.{Content}
-use Rattle.rules.specs.declared.Content.the-variants.{Unsigned, Signed}
+use Rattle.rules.specs.declared.Content.the-variants.{Unset, Unsigned, Signed}
 use Rattle.rules.specs.declared.Stated.{Stated}
 use Rattle.rules.specs.declared.Stated.the-variants.{Missing, As}
 use Rattle.rules.specs.declared.Said.{Said}
@@ -254,6 +254,7 @@ module _ (e : Env) (g : Env64 e) where
     seq = λ h k. h ⨾ʷ k;
     dueʳ = λ h. word-due h;
     passes = word-pass;
+    unsets = λ i z. word-store i Unset tt;
     unset = word-refuse SlotUnset tt;
     wrongSort = word-refuse SlotOfWrongSort tt;
     inNone = word-refuse SelectorInNoOption tt;

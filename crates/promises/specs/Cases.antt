@@ -3,10 +3,16 @@
 use mathlib.Core.Path.{_≡_}
 use Prim.Native.Nat.{ℕ}
 use mathlib.Core.List.{List, [], _∷_, _++_}
+use mathlib.Core.Bool.{false}
+use mathlib.Core.Option.{none, some}
 use lib.ListN.{replicate}
+use Rattle.rules.specs.declared.Order.the-variants.{Little}
 use Rattle.rules.specs.declared.Result.{Result}
-use Rattle.rules.specs.Parse.{checked, checkedNumber}
-use Rattle.rules.specs.Read.{readAll, resultOf}
+use Rattle.rules.specs.Class.{Class, noRole, unsignedInt, fixed, dynamicBlob as blobOf, structure as structureOf, noMember, member}
+use Rattle.rules.specs.Class.{staticArray as staticOf, dynamicArray as dynamicOf}
+use Rattle.rules.specs.Table.{Table, asked}
+use Rattle.rules.specs.Parse.{checked, checkedNumber, checkedByte}
+use Rattle.rules.specs.Read.{readStream, readAll, resultOf}
 use Rattle.promises.specs.Figures.{stream1, listed}
 
 -- Records
@@ -16,6 +22,10 @@ bytes8 n = n ∷ replicate 7 0
 
 abbrev pub preamble : List ℕ
 preamble = 1 ∷ 2 ∷ []
+
+-- with no UUID
+abbrev pub traceClass : List ℕ
+traceClass = 2 ∷ replicate 17 0
 
 abbrev pub clockClass : ℕ → List ℕ
 clockClass id = 3 ∷ id ∷ bytes8 1
@@ -46,6 +56,13 @@ signed slot = 19 ∷ 8 ∷ 0 ∷ 0 ∷ slot ∷ []
 abbrev pub leb128 : List ℕ
 leb128 = 21 ∷ 255 ∷ 0 ∷ []
 
+-- with a slot, unsigned and signed
+abbrev pub lebIn : ℕ → List ℕ
+lebIn slot = 21 ∷ slot ∷ 0 ∷ []
+
+abbrev pub signedLebIn : ℕ → List ℕ
+signedLebIn slot = 22 ∷ slot ∷ []
+
 abbrev pub string : List ℕ
 string = 23 ∷ []
 
@@ -54,6 +71,12 @@ dynamicBlob slot = 27 ∷ slot ∷ []
 
 abbrev pub structure : ℕ → List ℕ
 structure n = 28 ∷ n ∷ 0 ∷ []
+
+abbrev pub staticArray : ℕ → List ℕ
+staticArray n = 29 ∷ n ∷ 0 ∷ 0 ∷ []
+
+abbrev pub dynamicArray : ℕ → List ℕ
+dynamicArray slot = 30 ∷ slot ∷ 0 ∷ []
 
 abbrev pub optional : ℕ → ℕ → List ℕ
 optional slot ranges = 31 ∷ slot ∷ ranges ∷ []
@@ -103,6 +126,37 @@ remembered =
     preamble ++ streamClass 0 255 ++ root 2 ++ structure 1 ++ plain 255 11
     ++ eventClass 0 0 ++ root 5 ++ structure 1 ++ plain 16 0 ++ eventClass 0 1 ++ root 5 ++ structure 1 ++ dynamicBlob 16
 
+-- a common context whose last member is an array: n elements, each a length in slot 16 and so many bytes; and a payload
+abbrev pub repeated : ℕ → List ℕ → List ℕ
+repeated n c =
+    preamble ++ streamClass 0 255 ++ root 3 ++ structure 1 ++ staticArray n ++ structure 2 ++ plain 16 0 ++ dynamicArray 16 ++ plain 255 0
+    ++ eventClass 0 0 ++ root 5 ++ c
+
+-- two elements: a flag in slot 16; where it holds, a length in slot 17; and so many bytes
+abbrev pub elements : List ℕ
+elements =
+    payload (structure 1 ++ staticArray 2 ++ structure 3 ++ boolean 16 ++ optional 16 0 ++ plain 17 0 ++ dynamicBlob 17)
+
+-- as many elements of the class c as slot 16 says, and then as many bytes as slot 17 says
+abbrev pub behind : List ℕ → List ℕ
+behind c = payload (structure 3 ++ plain 16 0 ++ dynamicArray 16 ++ c ++ dynamicBlob 17)
+
+-- slot 16 is set by the first member and, in an array's element, by the class c
+abbrev pub twice : List ℕ → List ℕ
+twice c = structure 2 ++ plain 16 0 ++ staticArray 1 ++ c
+
+-- as a tree that no table gives, since slot 16 has two homes in it: the common context sets it, and an element reads it before it sets it
+abbrev pub early : (Class → Class) → Table
+early array =
+    let length : Class = fixed unsignedInt 8 Little 0 16 noRole in
+    let element : Class = structureOf 0 (member (blobOf 16) (member length noMember)) in
+    record {
+      uuid = [];
+      header = none;
+      streams = record { id = 0; timed = false; context = none; header = none; common = some (structureOf 0 (member length noMember)) } ∷ [];
+      events = record { stream = 0; id = 0; specific = none; payload = some (structureOf 0 (member (array element) noMember)) } ∷ [];
+    }
+
 -- Answers
 
 abbrev pub answer : List ℕ → List ℕ → Result
@@ -113,6 +167,9 @@ result n k p i j = record { number = n; entries = k; place = p; first = i; secon
 
 abbrev pub number : List ℕ → ℕ
 number table = checkedNumber (checked table)
+
+abbrev pub byte : List ℕ → ℕ
+byte table = (checkedByte (checked table)) .0
 
 pub record Cases : Type 0 where
   -- "Aligning from the stream's start, not the packet's.": four events in each of two packets of nine bytes
@@ -159,3 +216,40 @@ pub record Cases : Type 0 where
   pub content-short : answer measured (16 ∷ 8 ∷ 0 ∷ []) ≡ result 34 5 16 0 0
   -- the clock starts at 0 in each packet, and an event's may not be below the last one's
   pub clock-back : answer stamped (16 ∷ 200 ∷ 16 ∷ 100 ∷ []) ≡ result 39 20 32 0 0
+  -- "A location must not remember the last element" (02, 3): the second element's length is absent
+  pub element-absent : answer elements (1 ∷ 1 ∷ 7 ∷ 0 ∷ []) ≡ result 26 15 32 0 0
+  pub element-present : answer elements (1 ∷ 1 ∷ 7 ∷ 1 ∷ 0 ∷ []) ≡ result 0 18 40 0 0
+  -- behind the last element its slots are unset, in another root of the event too
+  pub behind-elements : answer (repeated 1 (structure 1 ++ dynamicBlob 16)) (1 ∷ 7 ∷ 0 ∷ []) ≡ result 26 12 16 0 0
+  -- the element's own class is inside the element, whatever its kind, and so is an option
+  pub behind-leaves : answer (behind (plain 17 0)) (1 ∷ 1 ∷ 7 ∷ []) ≡ result 26 9 16 0 0
+  pub behind-lebs : answer (behind (lebIn 17)) (1 ∷ 1 ∷ 7 ∷ []) ≡ result 26 9 16 0 0
+  pub behind-signed-lebs : answer (behind (signedLebIn 17)) (1 ∷ 1 ∷ 7 ∷ []) ≡ result 26 9 16 0 0
+  pub behind-options : answer (behind (variant 16 1 ++ option 1 ++ range 0 9 ++ plain 17 0)) (1 ∷ 1 ∷ 7 ∷ []) ≡ result 26 10 16 0 0
+  -- before the first element its slots are unset
+  pub before-static : resultOf (readStream (asked (early (staticOf 1 0))) (1 ∷ 7 ∷ 0 ∷ []) 400) ≡ result 26 10 8 0 0
+  pub before-dynamic : resultOf (readStream (asked (early (dynamicOf 16 0))) (1 ∷ 7 ∷ 0 ∷ []) 400) ≡ result 26 10 8 0 0
+  -- an option is no element: its slot is kept, and has the home of what is beside the variant; so has an optional's
+  pub option-kept : answer (payload (structure 4 ++ plain 16 0 ++ plain 17 0 ++ variant 16 1 ++ option 1 ++ range 0 9 ++ plain 17 0 ++ dynamicBlob 17)) (0 ∷ 0 ∷ 1 ∷ 7 ∷ [])
+      ≡ result 0 12 32 0 0
+  pub optional-home : number (payload (structure 3 ++ boolean 16 ++ plain 17 0 ++ optional 16 0 ++ plain 17 0)) ≡ 0
+  -- "A slot is set both inside an array element and outside it": in another root; in the element itself, outside an inner array; behind a dynamic array
+  pub two-homes : number (repeated 1 (structure 1 ++ plain 16 0)) ≡ 11
+  pub inner-home : number (payload (structure 1 ++ staticArray 1 ++ structure 2 ++ plain 16 0 ++ staticArray 1 ++ plain 16 0)) ≡ 11
+  pub dynamic-home : number (payload (structure 3 ++ plain 16 0 ++ dynamicArray 16 ++ plain 17 0 ++ plain 17 0)) ≡ 11
+  pub one-home : number (repeated 1 (structure 1 ++ plain 17 0)) ≡ 0
+  -- numbers in LEB128 set slots too
+  pub leb-home : number (payload (structure 2 ++ lebIn 16 ++ staticArray 1 ++ signedLebIn 16)) ≡ 11
+  pub signed-leb-home : number (payload (structure 2 ++ signedLebIn 16 ++ staticArray 1 ++ lebIn 16)) ≡ 11
+  -- two arrays side by side; the header's roots with a stream class's; two event classes never meet
+  pub two-arrays : number (payload (structure 2 ++ staticArray 1 ++ plain 16 0 ++ staticArray 1 ++ plain 16 0)) ≡ 11
+  pub header-home : number (preamble ++ traceClass ++ root 0 ++ structure 1 ++ staticArray 1 ++ plain 0 0 ++ streamClass 0 255 ++ root 1 ++ structure 1 ++ plain 0 0) ≡ 11
+  pub event-classes : number (payload (structure 1 ++ staticArray 1 ++ plain 16 0) ++ eventClass 0 1 ++ root 5 ++ structure 1 ++ plain 16 0) ≡ 0
+  -- at the later class of the two; and "the first record with a fault decides": before an unknown kind, behind an unknown clock
+  pub later-class : byte (payload (twice (plain 16 0))) ≡ 44
+  pub home-first : number (payload (twice (plain 16 0)) ++ (99 ∷ [])) ≡ 11
+  pub home-behind : number (preamble ++ streamClass 0 1 ++ eventClass 0 0 ++ root 5 ++ twice (plain 16 0)) ≡ 8
+  -- "and there the lowest number": 11 before 12 and, at depth 9, before 14; 10 before 11
+  pub home-role : number (payload (twice (plain 16 11))) ≡ 11
+  pub home-deep : number (payload (twice (structure 1 ++ structure 1 ++ structure 1 ++ structure 1 ++ structure 1 ++ structure 1 ++ plain 16 0))) ≡ 11
+  pub home-length : number (payload (twice (unsigned 65 0 0 16 0))) ≡ 10

@@ -9,6 +9,8 @@ pub mod Results
 pub mod Only
 pub mod OnlyRan
 pub mod Laws
+pub mod Elements
+pub mod SlotHomes
 pub mod Cases
 pub mod Rejected
 pub mod Standard

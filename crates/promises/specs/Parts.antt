@@ -12,9 +12,11 @@ use Rattle.rules.specs.Limits.{tableLimit}
 use Rattle.rules.specs.Bits.{bits}
 use Rattle.rules.specs.Leb128.{lebUnsigned, lebSigned}
 use Rattle.rules.specs.Table.{Table, asked}
-use Rattle.rules.specs.Parse.{good, parse, checked}
+use Rattle.rules.specs.Parse.{good, parseTable, parse, checkedOf, checked}
+use Rattle.rules.specs.Homes.{walk}
 use Rattle.leb128.specs.Answer.{SettledAtTenth}
 use Rattle.table_offsets.specs.Check.{checkedAt}
+use Rattle.table_offsets.specs.Earlier.{faultByte, earlier}
 use Rattle.class_layout.specs.Fragments.{fragmentsOf, askedAt, AllFragments}
 
 -- a number stays the same where the stream is cut k bytes in front of it, or behind it
@@ -28,8 +30,10 @@ pub record LebSettled : Type 0 where
   pub signed : SettledAtTenth lebSigned (λ b. (b ≡ 0) ⊎ (b ≡ 127))
 
 pub record CheckTied : Type 0 where
-  -- by offsets, as the code walks, and by trees, as the rules parse: one answer
-  pub tie : (t : List ℕ) → Bytes t → checkedAt t ≡ checked t
+  -- by offsets, as the code walks, and by trees, as the rules parse: one answer, but for the homes of slots
+  pub tie : (t : List ℕ) → Bytes t → checkedAt t ≡ checkedOf t (parseTable t)
+  -- and the rules' answer is this one or the walk's, whichever is earlier
+  pub first : (t : List ℕ) → Bytes t → checked t ≡ earlier (length t) (checkedAt t) (faultByte t (walk t))
   -- and no other
   pub once : (t : List ℕ) (r s : Checked) → r ≡ checked t → s ≡ checked t → r ≡ s
 

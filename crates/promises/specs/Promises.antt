@@ -12,6 +12,8 @@ use Rattle.promises.specs.OnlyRan.{NoSlackRan}
 use Rattle.promises.specs.Figures.{Figures}
 use Rattle.promises.specs.Cases.{Cases}
 use Rattle.promises.specs.Laws.{TheLaws}
+use Rattle.promises.specs.Elements.{Elements}
+use Rattle.promises.specs.SlotHomes.{SlotHomes}
 use Rattle.promises.specs.Parts.{BitsCut, LebSettled, CheckTied, TableStands}
 use Rattle.promises.specs.Apart.{Apart, ApartFigures, ApartOfCalls}
 
@@ -34,6 +36,8 @@ pub record Promises : Type 0 where
   pub figures : Figures
   pub cases : Cases
   pub the-laws : TheLaws
+  pub elements : Elements
+  pub slot-homes : SlotHomes
   -- packets stand on their own: of the rules alone, and of every two calls that meet the contract of `read`
   pub apart : Apart
   pub apart-figures : ApartFigures

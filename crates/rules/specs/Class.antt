@@ -1,8 +1,9 @@
 -- Field classes as trees, and the alignment that a field needs.
 use Prim.Native.Nat.{ℕ, _+_, _^_, max, _%_}
-use mathlib.Core.List.{List, [], _∷_}
-use mathlib.Core.Bool.{Bool, false, _&&_, _||_}
-use lib.Dec.{leb}
+use mathlib.Core.List.{List, [], _∷_, _++_}
+use mathlib.Core.Bool.{Bool, true, false, _&&_, _||_}
+use lib.Dec.{leb, eqb}
+use Rattle.rules.specs.Limits.{noSlot}
 use Rattle.rules.specs.declared.Order.{Order}
 
 -- "Roles: 1 magic, 2 stream class id, 3 stream id, 4 UUID in root 0; 5 total length, 6 content length, 7 clock, 8 end clock, 9
@@ -85,6 +86,36 @@ unfoldable mutual
   pub alignsOf : Classes → ℕ
   alignsOf noMember = 1
   alignsOf (member c cs) = max (alignOf c) (alignsOf cs)
+
+-- the slot that a class sets, or none
+unfoldable pub setting : ℕ → List ℕ
+setting i = elim (eqb i noSlot) [ true ↦ [] | false ↦ i ∷ [] ]
+
+-- "the slots that any class inside that element can set" (02, 3): those of a class and of all that it holds, whichever is read
+unfoldable mutual
+  pub sets : Class → List ℕ
+  sets (fixed k n o a i r) = setting i
+  sets (leb128 i r) = setting i
+  sets (signedLeb128 i) = setting i
+  sets string = []
+  sets (staticString n) = []
+  sets (staticBlob n r) = []
+  sets (dynamicString i) = []
+  sets (dynamicBlob i) = []
+  sets (structure a cs) = membersSet cs
+  sets (staticArray n a c) = sets c
+  sets (dynamicArray i a c) = sets c
+  sets (flagged i c) = sets c
+  sets (optional i g rs c) = sets c
+  sets (variant i g os) = optionsSet os
+
+  pub membersSet : Classes → List ℕ
+  membersSet noMember = []
+  membersSet (member c cs) = sets c ++ membersSet cs
+
+  pub optionsSet : Options → List ℕ
+  optionsSet noOption = []
+  optionsSet (option rs c os) = sets c ++ optionsSet os
 
 -- 64-bit words in the order of the numbers that they stand for
 unfoldable pub key : Sign → ℕ → ℕ

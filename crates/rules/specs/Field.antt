@@ -27,7 +27,7 @@ use Rattle.rules.specs.Leb128.{lebWidth, lebUnsigned, lebSigned}
 use Rattle.rules.specs.Clock.{clockAfter}
 use Rattle.rules.specs.Text.{textLength, zeroAt}
 use Rattle.rules.specs.Place.{bitPlace, further, alignFrom}
-use Rattle.rules.specs.Slots.{slotAt, setSlot}
+use Rattle.rules.specs.Slots.{slotAt, setSlot, unset}
 use Rattle.rules.specs.Class.{Role, noRole, magic, streamClassId, streamId, uuid, totalLength, contentLength, clock, endClock}
 use Rattle.rules.specs.Class.{discarded, sequence, eventClassId}
 use Rattle.rules.specs.Class.{Sort, bitArray, boolean, unsignedInt, signedInt, float, kindOf, Sign, plain, signed as withSign}
@@ -35,7 +35,7 @@ use Rattle.rules.specs.Class.{anyHolds}
 use Rattle.rules.specs.Class.{Class, fixed, leb128, signedLeb128, string, staticString, staticBlob, dynamicString, dynamicBlob}
 use Rattle.rules.specs.Class.{structure, staticArray, dynamicArray, flagged, optional, variant, Classes, noMember, member, Options}
 use Rattle.rules.specs.Class.{noOption, option}
-use Rattle.rules.specs.Class.{count, alignOf}
+use Rattle.rules.specs.Class.{count, alignOf, sets}
 use Rattle.rules.specs.Entry.{entry, clockAdvanced}
 use Rattle.rules.specs.Step.{State, Step, _⨾_, pass, refuse, check, due, listed, change, withSlots, withOrder, withClock, withSaid}
 
@@ -211,6 +211,10 @@ unfoldable pub times : ℕ → Step → Step
 times zero m = pass
 times (suc n) m = m ⨾ times n m
 
+-- "at the start and the end of each array element, the slots that any class inside that element can set become unset" (02, 3)
+unfoldable pub forget : Class → Step
+forget c = change (λ s. withSlots (unset (s .slots) (sets c)) s)
+
 -- an optional that is there, and one that is not
 unfoldable pub present : Env → Bool → Step → Step
 present e true m = field e 31 1 0 1 ⨾ m
@@ -228,11 +232,11 @@ unfoldable mutual
   read e (dynamicBlob i) = due ⨾ fromSlot i (λ x. asLength x (λ n. readBlob e 27 n noRole))
   read e (structure a cs) = due ⨾ fit e (alignOf (structure a cs)) 0 ⨾ field e 28 (alignOf (structure a cs)) 0 (count cs) ⨾ readMembers e cs
   read e (staticArray n a c) =
-      due ⨾ fit e (alignOf (staticArray n a c)) 0 ⨾ field e 29 (alignOf (staticArray n a c)) 0 n ⨾ times n (read e c)
+      due ⨾ fit e (alignOf (staticArray n a c)) 0 ⨾ field e 29 (alignOf (staticArray n a c)) 0 n ⨾ times n (forget c ⨾ read e c ⨾ forget c)
   read e (dynamicArray i a c) =
       due
       ⨾ fromSlot i (λ x. asLength x (λ n.
-      fit e (alignOf (dynamicArray i a c)) 0 ⨾ field e 30 (alignOf (dynamicArray i a c)) 0 n ⨾ times n (read e c)))
+      fit e (alignOf (dynamicArray i a c)) 0 ⨾ field e 30 (alignOf (dynamicArray i a c)) 0 n ⨾ times n (forget c ⨾ read e c ⨾ forget c)))
   read e (flagged i c) = due ⨾ fromSlot i (λ x. asFlag x (λ b. present e b (read e c)))
   read e (optional i g rs c) = due ⨾ fromSlot i (λ x. asNumber g x (λ v. present e (anyHolds g v rs) (read e c)))
   read e (variant i g os) = due ⨾ fromSlot i (λ x. asNumber g x (λ v. readOption e g v 0 os))

@@ -10,6 +10,7 @@ pub mod Slots
 pub mod Class
 pub mod Record
 pub mod Faults
+pub mod Homes
 pub mod Table
 pub mod Parse
 pub mod Entry

@@ -18,9 +18,10 @@ use Rattle.rules.specs.Class.{structure, staticArray, dynamicArray, flag
 use Rattle.rules.specs.Record.{Shape, bitField, lebField, signedLebField, zeroString, text, blob, textOf, blobOf, members, elements, elementsOf, option?, options}
 use Rattle.rules.specs.Record.{Says, Fragment, preamble, traceClass, clockClass, streamClass, eventClass}
 use Rattle.rules.specs.Record.{Record, unknown, fragment, root, class, range, option, recordOf, behind, size}
-use Rattle.rules.specs.Faults.{badSize, unknownKind, cutShort, kindNotAllowed, tooDeep, pick, Ids, noIds, seen, recordFault, firstFault}
+use Rattle.rules.specs.Faults.{slotNotAllowed, badSize, unknownKind, cutShort, kindNotAllowed, tooDeep, pick, Ids, noIds, seen, recordFault, firstFault}
 use Rattle.rules.specs.Faults.{Spot, top, inside, memberSpot, Under, roleOf, classFault, signOf, rangeFault, optionFault, rootFault, openFault}
 use Rattle.rules.specs.Table.{Table}
+use Rattle.rules.specs.Homes.{Walked, fault, walked, lost, walk}
 
 -- a number, and the bytes from the faulty record on; or what was read, and the bytes behind it
 pub data Parsed (A : Type 0) : Type 0 where
@@ -237,14 +238,28 @@ parseFragments zero q x = good noTable x
 parseFragments (suc left) q x =
     elim (missing x) [ true ↦ good noTable x | false ↦ one q (openFault q) (λ r x. parseOpened q (parseFragments left) r x) x ]
 
--- "Number 1 is tested first, at byte 0."
-unfoldable pub parse : Parser Table
-parse x =
+-- "Number 1 is tested first, at byte 0." All but the homes of slots
+unfoldable pub parseTable : Parser Table
+parseTable x =
     elim (missing x || ltb tableLimit (length x)) [
       | true ↦ bad badSize x
       | false ↦ sound (firstFault (ltb (length x) (size x)) (recordOf x)) x λ x.
           then (parseRoots noIds false false [] x) λ cs x. parseFragments (length x) noIds x
     ]
+
+-- "Then the first record with a fault decides, by its first byte, and there the lowest number": with a class that sets a slot of another home,
+-- which has the bytes y from it on
+unfoldable pub orFault : Parsed Table → Walked → Parsed Table
+orFault (good t x) (fault y) = bad slotNotAllowed y
+orFault (good t x) (walked hs y) = good t x
+orFault (good t x) lost = good t x
+orFault (bad n x) (walked hs y) = bad n x
+orFault (bad n x) lost = bad n x
+orFault (bad n x) (fault y) =
+    elim (ltb (length x) (length y) || (eqb (length x) (length y) && ltb slotNotAllowed n)) [ true ↦ bad slotNotAllowed y | false ↦ bad n x ]
+
+unfoldable pub parse : Parser Table
+parse x = orFault (parseTable x) (walk x)
 
 -- The answer
 

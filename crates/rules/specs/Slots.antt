@@ -1,7 +1,7 @@
 -- "Slots stand for field locations: there are sixty-four slots, and a slot is unset, a flag, an unsigned number or a signed number."
 -- (The class table)
 use Prim.Native.Nat.{ℕ, _-_}
-use mathlib.Core.List.{List, _++_}
+use mathlib.Core.List.{List, [], _∷_, _++_}
 use lib.ListN.{getD, set, take, replicate}
 use Rattle.rules.specs.declared.Content.{Content}
 use Rattle.rules.specs.declared.Content.the-variants.{Unset}
@@ -27,3 +27,7 @@ slotAt l i = (getD l i (slot Unset)) .content
 -- "A later field with the same slot overwrites it." 255, no slot, lies past the sixty-four, where nothing is set
 unfoldable pub setSlot : Slots → ℕ → Content → Slots
 setSlot l i x = set l i (slot x)
+
+unfoldable pub unset : Slots → List ℕ → Slots
+unset l [] = l
+unset l (i ∷ is) = unset (setSlot l i Unset) is

@@ -1,7 +1,7 @@
 pub mod Rows
 pub mod Picked
 pub mod Sound
-mod Places
+pub mod Places
 pub mod Searched
 pub mod Ordered
 pub mod Walked
@@ -10,10 +10,10 @@ pub mod Ends
 pub mod FragmentOpens
 pub mod Rounds
 pub mod Begun
-mod TieTests
-mod TieBytes
-mod TieKinds
-mod TieHead
+pub mod TieTests
+pub mod TieBytes
+pub mod TieKinds
+pub mod TieHead
 mod TieIds
 mod TieOrder
 mod TieWalk
@@ -25,3 +25,4 @@ mod TieClasses
 mod TieRoots
 mod TieFragments
 pub mod TieCheck
+pub mod Earlier

@@ -1,5 +1,5 @@
--- The check by offsets is the rules' answer, for every list of bytes; and there is one answer alone. In order: the first record; a root
--- behind it; the whole table. The parts stand in the files Tie..., from the bytes of a record up to the fragments.
+-- The check by offsets is the rules' answer, but for the homes of slots, for every list of bytes; and there is one answer alone. In order:
+-- the first record; a root behind it; the whole table. The parts stand in the files Tie..., from the bytes of a record up to the fragments.
 use mathlib.Core.Path.{_≡_, refl, sym, ap, _∙_}
 use mathlib.Core.Bool.{Bool, true, false, _||_}
 use mathlib.Core.List.{List, [], _∷_}
@@ -17,7 +17,7 @@ use Rattle.rules.specs.Table.{Table}
 use Rattle.rules.specs.Record.{preamble, traceClass, clockClass, streamClass, eventClass, Record, unknown, fragment, root, class, range}
 use Rattle.rules.specs.Record.{option, recordOf, behind, size}
 use Rattle.rules.specs.Faults.{pick, noIds, firstFault as rulesFault}
-use Rattle.rules.specs.Parse.{Parser, bad, then, sound, missing, parseRoots, parseFragments, parse, byteOf, checkedOf, checked}
+use Rattle.rules.specs.Parse.{Parser, bad, then, sound, missing, parseRoots, parseFragments, parseTable, byteOf, checkedOf, checked}
 use Rattle.table_offsets.specs.declared.Walk.the-variants.{Fine}
 use Rattle.table_offsets.specs.Bodies.{known, noKind}
 use Rattle.table_offsets.specs.Check.{pickN, first, orElse, byteAt, headFault, orderFault}
@@ -148,10 +148,10 @@ first-checked t b m = sound-checked t 0 t (all t) _ (firstFault t) (first-number
     let k = eqb-true (byteAt t 0) 1 (first-kind (eqb (byteAt t 0) 1) (eqb (byteAt t 1) 2) (h .1)) in
     rest-checked t b (behind t) (rest-behind t 0 t (all t) w 1 (a-preamble t _ _ (stands-as t 0 t (all t) 1 k) (w .known))))
 
--- the check by offsets is the rules' answer
-pub check-tie : (t : List ℕ) → Bytes t → checkedAt t ≡ checked t
-unfolding checkedAt checked parse rest
-check-tie t b = rw (missing-all t, parse) (by (eqb (length t) 0 || ltb 65536 (length t)) refl)
+-- the check by offsets is the rules' answer, but for the homes of slots
+pub check-tie : (t : List ℕ) → Bytes t → checkedAt t ≡ checkedOf t (parseTable t)
+unfolding checkedAt parseTable rest
+check-tie t b = rw (missing-all t, parseTable) (by (eqb (length t) 0 || ltb 65536 (length t)) refl)
   where
     by : (c : Bool) → (eqb (length t) 0 || ltb 65536 (length t)) ≡ c
         → elim c [

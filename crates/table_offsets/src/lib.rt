@@ -1,5 +1,6 @@
-// The check of a class table by offsets, as the code walks: its definition (specs/Check) and its law, that it is the rules' own answer
-// (proofs/TieCheck). Here are the types that the definition shares with the code.
+// The check of a class table by offsets, as the code walks: its definition (specs/Check) and its law, that it is the rules' own answer but
+// for the homes of slots (proofs/TieCheck), and beside the walk over these the whole answer (proofs/Earlier). Here are the types that the
+// definition shares with the code.
 
 // A kind's body: so many bytes; or there is no such kind.
 pub enum Body {

@@ -3,6 +3,7 @@
 // bodies        how long the body of each kind of record is
 // head_fault    whether a record is one and all there
 // record_says   what a class record says, all kinds in one form
+// slot_named    the slot that a record names to be set, and nothing else of it
 use bodies::NO_KIND;
 use bodies::mark_of;
 use numbers::faults;
@@ -17,6 +18,7 @@ ghost use mathlib.Core.Path.{_≡_};
 ghost use Prim.Native.Nat.{_≤_, _<_, _+_, _^_};
 ghost use lib.ListN.{getD};
 ghost use Rattle.table_offsets.specs.Check.{headFault, bitsSay, say, saysAt};
+ghost use Rattle.table_records.specs.Named.{slotPlace, namedAt};
 
 pub mod bodies;
 
@@ -164,4 +166,37 @@ fn plain(kind: u8, sets: u8, reads: u8, role: u8, count: usize, align: u8) -> Sa
         role: role,
         count: count,
     }
+}
+
+// Where a record names the slot to set, from its first byte: behind "length, order, align"; first in its body (The class table); or not.
+const BEHIND_ALIGN: usize = 4;
+
+const FIRST_IN_BODY: usize = 1;
+
+const NOWHERE: usize = 0;
+
+// How far behind its first byte a record of a kind names the slot to set.
+fn slot_place(kind: u8) -> usize
+    ensures { λ r. ⌜ (r ≡ slotPlace kind) × (r ≤ 4) ⌝ }
+{
+    match kind {
+        kinds::BOOLEAN => BEHIND_ALIGN,
+        kinds::UNSIGNED => BEHIND_ALIGN,
+        kinds::SIGNED => BEHIND_ALIGN,
+        kinds::LEB128_UNSIGNED => FIRST_IN_BODY,
+        kinds::LEB128_SIGNED => FIRST_IN_BODY,
+        _ => NOWHERE,
+    }
+}
+
+// The slot that the record at a byte names to be set, 255 where none.
+pub fn slot_named(table: &[u8], at: usize) -> u8
+    requires { ⌜ at < 2 ^ 63 ⌝ }
+    ensures { λ r. ⌜ r ≡ namedAt (now (table .entry)) at ⌝ }
+{
+    let place = slot_place(byte(table, at));
+    if place == NOWHERE {
+        return limits::NO_SLOT;
+    }
+    byte(table, at + place)
 }

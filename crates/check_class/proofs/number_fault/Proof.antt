@@ -5,7 +5,7 @@ use Prim.Native.Nat.{ℕ}
 use borrow.Author.Needs.{needs}
 use borrow.Author.Tests.{lt-ltb, le-ltb}
 use lib.Dec.{ltb}
-use Rattle.table_offsets.specs.Check.{inside, lengthOk, countOk, numberFault, pickN}
+use Rattle.table_offsets.specs.Check.{inside, countOk, numberFault, pickN}
 use Rattle.table_offsets.specs.declared.Says.{Says}
 use Rattle.check_class.proofs.number_fault.Statement.{statement}
 use Rattle.check_class.proofs.number_fault.Tie as tie

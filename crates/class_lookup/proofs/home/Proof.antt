@@ -1,6 +1,5 @@
 -- The product fits 64 bits, its first factor being below 2 to the 31.
 use borrow.Author.Needs.{needs}
-use mathlib.Core.Path.{sym}
 use Prim.Native.Nat.{_+_, _*_, _≤_}
 use native.Mathlib.Omega.{arith}
 use native.Mathlib.Nat.{mul-le-mul-right}

@@ -6,11 +6,13 @@ use mathlib.Core.Path.{_≡_, refl, sym, ap, _∙_}
 use Prim.Native.Nat.{_+_}
 use native.Mathlib.Omega.{arith}
 use Rattle.rules.specs.Record.{u8}
+use Rattle.class_layout.specs.Words.{setsOne}
 use Rattle.class_layout.specs.Notes.{notes}
 use Rattle.class_layout.proofs.Reached.{bits-reach, bytes-reach, structure-reach, array-reach, dynamic-reach, optional-reach, variant-reach}
 
--- Places of the code, in its order: all is given; the kind was read; it is one of 16 to 20; of 21 to 27; of 28 to 32; and of these, where
--- the class ends was asked: a structure, an array, a dynamic array, an optional, a variant
+-- Places of the code, in its order: all is given; the kind was read; it is one of 16 to 20, whose record's size is known, and then its
+-- exponent; of 21 to 27; of 28 to 32; and of these, where the class ends was asked, of arrays then the larger exponent: a structure, an
+-- array, a dynamic array, an optional, a variant
 
 abbrev AtStart : Type 0
 AtStart = tie.Start
@@ -20,6 +22,12 @@ AtKind = tie.After-shared-slice-known4
 
 abbrev AtBits : Type 0
 AtBits = tie.Then1
+
+abbrev AtBitsSize : Type 0
+AtBitsSize = tie.After-record-size
+
+abbrev AtBitsAlign : Type 0
+AtBitsAlign = tie.After-wide64
 
 abbrev AtBytes : Type 0
 AtBytes = tie.Then2
@@ -33,14 +41,20 @@ AtStructure = tie.After-reach-members
 abbrev AtArray : Type 0
 AtArray = tie.After-end-noted
 
+abbrev AtArrayAlign : Type 0
+AtArrayAlign = tie.After-larger2
+
 abbrev AtDynamic : Type 0
 AtDynamic = tie.After-end-noted2
+
+abbrev AtDynamicAlign : Type 0
+AtDynamicAlign = tie.After-larger3
 
 abbrev AtOptional : Type 0
 AtOptional = tie.After-end-noted3
 
 abbrev AtVariant : Type 0
-AtVariant = tie.After-behind-options
+AtVariant = tie.After-reach-options
 
 -- The way back
 
@@ -49,6 +63,9 @@ start c = c .before .before .before .before
 
 abbrev bits-start : AtBits → AtStart
 bits-start c = start (c .before)
+
+abbrev bits-size : AtBitsAlign → AtBitsSize
+bits-size c = c .before .before
 
 abbrev bytes-start : AtBytes → AtStart
 bytes-start c = start (c .before .before)
@@ -59,8 +76,14 @@ holder-start c = start (c .before .before)
 abbrev structure-start : AtStructure → AtStart
 structure-start c = holder-start (c .before .before .before)
 
+abbrev array : AtArrayAlign → AtArray
+array c = c .before .before .before .before
+
 abbrev array-start : AtArray → AtStart
 array-start c = holder-start (c .before .before)
+
+abbrev dynamic : AtDynamicAlign → AtDynamic
+dynamic c = c .before .before .before .before
 
 abbrev dynamic-start : AtDynamic → AtStart
 dynamic-start c = holder-start (c .before .before)
@@ -91,8 +114,8 @@ record-size-requires : tie.Need-record-size-requires
 unfolding u8
 record-size-requires c κs = (bits-start c .pre .2, bits-start c .pre .3)
 
-add-t11 : tie.Need-add-t11
-add-t11 c = search needs
+add-t12 : tie.Need-add-t12
+add-t12 c = search needs
 
 add-byte : tie.Need-add-byte
 add-byte c = search needs
@@ -100,16 +123,30 @@ add-byte c = search needs
 byte-requires : tie.Need-byte-requires
 byte-requires c κs = search needs
 
+wide64-requires : tie.Need-wide64-requires
+wide64-requires c κs = search needs
+
+slot-named-requires : tie.Need-slot-named-requires
+slot-named-requires c κs = search needs
+
+sets-one-requires : tie.Need-sets-one-requires
+sets-one-requires c κs = search needs
+
 returns : tie.Need-returns
 unfolding u8
 returns c =
-    let b = c .before .before in
+    let named = c .before in
+    let read = named .before in
+    let size = bits-size read in
+    let b = size .before in
     let a = bits-start b .args in
     let x = notes (a .sizes .now) (a .aligns .now) in
     let r = bits-reach (a .table .now) x (a .at) _ refl (bits-start b .pre .2) (b .if1 .taken) in
+    let set = c .sets-one .ensures in
     record {
-      end = ap (λ n. a .at + n) (c .before .record-size .ensures .0) ∙ sym (r .0);
-      align = c .byte .ensures ∙ sym (r .1);
+      end = ap (λ n. a .at + n) (size .record-size .ensures .0) ∙ sym (r .0);
+      align = read .wide64 .ensures .0 ∙ read .before .byte .ensures ∙ sym (r .1);
+      sets = (set .0 ∙ ap setsOne (named .slot-named .ensures) ∙ sym (r .2), set .1);
       onward = omega arith;
     }
 
@@ -118,19 +155,29 @@ returns c =
 record-size-requires-2 : tie.Need-record-size-requires-2
 record-size-requires-2 c κs = search needs
 
-add-t15 : tie.Need-add-t15
-add-t15 c = search needs
+add-t19 : tie.Need-add-t19
+add-t19 c = search needs
+
+slot-named-requires-2 : tie.Need-slot-named-requires-2
+slot-named-requires-2 c κs = search needs
+
+sets-one-requires-2 : tie.Need-sets-one-requires-2
+sets-one-requires-2 c κs = search needs
 
 returns-2 : tie.Need-returns-2
 unfolding u8
 returns-2 c =
-    let b = c .before in
+    let named = c .before in
+    let size = named .before in
+    let b = size .before in
     let a = bytes-start b .args in
     let x = notes (a .sizes .now) (a .aligns .now) in
     let r = bytes-reach (a .table .now) x (a .at) _ refl (b .before .if1 .left) (b .if2 .taken) in
+    let set = c .sets-one2 .ensures in
     record {
-      end = ap (λ n. a .at + n) (c .record-size2 .ensures .0) ∙ sym (r .0);
+      end = ap (λ n. a .at + n) (size .record-size2 .ensures .0) ∙ sym (r .0);
       align = sym (r .1);
+      sets = (set .0 ∙ ap setsOne (named .slot-named2 .ensures) ∙ sym (r .2), set .1);
       onward = omega arith;
     }
 
@@ -154,6 +201,9 @@ add-byte-2 c = search needs
 byte-requires-2 : tie.Need-byte-requires-2
 byte-requires-2 c κs = search needs
 
+wide64-requires-2 : tie.Need-wide64-requires-2
+wide64-requires-2 c κs = search needs
+
 larger-requires : tie.Need-larger-requires
 larger-requires c κs = search needs
 
@@ -169,14 +219,23 @@ add-byte-3 c = search needs
 byte-requires-3 : tie.Need-byte-requires-3
 byte-requires-3 c κs = search needs
 
-add-byte-4 : tie.Need-add-byte-4
-add-byte-4 c = search needs
+wide64-requires-3 : tie.Need-wide64-requires-3
+wide64-requires-3 c κs = search needs
 
-byte-requires-4 : tie.Need-byte-requires-4
-byte-requires-4 c κs = search needs
+add-align-noted : tie.Need-add-align-noted
+add-align-noted c = search needs
+
+align-noted-requires : tie.Need-align-noted-requires
+align-noted-requires c κs = search needs
 
 larger-requires-2 : tie.Need-larger-requires-2
 larger-requires-2 c κs = search needs
+
+add-sets-noted : tie.Need-add-sets-noted
+add-sets-noted c = search needs
+
+sets-noted-requires : tie.Need-sets-noted-requires
+sets-noted-requires c κs = search needs
 
 add-end-noted-2 : tie.Need-add-end-noted-2
 add-end-noted-2 c = search needs
@@ -184,23 +243,32 @@ add-end-noted-2 c = search needs
 end-noted-requires-2 : tie.Need-end-noted-requires-2
 end-noted-requires-2 c κs = search needs
 
-add-byte-5 : tie.Need-add-byte-5
-add-byte-5 c = search needs
+add-byte-4 : tie.Need-add-byte-4
+add-byte-4 c = search needs
 
-byte-requires-5 : tie.Need-byte-requires-5
-byte-requires-5 c κs = search needs
+byte-requires-4 : tie.Need-byte-requires-4
+byte-requires-4 c κs = search needs
 
-add-byte-6 : tie.Need-add-byte-6
-add-byte-6 c = search needs
+wide64-requires-4 : tie.Need-wide64-requires-4
+wide64-requires-4 c κs = search needs
 
-byte-requires-6 : tie.Need-byte-requires-6
-byte-requires-6 c κs = search needs
+add-align-noted-2 : tie.Need-add-align-noted-2
+add-align-noted-2 c = search needs
+
+align-noted-requires-2 : tie.Need-align-noted-requires-2
+align-noted-requires-2 c κs = search needs
 
 larger-requires-3 : tie.Need-larger-requires-3
 larger-requires-3 c κs = search needs
 
-add-end-noted-3 : tie.Need-add-end-noted-3
-add-end-noted-3 c = search needs
+add-sets-noted-2 : tie.Need-add-sets-noted-2
+add-sets-noted-2 c = search needs
+
+sets-noted-requires-2 : tie.Need-sets-noted-requires-2
+sets-noted-requires-2 c κs = search needs
+
+add-class : tie.Need-add-class
+add-class c = search needs
 
 add-wide-byte-2 : tie.Need-add-wide-byte-2
 add-wide-byte-2 c = search needs
@@ -208,17 +276,20 @@ add-wide-byte-2 c = search needs
 wide-byte-requires-2 : tie.Need-wide-byte-requires-2
 wide-byte-requires-2 c κs = search needs
 
-mul-end-noted : tie.Need-mul-end-noted
-mul-end-noted c = search needs
+mul-class : tie.Need-mul-class
+mul-class c = search needs
 
-add-end-noted-4 : tie.Need-add-end-noted-4
-add-end-noted-4 c = search needs
+add-class-2 : tie.Need-add-class-2
+add-class-2 c = search needs
 
 end-noted-requires-3 : tie.Need-end-noted-requires-3
 end-noted-requires-3 c κs = search needs
 
-add-behind-options : tie.Need-add-behind-options
-add-behind-options c = search needs
+sets-noted-requires-3 : tie.Need-sets-noted-requires-3
+sets-noted-requires-3 c κs = search needs
+
+add-reach-options : tie.Need-add-reach-options
+add-reach-options c = search needs
 
 add-wide-byte-3 : tie.Need-add-wide-byte-3
 add-wide-byte-3 c = search needs
@@ -226,58 +297,76 @@ add-wide-byte-3 c = search needs
 wide-byte-requires-3 : tie.Need-wide-byte-requires-3
 wide-byte-requires-3 c κs = search needs
 
-behind-options-requires : tie.Need-behind-options-requires
-behind-options-requires c κs = search needs
+reach-options-requires : tie.Need-reach-options-requires
+reach-options-requires c κs = search needs
 
 -- and what each gives
 
 returns-3 : tie.Need-returns-3
 unfolding u8
 returns-3 c =
-    let b = c .before .before in
+    let own = c .before in
+    let b = own .before .before in
     let a = structure-start b .args in
     let r = structure-reach (a .table .now) (notes (a .sizes .now) (a .aligns .now)) (a .at) (b .before .before .match .keys1) in
     let m = b .reach-members .ensures in
     let n = b .before .wide-byte .ensures .0 in
     record {
       end = rw (m .end, n) (r .0);
-      align = rw (c .larger .ensures, c .before .byte2 .ensures, m .align, n) (r .1);
+      align = rw (c .larger .ensures, own .wide642 .ensures .0, own .before .byte2 .ensures, m .align, n) (r .1);
+      sets = (rw (m .sets .0, n) (r .2), m .sets .1);
       onward = omega (arith, m .onward);
     }
 
 returns-4 : tie.Need-returns-4
 unfolding u8
 returns-4 c =
-    let b = c .before .before .before in
+    let g = c .before in
+    let inner = g .before in
+    let own = inner .before in
+    let b = array g in
     let a = array-start b .args in
     let r = array-reach (a .table .now) (notes (a .sizes .now) (a .aligns .now)) (a .at) (b .before .match .keys2) in
+    let set = c .sets-noted .ensures in
     record {
       end = b .end-noted .ensures .0 ∙ r .0;
-      align = rw (c .larger2 .ensures, c .before .before .byte3 .ensures, c .before .byte4 .ensures) (r .1);
+      align =
+          rw (g .larger2 .ensures, own .wide643 .ensures .0, own .before .byte3 .ensures, inner .align-noted .ensures .0) (r .1);
+      sets = (set .0 ∙ r .2, set .1);
       onward = omega (arith, b .end-noted .ensures .0);
     }
 
 returns-5 : tie.Need-returns-5
 unfolding u8
 returns-5 c =
-    let b = c .before .before .before in
+    let g = c .before in
+    let inner = g .before in
+    let own = inner .before in
+    let b = dynamic g in
     let a = dynamic-start b .args in
     let r = dynamic-reach (a .table .now) (notes (a .sizes .now) (a .aligns .now)) (a .at) (b .before .match .keys3) in
+    let set = c .sets-noted2 .ensures in
     record {
       end = b .end-noted2 .ensures .0 ∙ r .0;
-      align = rw (c .larger3 .ensures, c .before .before .byte5 .ensures, c .before .byte6 .ensures) (r .1);
+      align =
+          rw (g .larger3 .ensures, own .wide644 .ensures .0, own .before .byte4 .ensures, inner .align-noted2 .ensures .0) (r .1);
+      sets = (set .0 ∙ r .2, set .1);
       onward = omega (arith, b .end-noted2 .ensures .0);
     }
 
 returns-6 : tie.Need-returns-6
 unfolding u8
 returns-6 c =
-    let a = optional-start c .args in
-    let r = optional-reach (a .table .now) (notes (a .sizes .now) (a .aligns .now)) (a .at) (c .before .before .match .keys4) in
+    let b = c .before in
+    let a = optional-start b .args in
+    let r = optional-reach (a .table .now) (notes (a .sizes .now) (a .aligns .now)) (a .at) (b .before .before .match .keys4) in
+    let n = b .before .wide-byte2 .ensures .0 in
+    let set = c .sets-noted3 .ensures in
     record {
-      end = rw (c .end-noted3 .ensures .0, c .before .wide-byte2 .ensures .0) (r .0);
+      end = rw (b .end-noted3 .ensures .0, n) (r .0);
       align = r .1;
-      onward = omega (arith, c .end-noted3 .ensures .0);
+      sets = (rw (set .0, n) (r .2), set .1);
+      onward = omega (arith, b .end-noted3 .ensures .0);
     }
 
 returns-7 : tie.Need-returns-7
@@ -285,10 +374,13 @@ unfolding u8
 returns-7 c =
     let a = variant-start c .args in
     let r = variant-reach (a .table .now) (notes (a .sizes .now) (a .aligns .now)) (a .at) (variant-kind c) in
+    let o = c .reach-options .ensures in
+    let n = c .before .wide-byte3 .ensures .0 in
     record {
-      end = rw (c .behind-options .ensures .0, c .before .wide-byte3 .ensures .0) (r .0);
-      align = r .1;
-      onward = omega (arith, c .behind-options .ensures .1);
+      end = rw (o .end, n) (r .0);
+      align = o .align ∙ r .1;
+      sets = (rw (o .sets .0, n) (r .2), o .sets .1);
+      onward = omega (arith, o .onward);
     }
 
 pub reach-of-spec : {M : Type 1} → statement M
@@ -297,12 +389,17 @@ reach-of-spec =
     (tie.spec
     shared-slice-read-kind
     record-size-requires
-    add-t11
+    add-t12
     add-byte
     byte-requires
+    wide64-requires
+    slot-named-requires
+    sets-one-requires
     returns
     record-size-requires-2
-    add-t15
+    add-t19
+    slot-named-requires-2
+    sets-one-requires-2
     returns-2
     add-reach-members
     add-wide-byte
@@ -310,31 +407,39 @@ reach-of-spec =
     reach-members-requires
     add-byte-2
     byte-requires-2
+    wide64-requires-2
     larger-requires
     add-end-noted
     end-noted-requires
     add-byte-3
     byte-requires-3
-    add-byte-4
-    byte-requires-4
+    wide64-requires-3
+    add-align-noted
+    align-noted-requires
     larger-requires-2
+    add-sets-noted
+    sets-noted-requires
     add-end-noted-2
     end-noted-requires-2
-    add-byte-5
-    byte-requires-5
-    add-byte-6
-    byte-requires-6
+    add-byte-4
+    byte-requires-4
+    wide64-requires-4
+    add-align-noted-2
+    align-noted-requires-2
     larger-requires-3
-    add-end-noted-3
+    add-sets-noted-2
+    sets-noted-requires-2
+    add-class
     add-wide-byte-2
     wide-byte-requires-2
-    mul-end-noted
-    add-end-noted-4
+    mul-class
+    add-class-2
     end-noted-requires-3
-    add-behind-options
+    sets-noted-requires-3
+    add-reach-options
     add-wide-byte-3
     wide-byte-requires-3
-    behind-options-requires
+    reach-options-requires
     returns-3
     returns-4
     returns-5

@@ -1,6 +1,6 @@
 -- The tests of the definition, in its order.
 use mathlib.Core.Path.{sym}
-use Rattle.field_runs.proofs.Cases.{more-free, rest-free, free-array}
+use Rattle.field_runs.proofs.Cases.{more-free, rest-free, free-forgets}
 use Rattle.field_runs.proofs.is_free.Statement.{statement}
 use Rattle.field_runs.proofs.is_free.Tie as tie
 
@@ -11,7 +11,7 @@ returns-2 : tie.Need-returns-2
 returns-2 c = sym (rest-free _ (c .before .before .if1 .left) (c .if2 .taken))
 
 returns-3 : tie.Need-returns-3
-returns-3 c = sym (free-array _ (c .before .before .before .if1 .left) (c .before .if2 .left))
+returns-3 c = sym (free-forgets _ (c .before .before .before .if1 .left) (c .before .if2 .left))
 
 pub is-free-spec : {M : Type 1} → statement M
 is-free-spec = tie.close (tie.spec returns returns-2 returns-3)

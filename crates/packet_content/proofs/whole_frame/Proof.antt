@@ -1,5 +1,4 @@
 -- The bound is the place behind the stream's bytes, which are few.
-use borrow.Author.Needs.{needs}
 use Rattle.packet_content.proofs.whole_frame.Statement.{statement}
 use Rattle.packet_content.proofs.whole_frame.Tie as tie
 use Rattle.packet_content.proofs.whole_frame.Reads as reads

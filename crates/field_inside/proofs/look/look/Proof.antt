@@ -5,15 +5,15 @@ use Rattle.field_inside.proofs.look.look.Tie as tie
 use mathlib.Core.Path.{_≡_, sym, _∙_}
 use Prim.Native.Nat.{_+_, _^_, _≤_, _<_}
 use native.Mathlib.Omega.{arith}
-use lib.ListN.{length, getD}
+use lib.ListN.{length}
 use Rattle.rules.specs.Record.{u8}
-use Rattle.class_layout.specs.Notes.{Notes, notes}
+use Rattle.class_layout.specs.Notes.{Notes, notes, alignNoted}
 use Rattle.field_inside.specs.Inside.{HolderStands}
 use Rattle.field_inside.proofs.Holders.{inside-structure, inside-array, inside-no-length, inside-dynamic, inside-optional}
 use Rattle.field_inside.proofs.Holders.{inside-variant, record-there, optional-there, variant-there}
 
--- Places of the code, in its order: all is given; the kind can be read; it is that of a structure; of a static array; of a dynamic one, and
--- its slot holds a length; of an optional; of a variant
+-- Places of the code, in its order: all is given; the kind can be read; it is that of a structure, and its alignment was read; of a static
+-- array, and its alignment was; of a dynamic one, its slot holds a length, and its alignment was; of an optional; of a variant
 
 abbrev AtStart : Type 0
 AtStart = tie.Start
@@ -24,14 +24,23 @@ AtKind = tie.After-shared-slice-known4
 abbrev AtStructure : Type 0
 AtStructure = tie.At-match-keys1
 
+abbrev AtStructureAlign : Type 0
+AtStructureAlign = tie.After-align-of
+
 abbrev AtArray : Type 0
 AtArray = tie.At-match-keys2
+
+abbrev AtArrayAlign : Type 0
+AtArrayAlign = tie.After-align-of2
 
 abbrev AtDynamic : Type 0
 AtDynamic = tie.At-match-keys3
 
 abbrev AtLength : Type 0
 AtLength = tie.After-known-told2
+
+abbrev AtLengthAlign : Type 0
+AtLengthAlign = tie.After-align-of3
 
 abbrev AtOptional : Type 0
 AtOptional = tie.At-match-keys4
@@ -47,8 +56,14 @@ to-start c = c .before .before .before .before
 abbrev structure-kind : AtStructure → AtKind
 structure-kind c = c .before
 
+abbrev to-structure : AtStructureAlign → AtStructure
+to-structure c = c .before .before .before
+
 abbrev array-kind : AtArray → AtKind
 array-kind c = c .before
+
+abbrev to-array : AtArrayAlign → AtArray
+to-array c = c .before .before .before
 
 abbrev dynamic-kind : AtDynamic → AtKind
 dynamic-kind c = c .before
@@ -58,6 +73,9 @@ to-dynamic c = c .before .before .before .before
 
 abbrev length-kind : AtLength → AtKind
 length-kind c = dynamic-kind (to-dynamic c)
+
+abbrev to-length : AtLengthAlign → AtLength
+to-length c = c .before .before
 
 abbrev optional-kind : AtOptional → AtKind
 optional-kind c = c .before
@@ -85,7 +103,7 @@ align-in c = omega (arith, stands c .aligns, record-there (stands c))
 -- the place can be aligned
 alignable : (c : AtKind) →
     let a = to-start c .args in
-    (getD (a .aligns .now) (a .at) 0 ≤ 6) × (a .frame .start .0 ≤ a .place .0) × (a .place .0 + 64 ≤ 2 ^ 64)
+    (alignNoted (a .aligns .now) (a .at) ≤ 6) × (a .frame .start .0 ≤ a .place .0) × (a .place .0 + 64 ≤ 2 ^ 64)
 alignable c = (stands c .align, to-start c .pre .1 .0, to-start c .pre .1 .1)
 
 -- no other kind is left
@@ -114,11 +132,18 @@ count-at-requires c κs = omega (arith, record-in (structure-kind c))
 add-members : tie.Need-add-members
 add-members c = omega (arith, record-in (structure-kind (c .before)))
 
-shared-slice-read-members : tie.Need-shared-slice-read-members
-shared-slice-read-members c = align-in (structure-kind (c .before .before))
+mul-align-of : tie.Need-mul-align-of
+mul-align-of c = search needs
+
+shared-slice-read-align-of : tie.Need-shared-slice-read-align-of
+shared-slice-read-align-of c = align-in (structure-kind (c .before .before))
+
+align-of-requires : tie.Need-align-of-requires
+align-of-requires c κs = search needs
 
 members-requires : tie.Need-members-requires
-members-requires c κs = alignable (structure-kind (c .before .before))
+unfolding alignNoted
+members-requires c κs = rw (c .align-of .ensures .0) (alignable (structure-kind (to-structure c)))
 
 -- A static array
 
@@ -131,11 +156,18 @@ u16-at-requires c κs = omega (arith, record-in (array-kind c))
 add-elements : tie.Need-add-elements
 add-elements c = omega (arith, record-in (array-kind (c .before)))
 
-shared-slice-read-elements : tie.Need-shared-slice-read-elements
-shared-slice-read-elements c = align-in (array-kind (c .before .before))
+mul-align-of-2 : tie.Need-mul-align-of-2
+mul-align-of-2 c = search needs
+
+shared-slice-read-align-of-2 : tie.Need-shared-slice-read-align-of-2
+shared-slice-read-align-of-2 c = align-in (array-kind (c .before .before))
+
+align-of-requires-2 : tie.Need-align-of-requires-2
+align-of-requires-2 c κs = search needs
 
 elements-requires : tie.Need-elements-requires
-elements-requires c κs = alignable (array-kind (c .before .before))
+unfolding alignNoted
+elements-requires c κs = rw (c .align-of2 .ensures .0) (alignable (array-kind (to-array c)))
 
 -- A dynamic array
 
@@ -151,11 +183,18 @@ enum-known-n c = search needs
 add-elements-2 : tie.Need-add-elements-2
 add-elements-2 c = omega (arith, record-in (length-kind c))
 
-shared-slice-read-elements-2 : tie.Need-shared-slice-read-elements-2
-shared-slice-read-elements-2 c = align-in (length-kind (c .before))
+mul-align-of-3 : tie.Need-mul-align-of-3
+mul-align-of-3 c = search needs
+
+shared-slice-read-align-of-3 : tie.Need-shared-slice-read-align-of-3
+shared-slice-read-align-of-3 c = align-in (length-kind (c .before))
+
+align-of-requires-3 : tie.Need-align-of-requires-3
+align-of-requires-3 c κs = search needs
 
 elements-requires-2 : tie.Need-elements-requires-2
-elements-requires-2 c κs = alignable (length-kind (c .before))
+unfolding alignNoted
+elements-requires-2 c κs = rw (c .align-of3 .ensures .0) (alignable (length-kind (to-length c)))
 
 -- An optional
 
@@ -185,17 +224,17 @@ variant-requires c κs = search needs
 -- What is told of each
 
 returns : tie.Need-returns
-unfolding u8
+unfolding u8 alignNoted
 returns c =
-    let d = c .before .before .before in
-    rw (c .members .ensures, c .before .before .count-at .ensures .0)
+    let d = to-structure (c .before) in
+    rw (c .members .ensures, c .before .align-of .ensures .0, c .before .before .before .count-at .ensures .0)
     (inside-structure _ (noted (structure-kind d)) _ _ _ _ (d .match .keys1))
 
 returns-2 : tie.Need-returns-2
-unfolding u8
+unfolding u8 alignNoted
 returns-2 c =
-    let d = c .before .before .before in
-    rw (c .elements .ensures, c .before .before .u16-at .ensures .0)
+    let d = to-array (c .before) in
+    rw (c .elements .ensures, c .before .align-of2 .ensures .0, c .before .before .before .u16-at .ensures .0)
     (inside-array _ (noted (array-kind d)) _ _ _ _ (d .match .keys2))
 
 returns-3 : tie.Need-returns-3
@@ -206,13 +245,13 @@ returns-3 c =
     (sym (l .length-of .ensures) ∙ c .before .why .given .1)
 
 returns-4 : tie.Need-returns-4
-unfolding u8
+unfolding u8 alignNoted
 returns-4 c =
-    let n = c .before .before in
+    let n = to-length (c .before) in
     let d = to-dynamic n in
-    c .elements2 .ensures
-    ∙ inside-dynamic _ (noted (dynamic-kind d)) _ _ _ _ _ (d .match .keys3)
-    (sym (n .before .before .before .length-of .ensures) ∙ n .before .n .given .1)
+    rw (c .elements2 .ensures, c .before .align-of3 .ensures .0)
+    (inside-dynamic _ (noted (dynamic-kind d)) _ _ _ _ _ (d .match .keys3)
+    (sym (n .before .before .before .length-of .ensures) ∙ n .before .n .given .1))
 
 returns-5 : tie.Need-returns-5
 unfolding u8
@@ -235,18 +274,24 @@ look-spec =
     add-count-at
     count-at-requires
     add-members
-    shared-slice-read-members
+    mul-align-of
+    shared-slice-read-align-of
+    align-of-requires
     members-requires
     add-u16-at
     u16-at-requires
     add-elements
-    shared-slice-read-elements
+    mul-align-of-2
+    shared-slice-read-align-of-2
+    align-of-requires-2
     elements-requires
     length-of-requires
     enum-known-why
     enum-known-n
     add-elements-2
-    shared-slice-read-elements-2
+    mul-align-of-3
+    shared-slice-read-align-of-3
+    align-of-requires-3
     elements-requires-2
     choose-optional-requires
     size-at-requires

@@ -2,10 +2,10 @@
 use borrow.Author.Needs.{needs}
 use mathlib.Core.Path.{_≡_}
 use native.Mathlib.Omega.{arith}
-use lib.ListN.{getD}
 use Prim.Native.Nat.{ℕ, _^_}
 use Rattle.rules.specs.Record.{u8}
 use Rattle.frame.specs.Framed.{alignedAt}
+use Rattle.class_layout.specs.Notes.{alignNoted}
 use Rattle.field_inside.proofs.Entering.{entered-past, entered-fits}
 use Rattle.field_inside.proofs.opening.enter_structure.Statement.{statement}
 use Rattle.field_inside.proofs.opening.enter_structure.Tie as tie
@@ -20,7 +20,7 @@ abbrev AtNoted : Type 0
 AtNoted = tie.After-shared-slice-known3
 
 abbrev AtAlignment : Type 0
-AtAlignment = tie.After-wide64
+AtAlignment = tie.After-align-of
 
 abbrev AtAligned : Type 0
 AtAligned = tie.After-align
@@ -29,7 +29,7 @@ abbrev AtWithin : Type 0
 AtWithin = tie.Else1
 
 abbrev AtCount : Type 0
-AtCount = tie.After-wide642
+AtCount = tie.After-wide64
 
 abbrev AtListed : Type 0
 AtListed = tie.After-list-holder
@@ -64,26 +64,30 @@ within-start c = aligned-start (to-aligned c)
 
 -- the alignment noted of the class, in bits
 abbrev bits : AtStart → ℕ
-bits c = 2 ^ getD (c .args .aligns .now) (c .args .at) 0
+bits c = 2 ^ alignNoted (c .args .aligns .now) (c .args .at)
 
 placed : (c : AtAligned) →
     let s = aligned-start c in
     c .align .result ≡ alignedAt (s .args .frame) (bits s) (s .args .from)
-unfolding alignedAt
-placed c = rw (to-alignment c .wide64 .ensures .0) at (c .align .ensures)
+unfolding alignedAt alignNoted
+placed c = rw (to-alignment c .align-of .ensures .0) at (c .align .ensures)
 
 -- The place
 
-shared-slice-read-wide64 : tie.Need-shared-slice-read-wide64
-shared-slice-read-wide64 c = to-start c .pre .0 .1
+mul-align-of : tie.Need-mul-align-of
+mul-align-of c = search needs
 
-wide64-requires : tie.Need-wide64-requires
-wide64-requires c κs = search needs
+shared-slice-read-align-of : tie.Need-shared-slice-read-align-of
+shared-slice-read-align-of c = to-start c .pre .0 .1
+
+align-of-requires : tie.Need-align-of-requires
+align-of-requires c κs = search needs
 
 align-requires : tie.Need-align-requires
+unfolding alignNoted
 align-requires c κs =
     let p = to-start (to-noted c) .pre in
-    (p .1 .0 .0, omega (arith, p .0 .2, c .wide64 .ensures .0), p .1 .0 .1)
+    (p .1 .0 .0, omega (arith, p .0 .2, c .align-of .ensures .0), p .1 .0 .1)
 
 returns : tie.Need-returns
 returns c =
@@ -96,11 +100,11 @@ returns c =
 add-wide64 : tie.Need-add-wide64
 add-wide64 c = omega (arith, within-start c .pre .0 .0)
 
-shared-slice-read-wide64-2 : tie.Need-shared-slice-read-wide64-2
-shared-slice-read-wide64-2 c = omega (arith, within-start (c .before) .pre .0 .0)
+shared-slice-read-wide64 : tie.Need-shared-slice-read-wide64
+shared-slice-read-wide64 c = omega (arith, within-start (c .before) .pre .0 .0)
 
-wide64-requires-2 : tie.Need-wide64-requires-2
-wide64-requires-2 c κs = search needs
+wide64-requires : tie.Need-wide64-requires
+wide64-requires c κs = search needs
 
 list-holder-requires : tie.Need-list-holder-requires
 list-holder-requires c κs = within-start (to-within (c .before)) .pre .1 .1
@@ -115,9 +119,9 @@ returns-2 c =
     let w = to-within (to-count l) in
     let a = within-start w .args in
     entered-fits (a .frame) (bits (within-start w)) (a .from) _ (a .list .now) (placed (to-aligned w)) (w .if1 .left)
-    (rw (to-count l .wide642 .ensures .0) at (l .list-holder .ensures))
+    (rw (to-count l .wide64 .ensures .0) at (l .list-holder .ensures))
 
 pub enter-structure-spec : {M : Type 1} → statement M
 enter-structure-spec = tie.close
-    (tie.spec shared-slice-read-wide64 wide64-requires align-requires returns add-wide64 shared-slice-read-wide64-2 wide64-requires-2
-    list-holder-requires same-length returns-2)
+    (tie.spec mul-align-of shared-slice-read-align-of align-of-requires align-requires returns add-wide64 shared-slice-read-wide64
+    wide64-requires list-holder-requires same-length returns-2)

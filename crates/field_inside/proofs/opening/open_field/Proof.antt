@@ -3,7 +3,6 @@ use borrow.Author.Needs.{needs}
 use native.Mathlib.Omega.{arith}
 use mathlib.Core.Path.{_∙_}
 use Rattle.rules.specs.Record.{u8}
-use Rattle.field_inside.specs.declared.look.Inside.the-variants.{Members, Elements, Refused}
 use Rattle.field_inside.specs.Opening.{openedAs, listOpened}
 use Rattle.field_inside.proofs.Holders.{record-there}
 use Rattle.field_inside.proofs.Entering.{opened-by}
@@ -11,7 +10,7 @@ use Rattle.field_inside.proofs.opening.open_field.Statement.{statement}
 use Rattle.field_inside.proofs.opening.open_field.Tie as tie
 
 -- Places of the code, in its order: all is given; the kind can be read; the field was looked at; it holds members, and its entry is
--- written; or elements, and its entry is written
+-- written; or elements, its entry is written, and what is forgotten around each is told
 
 abbrev AtStart : Type 0
 AtStart = tie.Start
@@ -34,6 +33,9 @@ AtElements = tie.After-there2
 abbrev AtElementsListed : Type 0
 AtElementsListed = tie.After-list-holder2
 
+abbrev AtForgotten : Type 0
+AtForgotten = tie.After-forgotten-around
+
 -- The way back from each to the one before
 
 abbrev to-start : AtKind → AtStart
@@ -53,6 +55,9 @@ elements-told c = c .before .before
 
 abbrev to-elements : AtElementsListed → AtElements
 to-elements c = c .before .before .before
+
+abbrev to-listed : AtForgotten → AtElementsListed
+to-listed c = c .before .before .before
 
 -- Looked at
 
@@ -84,6 +89,9 @@ enum-known-there-2 c = search needs
 list-holder-requires-2 : tie.Need-list-holder-requires-2
 list-holder-requires-2 c κs = told-start (elements-told (c .before .before)) .pre .1 .1
 
+forgotten-around-requires : tie.Need-forgotten-around-requires
+forgotten-around-requires c κs = search needs
+
 went-in-requires-2 : tie.Need-went-in-requires-2
 went-in-requires-2 c κs = search needs
 
@@ -91,7 +99,7 @@ went-in-requires-2 c κs = search needs
 
 returns : tie.Need-returns
 unfolding openedAs listOpened
-returns c = opened-by _ _ _ _ (c .before .before .before .look .ensures) (c .before .why .given .1)
+returns c = opened-by _ _ _ _ _ (c .before .before .before .look .ensures) (c .before .why .given .1)
 
 same-length : tie.Need-same-length
 same-length c = c .before .before .before .list-holder .kept .1 .1 .1 .0
@@ -101,21 +109,21 @@ unfolding openedAs listOpened u8
 returns-2 c =
     let l = c .before .before .before in
     let m = to-members l in
-    let q = opened-by _ _ _ _ (members-told m .look .ensures) (m .there .given .1) in
+    let q = opened-by _ _ _ _ _ (members-told m .look .ensures) (m .there .given .1) in
     (c .went-in .ensures ∙ q .0, l .list-holder .ensures ∙ q .1)
 
 same-length-2 : tie.Need-same-length-2
-same-length-2 c = c .before .before .before .list-holder2 .kept .1 .1 .1 .0
+same-length-2 c = to-listed (c .before) .list-holder2 .kept .1 .1 .1 .0
 
 returns-3 : tie.Need-returns-3
 unfolding openedAs listOpened u8
 returns-3 c =
-    let l = c .before .before .before in
+    let l = to-listed (c .before) in
     let m = to-elements l in
-    let q = opened-by _ _ _ _ (elements-told m .look .ensures) (m .there2 .given .1) in
-    (c .went-in2 .ensures ∙ q .0, l .list-holder2 .ensures ∙ q .1)
+    let q = opened-by _ _ _ _ _ (elements-told m .look .ensures) (m .there2 .given .1) in
+    (rw (c .before .forgotten-around .ensures) at (c .went-in2 .ensures) ∙ q .0, l .list-holder2 .ensures ∙ q .1)
 
 pub open-field-spec : {M : Type 1} → statement M
 open-field-spec = tie.close
     (tie.spec shared-slice-read-kind look-requires enum-known-why enum-known-there list-holder-requires went-in-requires enum-known-there-2
-    list-holder-requires-2 went-in-requires-2 returns same-length returns-2 same-length-2 returns-3)
+    list-holder-requires-2 forgotten-around-requires went-in-requires-2 returns same-length returns-2 same-length-2 returns-3)

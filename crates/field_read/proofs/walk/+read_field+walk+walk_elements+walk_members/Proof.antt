@@ -28,6 +28,8 @@ use Rattle.field_runs.proofs.behind.Reads as behind-reads
 use Rattle.field_runs.proofs.count.Reads as count-reads
 use Rattle.field_runs.proofs.elements.Reads as elements-reads
 use Rattle.field_runs.proofs.first.Reads as first-reads
+use Rattle.class_slots.proofs.forgotten.Reads as forgotten-reads
+use Rattle.field_runs.proofs.is_border.Reads as is-border-reads
 use Rattle.field_runs.proofs.forward.Reads as forward-reads
 use Rattle.field_runs.proofs.into.Reads as into-reads
 use Rattle.field_runs.proofs.is_element.Reads as is-element-reads
@@ -48,7 +50,7 @@ use borrow.Fn.Kinds.{Out}
 use borrow.Author.Needs.{needs}
 use borrow.Author.Tests.{not-true, not-false}
 use mathlib.Core.Path.{_≡_, refl, sym, _∙_}
-use mathlib.Core.Bool.{true}
+use mathlib.Core.Bool.{true, false}
 use mathlib.Core.List.{List}
 use mathlib.Core.Logic.{_⊎_, inl, inr, ⊎-elim}
 use native.Mathlib.Omega.{arith}
@@ -58,7 +60,7 @@ use Rattle.rules.specs.declared.Content.{Content}
 use Rattle.rules.specs.declared.Stop.{Stop}
 use Rattle.rules.specs.Limits.{slotCount}
 use Rattle.rules.specs.Record.{u8}
-use Rattle.rules.specs.Slots.{slotAt, setSlot}
+use Rattle.rules.specs.Slots.{slotAt, setSlot, unset}
 use Rattle.rules.specs.Step.{_⨾_}
 use Rattle.rules.specs.Faults.{roleOf}
 use Rattle.rules.specs.Field.{role}
@@ -69,6 +71,7 @@ use Rattle.class_layout.proofs.InPlace.{members-few}
 use Rattle.class_layout.proofs.Standing.{depth-some, kind-high, leaf-whole}
 use Rattle.class_layout.proofs.Turns.{whole-inside}
 use Rattle.frame.specs.Framed.{envOf}
+use Rattle.class_slots.specs.Named.{slotsOf}
 use Rattle.leaf_read.specs.Reads.{leafSlot}
 use Rattle.leaf_read.specs.Leaves.{contentOf}
 use Rattle.listing.proofs.Parts.{part-length, lent-room, merged}
@@ -76,10 +79,10 @@ use Rattle.field_inside.specs.Inside.{slotReadAt}
 use Rattle.field_inside.proofs.Noted.{opens, slot-within}
 use Rattle.field_inside.proofs.Slots.{content-met, past-unset}
 use Rattle.field_runs.specs.declared.Run.{Run}
-use Rattle.field_runs.specs.Run.{countOf}
+use Rattle.field_runs.specs.Run.{border}
+use Rattle.field_runs.proofs.Cases.{Begun}
 use Rattle.field_runs.specs.Ahead.{ahead}
-use Rattle.field_runs.proofs.Ahead.{members-stand, elements-stand}
-use Rattle.field_runs.proofs.Ahead.{members-reads as members-reads-ahead, elements-reads as elements-reads-ahead}
+use Rattle.field_runs.proofs.Ahead.{members-stand, members-reads as members-reads-ahead}
 use Rattle.field_read.specs.Reads.{FieldReads, stoppedField, stateAt}
 use Rattle.field_read.proofs.Holds as Holds
 use Rattle.field_read.proofs.Holds.{Closed, can-look, open-refused, open-members, open-elements, members-open, elements-open}
@@ -89,8 +92,8 @@ use Rattle.field_read.proofs.Round.{Loop, left, Kept, Round, Stops, wor
 use Rattle.field_read.proofs.Round.{RoleRound, Holder, CodeRound, EnterRound, FieldRound}
 use Rattle.field_read.proofs.Told.{forward-round, forward-left, first-whole, leaves-in-row, leaves-did, leaves-due, role-did}
 use Rattle.field_read.proofs.Told.{taken-round, FirstAt, taken-next, holds-first, entered-did, entered-run, inside-did, inside-run}
-use Rattle.field_read.proofs.Told.{field-did, field-run}
-use Rattle.field_read.proofs.Walks.{walkLoop, walk-start, walk-stopped, walk-end}
+use Rattle.field_read.proofs.Told.{field-did, field-run, border-some, forgot-one}
+use Rattle.field_read.proofs.Walks.{walkLoop, walk-start, walk-stopped, walk-end, elements-run-stands, elements-run-reads}
 
 abbrev μ-read-field : Measures 6 read-field-kinds.ps ℕ
 μ-read-field κs a = a .1 .1 .1 .1 .1 .1 .1 .0 + a .1 .1 .1 .1 .1 .1 .1 .0 + a .1 .1 .1 .1 .1 .1 .1 .0
@@ -99,7 +102,7 @@ abbrev μ-walk : Measures 6 walk-kinds.ps ℕ
 μ-walk κs a = a .1 .1 .1 .1 .1 .1 .1 .0 + a .1 .1 .1 .1 .1 .1 .1 .0 + a .1 .1 .1 .1 .1 .1 .1 .0 + 1
 
 abbrev μ-walk-elements : Measures 6 walk-elements-kinds.ps ℕ
-μ-walk-elements κs a = a .1 .1 .1 .1 .1 .1 .1 .1 .0 + a .1 .1 .1 .1 .1 .1 .1 .1 .0 + a .1 .1 .1 .1 .1 .1 .1 .1 .0 + 2
+μ-walk-elements κs a = a .1 .1 .1 .1 .1 .1 .1 .1 .1 .0 + a .1 .1 .1 .1 .1 .1 .1 .1 .1 .0 + a .1 .1 .1 .1 .1 .1 .1 .1 .1 .0 + 2
 
 abbrev μ-walk-members : Measures 6 walk-members-kinds.ps ℕ
 μ-walk-members κs a = a .1 .1 .1 .1 .1 .1 .1 .1 .0 + a .1 .1 .1 .1 .1 .1 .1 .1 .0 + a .1 .1 .1 .1 .1 .1 .1 .1 .0 + 2
@@ -290,7 +293,7 @@ module _ (t : ℕ) where
       let h = field-holder (inside-met i) in
       let o = inside-entry i .open-field .ensures in
       let inside = open-elements h (o .0) (o .1) (was-opened i) (c .before .if3 .taken) in
-      (omega (arith, inside-given i .pre .0, one-depth i), (inside .0, (h .noted, rw (c .before .before .at-place .ensures) (inside .1))))
+      (omega (arith, inside-given i .pre .0, one-depth i), (inside .0 .class, (inside .0 .forgets, (h .noted, rw (c .before .before .at-place .ensures) (inside .1)))))
 
   read-field-sub-walk-members : In-read-field t read-field-lts.Need-sub-walk-members
   read-field-sub-walk-members c = omega (arith, one-depth (c .before))
@@ -340,6 +343,10 @@ module _ (t : ℕ) where
 
 abbrev walk-calls : ℕ → walk-lts.Claims
 walk-calls t = (
+  is-border-reads.Asked,
+  is-border-reads.Learnt,
+  forgotten-reads.Asked,
+  forgotten-reads.Learnt,
   forward-reads.Asked,
   forward-reads.Learnt,
   is-over-reads.Asked,
@@ -418,20 +425,23 @@ module _ (t : ℕ) where
   abbrev AtLoop : Type 0
   AtLoop = In-walk t walk-lts.At-loop
 
+  abbrev AtBorder : Type 0
+  AtBorder = In-walk t walk-lts.Joined1
+
   abbrev AtForward : Type 0
   AtForward = In-walk t walk-lts.After-forward
 
   abbrev AtField : Type 0
-  AtField = In-walk t walk-lts.Else1
+  AtField = In-walk t walk-lts.Else3
 
   abbrev AtRoom : Type 0
-  AtRoom = In-walk t walk-lts.Else2
+  AtRoom = In-walk t walk-lts.Else4
 
   abbrev AtClass : Type 0
   AtClass = In-walk t walk-lts.After-first
 
   abbrev AtLeaf : Type 0
-  AtLeaf = In-walk t walk-lts.Joined4
+  AtLeaf = In-walk t walk-lts.Joined6
 
   abbrev AtLeaves : Type 0
   AtLeaves = In-walk t walk-lts.After-read-leaves
@@ -440,7 +450,7 @@ module _ (t : ℕ) where
   AtBehind = In-walk t walk-lts.After-behind
 
   abbrev AtDue : Type 0
-  AtDue = In-walk t walk-lts.Joined6
+  AtDue = In-walk t walk-lts.Joined8
 
   abbrev AtApplied : Type 0
   AtApplied = In-walk t walk-lts.After-apply
@@ -452,10 +462,13 @@ module _ (t : ℕ) where
   AtEntered = In-walk t walk-lts.After-enter-structure
 
   abbrev AtTold : Type 0
-  AtTold = In-walk t walk-lts.Joined10
+  AtTold = In-walk t walk-lts.Joined12
 
   abbrev AtOpened : Type 0
   AtOpened = In-walk t walk-lts.After-open-field
+
+  abbrev AtInto : Type 0
+  AtInto = In-walk t walk-lts.After-into
 
   abbrev AtRead : Type 0
   AtRead = In-walk t walk-lts.After-read-field
@@ -480,11 +493,20 @@ module _ (t : ℕ) where
   abbrev loop-start : AtLoop → AtStart
   loop-start c = front-start (loop-front c)
 
+  abbrev border-loop : AtBorder → AtLoop
+  border-loop c = c .before .before
+
+  abbrev forward-border : AtForward → AtBorder
+  forward-border c = c .before
+
   abbrev forward-loop : AtForward → AtLoop
-  forward-loop c = c .before
+  forward-loop c = border-loop (forward-border c)
 
   abbrev field-forward : AtField → AtForward
   field-forward c = c .before .before
+
+  abbrev field-border : AtField → AtBorder
+  field-border c = forward-border (field-forward c)
 
   abbrev field-loop : AtField → AtLoop
   field-loop c = forward-loop (field-forward c)
@@ -498,6 +520,9 @@ module _ (t : ℕ) where
   abbrev class-field : AtClass → AtField
   class-field c = room-field (class-room c)
 
+  abbrev class-border : AtClass → AtBorder
+  class-border c = field-border (class-field c)
+
   abbrev class-loop : AtClass → AtLoop
   class-loop c = field-loop (class-field c)
 
@@ -509,6 +534,9 @@ module _ (t : ℕ) where
 
   abbrev leaf-field : AtLeaf → AtField
   leaf-field c = class-field (leaf-class c)
+
+  abbrev leaf-border : AtLeaf → AtBorder
+  leaf-border c = class-border (leaf-class c)
 
   abbrev leaf-loop : AtLeaf → AtLoop
   leaf-loop c = class-loop (leaf-class c)
@@ -525,11 +553,17 @@ module _ (t : ℕ) where
   abbrev leaves-field : AtLeaves → AtField
   leaves-field c = leaf-field (leaves-leaf c)
 
+  abbrev leaves-border : AtLeaves → AtBorder
+  leaves-border c = leaf-border (leaves-leaf c)
+
   abbrev leaves-loop : AtLeaves → AtLoop
   leaves-loop c = leaf-loop (leaves-leaf c)
 
   abbrev behind-leaves : AtBehind → AtLeaves
   behind-leaves c = c .before .before .before .before .before .before .before
+
+  abbrev behind-border : AtBehind → AtBorder
+  behind-border c = leaves-border (behind-leaves c)
 
   abbrev behind-loop : AtBehind → AtLoop
   behind-loop c = leaves-loop (behind-leaves c)
@@ -539,6 +573,9 @@ module _ (t : ℕ) where
 
   abbrev due-leaves : AtDue → AtLeaves
   due-leaves c = behind-leaves (due-behind c)
+
+  abbrev due-border : AtDue → AtBorder
+  due-border c = behind-border (due-behind c)
 
   abbrev due-loop : AtDue → AtLoop
   due-loop c = behind-loop (due-behind c)
@@ -552,6 +589,9 @@ module _ (t : ℕ) where
   abbrev applied-leaves : AtApplied → AtLeaves
   applied-leaves c = due-leaves (applied-due c)
 
+  abbrev applied-border : AtApplied → AtBorder
+  applied-border c = due-border (applied-due c)
+
   abbrev applied-loop : AtApplied → AtLoop
   applied-loop c = due-loop (applied-due c)
 
@@ -564,6 +604,9 @@ module _ (t : ℕ) where
   abbrev holder-field : AtHolder → AtField
   holder-field c = class-field (holder-class c)
 
+  abbrev holder-border : AtHolder → AtBorder
+  holder-border c = class-border (holder-class c)
+
   abbrev holder-loop : AtHolder → AtLoop
   holder-loop c = class-loop (holder-class c)
 
@@ -572,6 +615,9 @@ module _ (t : ℕ) where
 
   abbrev entered-room : AtEntered → AtRoom
   entered-room c = holder-room (entered-holder c)
+
+  abbrev entered-border : AtEntered → AtBorder
+  entered-border c = holder-border (entered-holder c)
 
   abbrev entered-loop : AtEntered → AtLoop
   entered-loop c = holder-loop (entered-holder c)
@@ -584,6 +630,9 @@ module _ (t : ℕ) where
 
   abbrev told-room : AtTold → AtRoom
   told-room c = holder-room (told-holder c)
+
+  abbrev told-border : AtTold → AtBorder
+  told-border c = holder-border (told-holder c)
 
   abbrev told-loop : AtTold → AtLoop
   told-loop c = holder-loop (told-holder c)
@@ -600,8 +649,14 @@ module _ (t : ℕ) where
   abbrev opened-room : AtOpened → AtRoom
   opened-room c = told-room (opened-told c)
 
+  abbrev opened-border : AtOpened → AtBorder
+  opened-border c = told-border (opened-told c)
+
   abbrev opened-loop : AtOpened → AtLoop
   opened-loop c = told-loop (opened-told c)
+
+  abbrev into-opened : AtInto → AtOpened
+  into-opened c = c .before .before .before .before .before .before
 
   abbrev read-told : AtRead → AtTold
   read-told c = c .before .before .before .before .before
@@ -611,6 +666,9 @@ module _ (t : ℕ) where
 
   abbrev read-class : AtRead → AtClass
   read-class c = told-class (read-told c)
+
+  abbrev read-border : AtRead → AtBorder
+  read-border c = told-border (read-told c)
 
   abbrev read-loop : AtRead → AtLoop
   read-loop c = told-loop (read-told c)
@@ -626,6 +684,12 @@ module _ (t : ℕ) where
   -- a round whose run is r
   abbrev Now : AtLoop → Run → Type 0
   Now c r = let l = c .loop in Round (walk-of c) r (l .list) (l .used) (stateAt (l .place) (l .order) (l .state)) (l .slots)
+
+  -- the same behind its border
+  abbrev Here : AtBorder → Run → Type 0
+  Here c r =
+      let l = border-loop c .loop in
+      Round (walk-of (border-loop c)) r (l .list) (l .used) (stateAt (l .place) (l .order) (l .state)) (c .if1 .slots)
 
   now : (c : AtLoop) → Now c (c .loop .run)
   now c = c .loop .inv .1
@@ -646,14 +710,27 @@ module _ (t : ℕ) where
       (omega (arith, part-length p, p .room), part-length p, omega (arith, loop-start c .good .1 .1 .1 .1 .1 .1 .1 .1 .1 .1 .0))
 
   -- the run, with what it had put off in front where nothing else was left
-  forwarded : (c : AtForward) → Now (forward-loop c) (c .forward .result)
-  forwarded c = forward-round (c .forward .ensures) (now (forward-loop c))
+  border-told : (c : AtBorder) →
+      let a = loop-start (border-loop c) .args in
+      let l = border-loop c .loop in
+      ((border (l .run) ≡ true) × (c .if1 .slots ≡ unset (l .slots) (slotsOf (a .table .now) (a .sizes .now) (l .run .again))))
+      ⊎ ((border (l .run) ≡ false) × (c .if1 .slots ≡ l .slots))
+  unfolding setSlot
+  border-told c =
+      let is = sym (c .before .is-border .ensures) in
+      ⊎-elim
+      (λ y. let b = is ∙ y .0 .taken in inl (b, forgot-one (now (border-loop c)) b (y .2 .taken) refl (y .4)))
+      (λ x. ⊎-elim (λ y. inl (is ∙ y .0 .taken, y .4 ∙ y .3 .ensures)) (λ y. inr (is ∙ y .0 .left, y .1)) x)
+      (c .if1 .came)
 
-  here : (c : AtField) → Now (field-loop c) (field-forward c .forward .result)
+  forwarded : (c : AtForward) → Here (forward-border c) (c .forward .result)
+  forwarded c = forward-round (c .forward .ensures) (border-told (forward-border c)) (now (forward-loop c))
+
+  here : (c : AtField) → Here (field-border c) (field-forward c .forward .result)
   here c = forwarded (field-forward c)
 
-  some-left : (c : AtField) → 0 < countOf (field-forward c .forward .result)
-  some-left c = forward-left _ (field-forward c .forward .ensures) (sym (c .before .is-over .ensures) ∙ c .if1 .left)
+  some-left : (c : AtField) → Begun (field-forward c .forward .result)
+  some-left c = forward-left _ (field-forward c .forward .ensures) (sym (c .before .is-over .ensures) ∙ c .if3 .left)
 
   class-there : (c : AtClass) →
       let a = loop-start (class-loop c) .args in
@@ -674,6 +751,23 @@ module _ (t : ℕ) where
       let many = s .good .1 .1 .1 .1 .1 .1 .1 .1 .1 .0 .1 .0 .1 in
       (many, walk-start _ _ _ _ _ _ _ _ _ _ (s .pre .1 .0) (s .pre .1 .1 .0) (s .pre .1 .1 .1) many)
 
+  walk-is-border-requires : In-walk t walk-lts.Need-is-border-requires
+  walk-is-border-requires c κs = search needs
+
+  walk-sub-only : In-walk t walk-lts.Need-sub-only
+  walk-sub-only c =
+      let at-border = c .before .before .before in
+      border-some _ (sym (at-border .before .is-border .ensures) ∙ at-border .if1 .taken)
+
+  walk-mul-slots : In-walk t walk-lts.Need-mul-slots
+  walk-mul-slots c = omega (arith, c .before .if2 .taken)
+
+  walk-array-set-from-slots : In-walk t walk-lts.Need-array-set-from-slots
+  walk-array-set-from-slots c = omega (arith, c .before .if2 .taken)
+
+  walk-forgotten-requires : In-walk t walk-lts.Need-forgotten-requires
+  walk-forgotten-requires c κs = search needs
+
   walk-forward-requires : In-walk t walk-lts.Need-forward-requires
   walk-forward-requires c κs = search needs
 
@@ -685,19 +779,19 @@ module _ (t : ℕ) where
 
   walk-same-length : In-walk t walk-lts.Need-same-length
   walk-same-length c =
-      let past = c .before .before .before .before in
-      part-length (now past .part)
+      let past = c .before .before .before in
+      part-length (now (forward-loop past) .part)
 
   walk-returns : In-walk t walk-lts.Need-returns
   walk-returns c =
       let past = c .before .before .before in
-      let over = sym (c .before .before .is-over .ensures) ∙ c .before .if1 .taken in
+      let over = sym (c .before .before .is-over .ensures) ∙ c .before .if3 .taken in
       rw (c .at .ensures) (walk-end _ _ _ _ _ _ _ _ _ _ (forwarded past) over)
 
   -- No room (40)
 
-  walk-sub-if2 : In-walk t walk-lts.Need-sub-if2
-  walk-sub-if2 c = within (field-loop c) .0
+  walk-sub-if4 : In-walk t walk-lts.Need-sub-if4
+  walk-sub-if4 c = within (field-loop c) .0
 
   walk-refused-requires : In-walk t walk-lts.Need-refused-requires
   walk-refused-requires c κs = search needs
@@ -708,7 +802,7 @@ module _ (t : ℕ) where
   walk-returns-2 : In-walk t walk-lts.Need-returns-2
   walk-returns-2 c =
       let k = c .before .before in
-      rw (c .refused .ensures) (stopped (field-loop k) (round-full (here k) (some-left k) (c .before .if2 .taken)))
+      rw (c .refused .ensures) (stopped (field-loop k) (round-full (here k) (some-left k) (c .before .if4 .taken)))
 
   -- Leaves
 
@@ -722,7 +816,7 @@ module _ (t : ℕ) where
   unfolding u8
   walk-leaf-slot-requires c κs =
       let past = c .before .before in
-      (leaf-whole _ _ _ (class-there past) (c .if3 .taken), c .if3 .taken)
+      (leaf-whole _ _ _ (class-there past) (c .if5 .taken), c .if5 .taken)
 
   walk-mul-slot : In-walk t walk-lts.Need-mul-slot
   walk-mul-slot c = omega arith
@@ -738,12 +832,12 @@ module _ (t : ℕ) where
 
   -- the content of the slot that the leaf reads
   leaf-told : (c : AtLeaf) →
-      slotAt (leaf-loop c .loop .slots) (leafSlot (loop-start (leaf-loop c) .args .table .now) (leaf-class c .first .result))
-      ≡ c .if4 .content
+      slotAt (leaf-border c .if1 .slots) (leafSlot (loop-start (leaf-loop c) .args .table .now) (leaf-class c .first .result))
+      ≡ c .if6 .content
   unfolding slotAt
   leaf-told c =
-      content-met (leaf-loop c .loop .slots) (now (leaf-loop c) .many) (c .before .leaf-slot .ensures) (λ y. y .2)
-      (λ y. (y .0 .left, y .1)) (c .if4 .came)
+      content-met (leaf-border c .if1 .slots) (here (leaf-field c) .many) (c .before .leaf-slot .ensures) (λ y. y .2)
+      (λ y. (y .0 .left, y .1)) (c .if6 .came)
 
   walk-mul-read-leaves : In-walk t walk-lts.Need-mul-read-leaves
   walk-mul-read-leaves c =
@@ -775,11 +869,11 @@ module _ (t : ℕ) where
         leaves-in-row h (some-left k) (c .before .is-element .ensures) (leaf-class past .first .ensures) count,
         (
           (
-            past .before .before .if3 .taken,
-            omega (arith, some-left k, count),
-            omega (arith, lent-room (l .used) (l .list), leaf-room past .if2 .left),
+            past .before .before .if5 .taken,
+            omega (arith, some-left k .some, count),
+            omega (arith, lent-room (l .used) (l .list), leaf-room past .if4 .left),
           ),
-          ((noted .sized .room, λ d p v. noted .classes d p v .size), (h .framed, past-unset (l .slots) _ (h .many) (leaf-told past))),
+          ((noted .sized .room, λ d p v. noted .classes d p v .size), (h .framed, past-unset (leaf-border past .if1 .slots) _ (h .many) (leaf-told past))),
         ),
       )
 
@@ -788,14 +882,14 @@ module _ (t : ℕ) where
       let k = leaves-field c in
       let l = leaves-loop c .loop in
       LeavesRound (walk-of (leaves-loop c)) (field-forward k .forward .result) (l .list) (l .used)
-      (stateAt (l .place) (l .order) (l .state)) (l .slots)
+      (stateAt (l .place) (l .order) (l .state)) (leaves-border c .if1 .slots)
       (c .read-leaves .result) (c .read-leaves .last .1 .1 .1 .1 .1 .1 .1 .1 .1 .1 .1 .0)
   unfolding u8
   leaves c =
       let k = leaves-field c in
       leaves-did (here k) (some-left k) (c .before .before .is-element .ensures) (leaves-class c .first .ensures)
-      (c .before .before .before .count .ensures) (bytes (leaves-loop c)) _ (leaves-leaf c .before .before .if3 .taken)
-      (leaves-room c .if2 .left) (leaf-told (leaves-leaf c)) (c .read-leaves .ensures .0) (c .read-leaves .ensures .1)
+      (c .before .before .before .count .ensures) (bytes (leaves-loop c)) _ (leaves-leaf c .before .before .if5 .taken)
+      (leaves-room c .if4 .left) (leaf-told (leaves-leaf c)) (c .read-leaves .ensures .0) (c .read-leaves .ensures .1)
 
   walk-add-used : In-walk t walk-lts.Need-add-used
   walk-add-used c =
@@ -813,13 +907,13 @@ module _ (t : ℕ) where
   walk-returns-3 : In-walk t walk-lts.Need-returns-3
   walk-returns-3 c =
       let past = c .before .before .before .before .before .before .before in
-      rw (c .refused2 .ensures) (stopped (leaves-loop past) (leaves past .stops (not-true _ (c .before .if5 .taken))))
+      rw (c .refused2 .ensures) (stopped (leaves-loop past) (leaves past .stops (not-true _ (c .before .if7 .taken))))
 
   walk-behind-requires : In-walk t walk-lts.Need-behind-requires
   walk-behind-requires c κs =
       let past = c .before .before .before .before .before .before in
       let k = leaves-loop past in
-      let there = whole-inside _ _ _ (leaves past .stand (not-false _ (c .if5 .left))) in
+      let there = whole-inside _ _ _ (leaves past .stand (not-false _ (c .if7 .left))) in
       (omega (arith, there, now k .noted .sized .room), omega (arith, there, table-fits k))
 
   -- What is due of the last leaf: its slot is set, and its role is applied
@@ -830,28 +924,28 @@ module _ (t : ℕ) where
   walk-shared-slice-read-content-of : In-walk t walk-lts.Need-shared-slice-read-content-of
   walk-shared-slice-read-content-of c =
       let past = c .before .before .before in
-      whole-inside _ _ _ (leaves (behind-leaves past) .stand (not-false _ (past .before .if5 .left)))
+      whole-inside _ _ _ (leaves (behind-leaves past) .stand (not-false _ (past .before .if7 .left)))
 
   walk-content-of-requires : In-walk t walk-lts.Need-content-of-requires
   walk-content-of-requires c κs = search needs
 
-  walk-mul-slots : In-walk t walk-lts.Need-mul-slots
-  walk-mul-slots c = omega arith
+  walk-mul-slots-2 : In-walk t walk-lts.Need-mul-slots-2
+  walk-mul-slots-2 c = omega arith
 
-  walk-array-set-from-slots : In-walk t walk-lts.Need-array-set-from-slots
-  walk-array-set-from-slots c = omega arith
+  walk-array-set-from-slots-2 : In-walk t walk-lts.Need-array-set-from-slots-2
+  walk-array-set-from-slots-2 c = omega arith
 
   -- the slots behind the leaves, as they are told and joined
   slot-told : (c : AtDue) →
-      let l = due-loop c .loop in
       let q = due-leaves c .read-leaves .result in
-      (c .if6 .slots ≡ setSlot (l .slots) (q .slot) (contentOf (u8 (loop-start (due-loop c) .args .table .now) (q .at)) (q .value)))
-      ⊎ ((slotCount ≤ q .slot) × (c .if6 .slots ≡ l .slots))
+      let came = due-border c .if1 .slots in
+      (c .if8 .slots ≡ setSlot came (q .slot) (contentOf (u8 (loop-start (due-loop c) .args .table .now) (q .at)) (q .value)))
+      ⊎ ((slotCount ≤ q .slot) × (c .if8 .slots ≡ came))
   unfolding u8 setSlot
-  slot-told c = ⊎-elim (λ y. inl (rw (y .2 .ensures) at (y .3))) (λ y. inr (y .0 .left, y .1)) (c .if6 .came)
+  slot-told c = ⊎-elim (λ y. inl (rw (y .2 .ensures) at (y .3))) (λ y. inr (y .0 .left, y .1)) (c .if8 .came)
 
   leaves-on : (c : AtDue) → due-leaves c .read-leaves .result .on ≡ true
-  leaves-on c = not-false _ (due-behind c .before .if5 .left)
+  leaves-on c = not-false _ (due-behind c .before .if7 .left)
 
   due : (c : AtDue) →
       let l = due-loop c .loop in
@@ -861,8 +955,8 @@ module _ (t : ℕ) where
       let w = walk-of (due-loop c) in
       Kept w (role (roleOf (q .role)) (q .width) (q .value) ⨾ left w r) r
       (merged (l .used) (l .list) (y .last .1 .1 .1 .1 .1 .1 .1 .1 .1 .1 .1 .0)) (l .used + q .used)
-      (stateAt (q .place) (q .order) (l .state)) (c .if6 .slots)
-  due c = leaves-due (leaves (due-leaves c)) (leaves-on c) (now (due-loop c) .many) (due-behind c .behind .ensures) (slot-told c)
+      (stateAt (q .place) (q .order) (l .state)) (c .if8 .slots)
+  due c = leaves-due (leaves (due-leaves c)) (leaves-on c) (here (leaves-field (due-leaves c)) .many) (due-behind c .behind .ensures) (slot-told c)
 
   -- a round with leaves lists an entry at least
   leaves-fall : (c : AtDue) →
@@ -904,7 +998,7 @@ module _ (t : ℕ) where
       let r = applied-behind c .behind .result in
       let w = walk-of (applied-loop c) in
       RoleRound w (left w r) r (merged (l .used) (l .list) (y .last .1 .1 .1 .1 .1 .1 .1 .1 .1 .1 .1 .0)) (l .used + q .used)
-      (stateAt (q .place) (q .order) (l .state)) (applied-due c .if6 .slots) (c .apply .result) (c .apply .last .1 .1 .1 .1 .0)
+      (stateAt (q .place) (q .order) (l .state)) (applied-due c .if8 .slots) (c .apply .result) (c .apply .last .1 .1 .1 .1 .0)
   applied c = role-did _ _ _ (due (applied-due c)) (c .before .before .at2 .ensures) (c .apply .ensures)
 
   walk-add-used-2 : In-walk t walk-lts.Need-add-used-2
@@ -954,11 +1048,11 @@ module _ (t : ℕ) where
       (leaves (due-leaves past) .same ∙ sym (f .2)) (f .1) (omega (arith, f .0))
 
   walk-loop-again-2 : In-walk t walk-lts.Need-loop-again-2
-  walk-loop-again-2 c = (due-loop (c .before) .loop .inv .0, no-role _ _ _ (c .if7 .left) (due (c .before)))
+  walk-loop-again-2 c = (due-loop (c .before) .loop .inv .0, no-role _ _ _ (c .if9 .left) (due (c .before)))
 
   -- A field that holds others, taken as a member
 
-  holder-round : (c : AtHolder) → Now (holder-loop c) (c .taken .result)
+  holder-round : (c : AtHolder) → Here (holder-border c) (c .taken .result)
   holder-round c = taken-round (c .taken .ensures) (some-left (holder-field c)) (here (holder-field c))
 
   holder-next : (c : AtHolder) → FirstAt (c .taken .result) (holder-class c .first .result)
@@ -967,19 +1061,20 @@ module _ (t : ℕ) where
   -- its kind and the byte behind it
   slot-there : (c : AtHolder) → holder-class c .first .result + 2 ≤ length (loop-start (holder-loop c) .args .table .now)
   unfolding u8
-  slot-there c = slot-within _ _ _ (class-there (holder-class c)) (c .before .if3 .left)
+  slot-there c = slot-within _ _ _ (class-there (holder-class c)) (c .before .if5 .left)
 
   holder : (c : AtHolder) (x : Content) →
       let l = holder-loop c .loop in
-      slotAt (l .slots) (slotReadAt (loop-start (holder-loop c) .args .table .now) (holder-class c .first .result)) ≡ x
-      → Holder (walk-of (holder-loop c)) (c .taken .result) (l .list) (l .used) (stateAt (l .place) (l .order) (l .state)) (l .slots) x
+      let came = holder-border c .if1 .slots in
+      slotAt came (slotReadAt (loop-start (holder-loop c) .args .table .now) (holder-class c .first .result)) ≡ x
+      → Holder (walk-of (holder-loop c)) (c .taken .result) (l .list) (l .used) (stateAt (l .place) (l .order) (l .state)) came x
   unfolding u8
-  holder c x told = holds-first (holder-round c) (holder-next c) (c .before .if3 .left) (holder-room c .if2 .left) told
+  holder c x told = holds-first (holder-round c) (holder-next c) (c .before .if5 .left) (holder-room c .if4 .left) told
 
   walk-taken-requires : In-walk t walk-lts.Need-taken-requires
   walk-taken-requires c κs =
       let past = c .before .before in
-      some-left (class-field past)
+      some-left (class-field past) .some
 
   -- A structure
 
@@ -1002,11 +1097,11 @@ module _ (t : ℕ) where
       let l = holder-loop k .loop in
       let h = holder-round k in
       let there = class-there (holder-class k) in
-      let o = opens _ _ (h .noted) _ _ there (k .before .if3 .left) in (
+      let o = opens _ _ (h .noted) _ _ there (k .before .if5 .left) in (
         (slot-there k, omega (arith, whole-inside _ _ _ there, o .aligns), o .align),
         (
           (h .framed .begun, omega (arith, h .framed .within, h .framed .ends, h .framed .small)),
-          omega (arith, lent-room (l .used) (l .list), holder-room k .if2 .left),
+          omega (arith, lent-room (l .used) (l .list), holder-room k .if4 .left),
         ),
       )
 
@@ -1014,11 +1109,11 @@ module _ (t : ℕ) where
   structure : (c : AtEntered) →
       let l = entered-loop c .loop in
       EnterRound (walk-of (entered-loop c)) (entered-holder c .taken .result) (l .list) (l .used)
-      (stateAt (l .place) (l .order) (l .state)) (l .slots) (c .enter-structure .result) (c .enter-structure .last .1 .1 .1 .1 .1 .0)
+      (stateAt (l .place) (l .order) (l .state)) (entered-border c .if1 .slots) (c .enter-structure .result) (c .enter-structure .last .1 .1 .1 .1 .1 .0)
   unfolding u8
   structure c =
       let k = entered-holder c in
-      entered-did (holder k _ refl) (holder-next k) (c .before .before .if8 .taken)
+      entered-did (holder k _ refl) (holder-next k) (c .before .before .if10 .taken)
       (c .enter-structure .ensures .0) (c .enter-structure .ensures .1)
 
   walk-refused-requires-3 : In-walk t walk-lts.Need-refused-requires-3
@@ -1032,7 +1127,7 @@ module _ (t : ℕ) where
   walk-returns-5 : In-walk t walk-lts.Need-returns-5
   walk-returns-5 c =
       let past = c .before .before .before .before .before in
-      rw (c .refused3 .ensures) (stopped (entered-loop past) (structure past .stops (not-true _ (c .before .if9 .taken))))
+      rw (c .refused3 .ensures) (stopped (entered-loop past) (structure past .stops (not-true _ (c .before .if11 .taken))))
 
   walk-add-opened : In-walk t walk-lts.Need-add-opened
   walk-add-opened c =
@@ -1062,21 +1157,21 @@ module _ (t : ℕ) where
   walk-add-used-3 : In-walk t walk-lts.Need-add-used-3
   walk-add-used-3 c =
       let past = c .before .before .before .before .before .before .before .before in
-      omega (arith, within (entered-loop past), entered-room past .if2 .left)
+      omega (arith, within (entered-loop past), entered-room past .if4 .left)
 
   walk-loop-less-3 : In-walk t walk-lts.Need-loop-less-3
   walk-loop-less-3 c =
       let past = c .before .before .before .before .before .before .before .before in
       let l = entered-loop past .loop in
       round-falls (length (l .list)) _ (l .used) (l .used + 4) 0 0 (structure past .same ∙ sym (within (entered-loop past) .1))
-      (omega (arith, entered-room past .if2 .left)) (omega arith)
+      (omega (arith, entered-room past .if4 .left)) (omega arith)
 
   walk-loop-again-3 : In-walk t walk-lts.Need-loop-again-3
   unfolding u8
   walk-loop-again-3 c =
       let past = c .before .before .before .before .before .before .before .before in
       let k = entered-holder past in
-      let on = not-false _ (c .before .before .before .before .if9 .left) in (
+      let on = not-false _ (c .before .before .before .before .if11 .left) in (
         entered-loop past .loop .inv .0,
         entered-run (holder k _ refl) (holder-next k) (structure past) (c .opened .ensures) (c .before .wide .ensures .0) on,
       )
@@ -1087,7 +1182,7 @@ module _ (t : ℕ) where
   unfolding u8
   walk-slot-read-requires c κs =
       let k = c .before in
-      (omega (arith, k .before .if3 .left), kind-high _ _ _ (class-there (holder-class k)), slot-there k)
+      (omega (arith, k .before .if5 .left), kind-high _ _ _ (class-there (holder-class k)), slot-there k)
 
   walk-mul-slot-2 : In-walk t walk-lts.Need-mul-slot-2
   walk-mul-slot-2 c = omega arith
@@ -1096,17 +1191,17 @@ module _ (t : ℕ) where
   walk-array-copy-out-slot-2 c = omega arith
 
   holder-told : (c : AtTold) →
-      slotAt (told-loop c .loop .slots) (slotReadAt (loop-start (told-loop c) .args .table .now) (told-class c .first .result))
-      ≡ c .if10 .content
+      slotAt (told-border c .if1 .slots) (slotReadAt (loop-start (told-loop c) .args .table .now) (told-class c .first .result))
+      ≡ c .if12 .content
   unfolding slotAt
   holder-told c =
-      content-met (told-loop c .loop .slots) (now (told-loop c) .many) (c .before .slot-read .ensures .0) (λ y. y .2)
-      (λ y. (y .0 .left, y .1)) (c .if10 .came)
+      content-met (told-border c .if1 .slots) (here (holder-field (told-holder c)) .many) (c .before .slot-read .ensures .0) (λ y. y .2)
+      (λ y. (y .0 .left, y .1)) (c .if12 .came)
 
   holds : (c : AtTold) →
       let l = told-loop c .loop in
       Holder (walk-of (told-loop c)) (told-holder c .taken .result) (l .list) (l .used) (stateAt (l .place) (l .order) (l .state))
-      (l .slots) (c .if10 .content)
+      (told-border c .if1 .slots) (c .if12 .content)
   holds c = holder (told-holder c) _ (holder-told c)
 
   -- opened in its run
@@ -1139,20 +1234,20 @@ module _ (t : ℕ) where
       let k = told-holder past in
       let l = told-loop past .loop in
       let h = holder-round k in (
-        opens _ _ (h .noted) _ _ (class-there (told-class past)) (k .before .if3 .left),
+        opens _ _ (h .noted) _ _ (class-there (told-class past)) (k .before .if5 .left),
         (
           (h .framed .begun, omega (arith, h .framed .within, h .framed .ends, h .framed .small)),
-          omega (arith, lent-room (l .used) (l .list), told-room past .if2 .left),
+          omega (arith, lent-room (l .used) (l .list), told-room past .if4 .left),
         ),
       )
 
   opening : (c : AtOpened) →
       let l = opened-loop c .loop in
       CodeRound (walk-of (opened-loop c)) (opened-holder c .taken .result) (l .list) (l .used)
-      (stateAt (l .place) (l .order) (l .state)) (l .slots) (c .open-field .result) (c .open-field .last .1 .1 .1 .1 .1 .1 .1 .0)
+      (stateAt (l .place) (l .order) (l .state)) (opened-border c .if1 .slots) (c .open-field .result) (c .open-field .last .1 .1 .1 .1 .1 .1 .1 .0)
   unfolding u8
   opening c =
-      let can = sym (c .before .before .before .is-open .ensures) ∙ c .before .before .if11 .taken in
+      let can = sym (c .before .before .before .is-open .ensures) ∙ c .before .before .if13 .taken in
       inside-did (holds (opened-told c)) (holder-next (opened-holder c)) can (c .open-field .ensures .0) (c .open-field .ensures .1)
 
   walk-refused-requires-4 : In-walk t walk-lts.Need-refused-requires-4
@@ -1166,7 +1261,7 @@ module _ (t : ℕ) where
   walk-returns-6 : In-walk t walk-lts.Need-returns-6
   walk-returns-6 c =
       let past = c .before .before .before .before .before in
-      rw (c .refused4 .ensures) (stopped (opened-loop past) (opening past .stops (not-true _ (c .before .if12 .taken))))
+      rw (c .refused4 .ensures) (stopped (opened-loop past) (opening past .stops (not-true _ (c .before .if14 .taken))))
 
   walk-into-requires : In-walk t walk-lts.Need-into-requires
   walk-into-requires c κs =
@@ -1182,26 +1277,33 @@ module _ (t : ℕ) where
         omega (arith, next .1, there, small),
       )
 
+  -- what is inside, in the run
+  into-round : (c : AtInto) →
+      let l = opened-loop (into-opened c) .loop in
+      let o = into-opened c .open-field in
+      Round (walk-of (opened-loop (into-opened c))) (c .into .result)
+      (merged (l .used) (l .list) (o .last .1 .1 .1 .1 .1 .1 .1 .0)) (l .used + 4) (stateAt (o .result .place) (l .order) (l .state))
+      (opened-border (into-opened c) .if1 .slots)
+  unfolding u8
+  into-round c =
+      let past = into-opened c in
+      inside-run (holds (opened-told past)) (holder-next (opened-holder past)) (opening past) (c .into .ensures)
+      (not-false _ (c .before .before .if14 .left))
+
   walk-add-used-4 : In-walk t walk-lts.Need-add-used-4
   walk-add-used-4 c =
-      let past = c .before .before .before .before .before .before in
-      omega (arith, within (opened-loop past), opened-room past .if2 .left)
+      let past = into-opened c in
+      omega (arith, within (opened-loop past), opened-room past .if4 .left)
 
   walk-loop-less-4 : In-walk t walk-lts.Need-loop-less-4
   walk-loop-less-4 c =
-      let past = c .before .before .before .before .before .before in
+      let past = into-opened c in
       let l = opened-loop past .loop in
       round-falls (length (l .list)) _ (l .used) (l .used + 4) 0 0 (opening past .same ∙ sym (within (opened-loop past) .1))
-      (omega (arith, opened-room past .if2 .left)) (omega arith)
+      (omega (arith, opened-room past .if4 .left)) (omega arith)
 
   walk-loop-again-4 : In-walk t walk-lts.Need-loop-again-4
-  unfolding u8
-  walk-loop-again-4 c =
-      let past = c .before .before .before .before .before .before in
-      let on = not-false _ (c .before .before .if12 .left) in (
-        opened-loop past .loop .inv .0,
-        inside-run (holds (opened-told past)) (holder-next (opened-holder past)) (opening past) (c .into .ensures) on,
-      )
+  walk-loop-again-4 c = (opened-loop (into-opened c) .loop .inv .0, into-round c)
 
   -- or read by itself
 
@@ -1237,7 +1339,7 @@ module _ (t : ℕ) where
         (
           class-there (told-class past),
           (
-            (k .before .if3 .left, omega (arith, lent-room (l .used) (l .list), told-room past .if2 .left)),
+            (k .before .if5 .left, omega (arith, lent-room (l .used) (l .list), told-room past .if4 .left)),
             (h .noted, rw (c .before .at3 .ensures) (h .framed)),
           ),
         ),
@@ -1322,15 +1424,20 @@ module _ (t : ℕ) where
 
   walk-elements-walk-requires : In-walk-elements t walk-elements-lts.Need-walk-requires
   walk-elements-walk-requires c κs =
-      let p = c .before .before .before .before .before .before .before .before .pre in
-      (omega (arith, p .0), (rw (c .before .elements .ensures) (elements-stand _ _ _ _ (p .1 .0)), p .1 .1))
+      let past = c .before in
+      let p = past .before .before .before .before .before .before .before .pre in
+      let stands = elements-run-stands _ _ _ _ _ (p .1 .0) (p .1 .1 .0) (past .elements .ensures) in
+      (omega (arith, p .0), (stands, p .1 .1 .1))
 
   walk-elements-same-length : In-walk-elements t walk-elements-lts.Need-same-length
   walk-elements-same-length c = c .before .before .walk .kept .1 .1 .1 .1 .1 .1 .1 .1 .1 .1 .0
 
   walk-elements-returns : In-walk-elements t walk-elements-lts.Need-returns
   walk-elements-returns c =
-      rw (c .before .before .before .before .elements .ensures, elements-reads-ahead _ _ _ _ _) at (c .before .before .walk .ensures)
+      let past = c .before .before .before .before in
+      let p = past .before .before .before .before .before .before .before .pre in
+      let reads = elements-run-reads _ _ _ _ _ (p .1 .0) (p .1 .1 .0) (past .elements .ensures) in
+      rw (reads _) at (c .before .before .walk .ensures)
 
 -- walk_members
 
@@ -1389,12 +1496,17 @@ pub +read-field+walk+walk-elements+walk-members-spec : {M : Type 1} → statemen
     (read-field-returns-2 t))
     (λ t. walk-lts.spec (walk-calls t) (walk-at t) walk.Post walk-Inv-loop walk-μ-loop
     (walk-loop-holds t)
+    (walk-is-border-requires t)
+    (walk-sub-only t)
+    (walk-mul-slots t)
+    (walk-array-set-from-slots t)
+    (walk-forgotten-requires t)
     (walk-forward-requires t)
     (walk-is-over-requires t)
     (walk-at-requires t)
     (walk-same-length t)
     (walk-returns t)
-    (walk-sub-if2 t)
+    (walk-sub-if4 t)
     (walk-refused-requires t)
     (walk-same-length-2 t)
     (walk-returns-2 t)
@@ -1418,8 +1530,8 @@ pub +read-field+walk+walk-elements+walk-members-spec : {M : Type 1} → statemen
     (walk-cast-to t)
     (walk-shared-slice-read-content-of t)
     (walk-content-of-requires t)
-    (walk-mul-slots t)
-    (walk-array-set-from-slots t)
+    (walk-mul-slots-2 t)
+    (walk-array-set-from-slots-2 t)
     (walk-at-requires-2 t)
     (walk-mul-apply t)
     (walk-sub-apply t)
