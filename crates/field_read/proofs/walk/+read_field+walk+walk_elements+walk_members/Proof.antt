@@ -710,13 +710,13 @@ module _ (t : ℕ) where
       (omega (arith, part-length p, p .room), part-length p, omega (arith, loop-start c .good .1 .1 .1 .1 .1 .1 .1 .1 .1 .1 .0))
 
   -- the run, with what it had put off in front where nothing else was left
-  border-told : (c : AtBorder) →
+  walk-border-told : (c : AtBorder) →
       let a = loop-start (border-loop c) .args in
       let l = border-loop c .loop in
       ((border (l .run) ≡ true) × (c .if1 .slots ≡ unset (l .slots) (slotsOf (a .table .now) (a .sizes .now) (l .run .again))))
       ⊎ ((border (l .run) ≡ false) × (c .if1 .slots ≡ l .slots))
   unfolding setSlot
-  border-told c =
+  walk-border-told c =
       let is = sym (c .before .is-border .ensures) in
       ⊎-elim
       (λ y. let b = is ∙ y .0 .taken in inl (b, forgot-one (now (border-loop c)) b (y .2 .taken) refl (y .4)))
@@ -724,7 +724,7 @@ module _ (t : ℕ) where
       (c .if1 .came)
 
   forwarded : (c : AtForward) → Here (forward-border c) (c .forward .result)
-  forwarded c = forward-round (c .forward .ensures) (border-told (forward-border c)) (now (forward-loop c))
+  forwarded c = forward-round (c .forward .ensures) (walk-border-told (forward-border c)) (now (forward-loop c))
 
   here : (c : AtField) → Here (field-border c) (field-forward c .forward .result)
   here c = forwarded (field-forward c)
