@@ -89,7 +89,8 @@ enum trevoskel_checked {
 enum trevoskel_result {
     TREVOSKEL_RESULT_NUMBER,
     TREVOSKEL_RESULT_ENTRIES,             /* how many stand in the list */
-    TREVOSKEL_RESULT_PLACE,               /* in bits: 8 times the stream's bytes; or, refused, where the failing step began. Of 20 a byte */
+    TREVOSKEL_RESULT_PLACE,               /* in bits: 8 times the stream's bytes; or, refused, where the failing step began, but of 22 the
+                                             bound and of 24 the first bit of the number's tenth byte. Of 20 a byte of the table */
     TREVOSKEL_RESULT_FIRST_ID,
     TREVOSKEL_RESULT_SECOND_ID,
     TREVOSKEL_RESULT_WORDS

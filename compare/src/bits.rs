@@ -56,7 +56,8 @@ pub fn align(place: u64, packet: u64, requirement: u64) -> u64 {
 #[derive(Clone, Copy, Debug, PartialEq, Eq)]
 pub enum LebFault {
     PastBound,
-    TooLong,
+    /// Too long or too large, from the byte of this index on.
+    TooLong(u64),
 }
 
 const LEB_BYTES: usize = 10;
@@ -72,7 +73,7 @@ pub fn leb(bytes: &[u8], signed: bool) -> Result<(u64, u64), LebFault> {
             // Bit 63 comes from this byte; what is above must not add to 64 bits.
             let fits = if signed { low == 0 || low == 0x7f } else { low <= 1 };
             if byte >= 0x80 || !fits {
-                return Err(LebFault::TooLong);
+                return Err(LebFault::TooLong(index as u64));
             }
         }
         if byte < 0x80 {
@@ -161,13 +162,13 @@ mod tests {
         let ten = |last: u8| [0xff, 0xff, 0xff, 0xff, 0xff, 0xff, 0xff, 0xff, 0xff, last];
         assert_eq!(leb(&ten(1), false), Ok((u64::MAX, 10)));
         assert_eq!(leb(&ten(0), false), Ok((u64::MAX >> 1, 10)));
-        assert_eq!(leb(&ten(2), false), Err(LebFault::TooLong));
-        assert_eq!(leb(&ten(0x81), false), Err(LebFault::TooLong));
+        assert_eq!(leb(&ten(2), false), Err(LebFault::TooLong(9)));
+        assert_eq!(leb(&ten(0x81), false), Err(LebFault::TooLong(9)));
         assert_eq!(leb(&ten(0x7f), true), Ok((u64::MAX, 10)));
         assert_eq!(leb(&ten(0), true), Ok((i64::MAX as u64, 10)));
-        assert_eq!(leb(&ten(1), true), Err(LebFault::TooLong));
-        assert_eq!(leb(&ten(0x7e), true), Err(LebFault::TooLong));
-        assert_eq!(leb(&ten(0x40), true), Err(LebFault::TooLong));
+        assert_eq!(leb(&ten(1), true), Err(LebFault::TooLong(9)));
+        assert_eq!(leb(&ten(0x7e), true), Err(LebFault::TooLong(9)));
+        assert_eq!(leb(&ten(0x40), true), Err(LebFault::TooLong(9)));
         let low = [0x80, 0x80, 0x80, 0x80, 0x80, 0x80, 0x80, 0x80, 0x80, 0x7f];
         assert_eq!(leb(&low, true), Ok((1 << 63, 10)));
         assert_eq!(leb(&ten(0x80)[..9], false), Err(LebFault::PastBound));

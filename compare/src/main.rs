@@ -11,7 +11,7 @@ use std::time::{Duration, Instant, SystemTime, UNIX_EPOCH};
 const USE: &str = "use:
   compare answers < case file
   compare cases SEED COUNT > case file
-  compare run [--each N] [--removed N] [--elements N] SEED COUNT PROGRAM [ARGS...]
+  compare run [--each N] [--removed N] [--elements N] [--bounds N] SEED COUNT PROGRAM [ARGS...]
   compare soak SECONDS PROGRAM [ARGS...]";
 
 const BATCH: usize = 1000;
@@ -67,12 +67,13 @@ fn cases(seed: &str, count: &str) -> Option<ExitCode> {
 }
 
 /// What a run must reach: each number so often, so many packets removed, so many refusals of each
-/// sort that come of the slots of array elements.
+/// sort that come of the slots of array elements, so many of each sort of bound that is crossed.
 #[derive(Default)]
 struct Least {
     each: usize,
     removed: usize,
     elements: usize,
+    bounds: usize,
 }
 
 fn run(mut words: &[&str]) -> Option<ExitCode> {
@@ -82,6 +83,7 @@ fn run(mut words: &[&str]) -> Option<ExitCode> {
             "--each" => &mut least.each,
             "--removed" => &mut least.removed,
             "--elements" => &mut least.elements,
+            "--bounds" => &mut least.bounds,
             _ => break,
         };
         *wanted = number.parse().ok()?;
@@ -96,7 +98,7 @@ fn run(mut words: &[&str]) -> Option<ExitCode> {
         return Some(ExitCode::FAILURE);
     }
     print!("{tally}");
-    let Least { each, removed, elements } = least;
+    let Least { each, removed, elements, bounds } = least;
     let rare = tally.rarer_than(each);
     if !rare.is_empty() {
         println!("occurred fewer than {each} times: {rare:?}");
@@ -108,6 +110,10 @@ fn run(mut words: &[&str]) -> Option<ExitCode> {
     }
     if tally.second_homes() < elements || tally.slots_forgotten() < elements {
         println!("fewer than {elements} slots of a second home, or forgotten ones read");
+        return Some(ExitCode::FAILURE);
+    }
+    if tally.content_ends() < bounds || tally.bounds_in_bytes() < bounds {
+        println!("fewer than {bounds} bounds crossed before the stream's end, or inside a byte");
         return Some(ExitCode::FAILURE);
     }
     Some(ExitCode::SUCCESS)

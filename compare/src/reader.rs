@@ -254,7 +254,7 @@ impl<'a> Reader<'a> {
     fn aligned(&self, requirement: u64) -> Step<u64> {
         let place = bits::align(self.place, self.packet, requirement);
         if place > self.bound {
-            return stop(22, self.place);
+            return stop(22, self.bound);
         }
         Ok(place)
     }
@@ -355,7 +355,7 @@ impl<'a> Reader<'a> {
             return stop(23, self.place);
         }
         if fixed.length as u64 > self.bound - place {
-            return stop(22, self.place);
+            return stop(22, self.bound);
         }
         let value = mean(bits::take(self.stream, place, fixed.length, fixed.order));
         self.order = Some(fixed.order);
@@ -370,8 +370,8 @@ impl<'a> Reader<'a> {
         let bytes = &self.stream[(place / 8) as usize..(self.bound / 8) as usize];
         let (value, count) = match bits::leb(bytes, kind == 22) {
             Ok(number) => number,
-            Err(LebFault::PastBound) => return stop(22, self.place),
-            Err(LebFault::TooLong) => return stop(24, self.place),
+            Err(LebFault::PastBound) => return stop(22, self.bound),
+            Err(LebFault::TooLong(index)) => return stop(24, place + 8 * index),
         };
         self.enter(kind, place, 8 * count, value);
         self.place = place + 8 * count;
@@ -395,7 +395,7 @@ impl<'a> Reader<'a> {
     fn bytes(&self, count: u64) -> Step<(u64, &'a [u8])> {
         let place = self.aligned(8)?;
         if 8 * count > self.bound - place {
-            return stop(22, self.place);
+            return stop(22, self.bound);
         }
         let first = (place / 8) as usize;
         Ok((place, &self.stream[first..first + count as usize]))

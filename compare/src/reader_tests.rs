@@ -198,7 +198,28 @@ fn alignment_of_parts() {
     assert_eq!(number, 0);
     let expected = [[17, 0, 1, 1], [28, 32, 0, 1], [29, 32, 0, 0], [31, 32, 0, 1], [16, 64, 8, 7]];
     assert_eq!(entries[..5], expected);
-    assert_eq!(run(&records, &[1, 0, 0], 8000).0, result(22, 7, 1));
+    assert_eq!(run(&records, &[1, 0, 0], 8000).0, result(22, 7, 24));
+}
+
+#[test]
+fn places_of_bounds() {
+    let records = clocked();
+    // The content ends inside the only event's byte, or the stream inside the context.
+    let stream = packet(72, 71, 0, 0, &[7]);
+    assert_eq!(run(&records, &stream, 8000).0, result(22, 11, 71));
+    assert_eq!(run(&records, &stream[..7], 8000).0, result(22, 7, 56));
+    // A number that begins inside a byte: past the bound, or too large at its tenth byte.
+    let mut records = payload(2);
+    records.put(&[16, 4, 0, 0, 21, NO_SLOT, 0]);
+    let mut stream = [0x80; 11];
+    assert_eq!(run(&records, &stream[..10], 8000).0, result(22, 7, 80));
+    assert_eq!(run(&records, &stream, 8000).0, result(24, 7, 80));
+    stream[10] = 2;
+    assert_eq!(run(&records, &stream, 8000).0, result(24, 7, 80));
+    // No zero byte is still at the string, before its alignment.
+    let mut records = payload(2);
+    records.put(&[16, 4, 0, 0, 23]);
+    assert_eq!(run(&records, &[0, 1], 8000).0, result(25, 7, 4));
 }
 
 /// A context with total, content, clock and end clock of 16 bits each, events of one byte.

@@ -26,12 +26,15 @@ pub struct Tally {
     packets_removed: usize,
     second_homes: usize,
     slots_forgotten: usize,
+    content_ends: usize,
+    bounds_in_bytes: usize,
 }
 
 impl Tally {
     fn count(&mut self, case: &Case, answer: &Answer) {
         self.cases += 1;
         self.count_elements(case, answer);
+        self.count_bounds(case, answer);
         *self.numbers.entry(answer.reading.number).or_default() += 1;
         if answer.check.0 != 0 {
             *self.numbers.entry(answer.check.0).or_default() += 1;
@@ -47,6 +50,14 @@ impl Tally {
             self.second_homes += (refused && otherwise.check != answer.check) as usize;
             self.slots_forgotten += (unset && otherwise.reading != answer.reading) as usize;
         }
+    }
+
+    /// Counts 22 where the place tells the content's end from the stream's, and where it is no
+    /// whole byte.
+    fn count_bounds(&mut self, case: &Case, answer: &Answer) {
+        let (number, place) = (answer.reading.number, answer.reading.place);
+        self.content_ends += (number == 22 && place < 8 * case.stream.len() as u64) as usize;
+        self.bounds_in_bytes += (number == 22 && place % 8 != 0) as usize;
     }
 
     fn times(&self, number: u64) -> usize {
@@ -73,6 +84,16 @@ impl Tally {
     pub fn slots_forgotten(&self) -> usize {
         self.slots_forgotten
     }
+
+    /// How many readings were refused as 22 at a content's end before the stream's.
+    pub fn content_ends(&self) -> usize {
+        self.content_ends
+    }
+
+    /// How many readings were refused as 22 at a bound inside a byte.
+    pub fn bounds_in_bytes(&self) -> usize {
+        self.bounds_in_bytes
+    }
 }
 
 impl fmt::Display for Tally {
@@ -90,7 +111,12 @@ impl fmt::Display for Tally {
         )?;
         writeln!(f, "packets removed: {} pairs", self.packets_removed)?;
         let (homes, forgotten) = (self.second_homes, self.slots_forgotten);
-        writeln!(f, "slots of elements: {homes} of a second home (11), {forgotten} forgotten (26)")
+        writeln!(
+            f,
+            "slots of elements: {homes} of a second home (11), {forgotten} forgotten (26)"
+        )?;
+        let (ends, inside) = (self.content_ends, self.bounds_in_bytes);
+        writeln!(f, "bounds crossed (22): {ends} before the stream's end, {inside} inside a byte")
     }
 }
 

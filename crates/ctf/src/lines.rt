@@ -125,7 +125,7 @@ pub(crate) fn say_result(r: Result) {
     }
     say_number(r.place);
     say(b": ");
-    say_refusal(r.number, r.first, r.second);
+    say_refusal(r.number, r.place, r.first, r.second);
     say(b"; ");
     say_number(entries as u64);
     say(b" entries\n");

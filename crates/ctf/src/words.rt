@@ -45,14 +45,18 @@ fn say_fault_from_9(number: u64) {
     }
 }
 
-// Why a reading was refused, by its number ("Refusing a stream"), with the ids that it names.
-pub(crate) fn say_refusal(number: u8, first: u64, second: u64) {
+// Why a reading was refused, by its number ("Refusing a stream"), with the ids that it names. Of 22 the place is the bound, not the field's.
+pub(crate) fn say_refusal(number: u8, place: u64, first: u64, second: u64) {
     match number {
         20 => {
             say(b"the table is refused by ");
             say_number(first);
             say(b": ");
             say_fault(first);
+        }
+        22 => {
+            say(b"the field behind the last entry crosses the bound at bit ");
+            say_number(place);
         }
         33 => {
             say(b"the table has no stream class ");
@@ -79,9 +83,8 @@ fn say_refusal_without_id(number: u8) {
 fn say_refusal_to_29(number: u8) {
     match number {
         21 => say(b"the stream is empty, or has more than 16,777,216 bytes"),
-        22 => say(b"alignment, bits or bytes go past the bound"),
         23 => say(b"the byte order changes off a byte boundary"),
-        24 => say(b"a LEB128 number is too long or too large"),
+        24 => say(b"a LEB128 number is too long or too large at its tenth byte"),
         25 => say(b"there is no zero byte before the bound"),
         26 => say(
             b"a slot is read that no field has set, or only one in an array element that is over",

@@ -18,7 +18,7 @@ module _ (d d′ : ℕ) (t : List ℕ) (l : d ≤ d′) (f : Frame) (from : BitP
   unfolding Held
   held-deeper (Members p v at n) h = record { place = h .place; classes = members-deeper d d′ t at n l (h .classes) .stand }
   held-deeper (Elements p v at n) h = record { place = h .place; class = deeper d d′ t l at (h .class) .0 }
-  held-deeper (Refused r) h = tt
+  held-deeper (Refused v) h = tt
 
   pub opened-deeper : (e : Env) (k : ℕ) (i : Inside) (s : State) → Held d t f from i → opened e k d t i s ≡ opened e k d′ t i s
   unfolding Held opened
@@ -26,4 +26,4 @@ module _ (d d′ : ℕ) (t : List ℕ) (l : d ≤ d′) (f : Frame) (from : BitP
       ap (λ cs. (listed (entry k p 0 v) p ⨾ readMembers e cs) s) (members-deeper d d′ t at n l (h .classes) .same)
   opened-deeper e k (Elements p v at n) s h =
       ap (λ c. (listed (entry k p 0 v) p ⨾ times n (elementOf e (c .class))) s) (deeper d d′ t l at (h .class) .1)
-  opened-deeper e k (Refused r) s h = refl
+  opened-deeper e k (Refused v) s h = refl

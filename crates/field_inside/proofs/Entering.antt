@@ -7,6 +7,7 @@ use lib.Dec.{ltb}
 use borrow.Author.Tests.{lt-ltb, le-ltb}
 use Rattle.rules.specs.declared.BitPlace.{BitPlace}
 use Rattle.rules.specs.declared.Refusal.the-variants.{PastBound}
+use Rattle.rules.specs.Verdict.{stopAt}
 use Rattle.facts.proofs.Truth.{clash}
 use Rattle.frame.specs.declared.Frame.{Frame}
 use Rattle.frame.specs.Framed.{alignedAt}
@@ -16,41 +17,47 @@ use Rattle.field_inside.specs.declared.opening.Entered.{Entered}
 use Rattle.field_inside.specs.Inside.{within, standing}
 use Rattle.field_inside.specs.Opening.{openedAs, listHolder, listOpened, enteredAt, listEntered}
 
-pub opened-by : (a : List ℕ) (p : BitPlace) (k : ℕ) (ws : List ℕ) {o i : Inside} (j : Inside) → o ≡ i → o ≡ j
-    → (openedAs a p j ≡ openedAs a p i) × (listOpened k j ws ≡ listOpened k i ws)
-opened-by a p k ws j look e = rw (sym look ∙ e) (refl, refl)
+pub opened-by : (a : List ℕ) (k : ℕ) (ws : List ℕ) {o i : Inside} (j : Inside) → o ≡ i → o ≡ j
+    → (openedAs a j ≡ openedAs a i) × (listOpened k j ws ≡ listOpened k i ws)
+opened-by a k ws j look e = rw (sym look ∙ e) (refl, refl)
 
 abbrev entered : Bool → BitPlace → Entered
 entered on p = record { on = on; place = p }
 
 module _ (f : Frame) (a : ℕ) (from : BitPlace) (n : ℕ) (ws : List ℕ) where
   pub entered-past : {p : BitPlace} → p ≡ alignedAt f a from → f .bound .0 < p .0
-      → (entered false p ≡ enteredAt f a from) × (ws ≡ listEntered f a from n ws)
+      → (entered false (f .bound) ≡ enteredAt f a from) × (ws ≡ listEntered f a from n ws)
   unfolding enteredAt listEntered
-  entered-past e h = rw (sym e, lt-ltb _ _ h, listEntered) (refl, refl)
+  entered-past e h = rw (sym e, lt-ltb _ _ h, enteredAt, listEntered) (refl, refl)
 
   pub entered-fits : {p : BitPlace} {ws′ : List ℕ} → p ≡ alignedAt f a from → p .0 ≤ f .bound .0 → ws′ ≡ listHolder 28 p n ws
       → (entered true p ≡ enteredAt f a from) × (ws′ ≡ listEntered f a from n ws)
   unfolding enteredAt listEntered
-  entered-fits e h list = rw (sym e, le-ltb _ _ h, listEntered, sym e) (refl, list)
+  entered-fits e h list = rw (sym e, le-ltb _ _ h, enteredAt, listEntered, sym e) (refl, list)
 
-  -- what is told of the aligned place
-  pub entered-on : (m : BitPlace → Inside) → enteredAt f a from .on ≡ true
-      → (standing f a from m ≡ m (alignedAt f a from)) × (listEntered f a from n ws ≡ listHolder 28 (alignedAt f a from) n ws)
+  -- what is told of the aligned place, and of one past the bound
+  pub record EnteredOn (m : BitPlace → Inside) : Type 0 where
+    pub told : standing f a from m ≡ m (alignedAt f a from)
+    pub listed : listEntered f a from n ws ≡ listHolder 28 (alignedAt f a from) n ws
+    pub on : enteredAt f a from ≡ entered true (alignedAt f a from)
+
+  pub entered-on : (m : BitPlace → Inside) → enteredAt f a from .on ≡ true → EnteredOn m
   unfolding enteredAt listEntered standing within
   entered-on m = by (ltb (f .bound .0) (alignedAt f a from .0)) refl
     where
-      by : (c : Bool) → ltb (f .bound .0) (alignedAt f a from .0) ≡ c → enteredAt f a from .on ≡ true
-          → (standing f a from m ≡ m (alignedAt f a from)) × (listEntered f a from n ws ≡ listHolder 28 (alignedAt f a from) n ws)
-      by true q h = absurd (clash (rw q at h))
-      by false q h = rw (q, within, listEntered) (refl, refl)
+      by : (c : Bool) → ltb (f .bound .0) (alignedAt f a from .0) ≡ c → enteredAt f a from .on ≡ true → EnteredOn m
+      by true q h = absurd (clash (rw (q, enteredAt) at h))
+      by false q h = record { told = rw (q, within) refl; listed = rw (q, listEntered) refl; on = rw (q, enteredAt) refl }
 
-  pub entered-off : (m : BitPlace → Inside) → enteredAt f a from .on ≡ false
-      → (standing f a from m ≡ Refused PastBound) × (listEntered f a from n ws ≡ ws)
+  pub record EnteredOff (m : BitPlace → Inside) : Type 0 where
+    pub told : standing f a from m ≡ Refused (stopAt PastBound (f .bound))
+    pub listed : listEntered f a from n ws ≡ ws
+    pub off : enteredAt f a from ≡ entered false (f .bound)
+
+  pub entered-off : (m : BitPlace → Inside) → enteredAt f a from .on ≡ false → EnteredOff m
   unfolding enteredAt listEntered standing within
   entered-off m = by (ltb (f .bound .0) (alignedAt f a from .0)) refl
     where
-      by : (c : Bool) → ltb (f .bound .0) (alignedAt f a from .0) ≡ c → enteredAt f a from .on ≡ false
-          → (standing f a from m ≡ Refused PastBound) × (listEntered f a from n ws ≡ ws)
-      by true q h = rw (q, within, listEntered) (refl, refl)
-      by false q h = absurd (clash (sym (rw q at h)))
+      by : (c : Bool) → ltb (f .bound .0) (alignedAt f a from .0) ≡ c → enteredAt f a from .on ≡ false → EnteredOff m
+      by true q h = record { told = rw (q, within) refl; listed = rw (q, listEntered) refl; off = rw (q, enteredAt) refl }
+      by false q h = absurd (clash (sym (rw (q, enteredAt) at h)))

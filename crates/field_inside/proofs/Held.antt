@@ -12,6 +12,7 @@ use Rattle.rules.specs.declared.BitPlace.{BitPlace}
 use Rattle.rules.specs.declared.Content.{Content}
 use Rattle.rules.specs.declared.Content.the-variants.{Unset, Flag, Unsigned, Signed}
 use Rattle.rules.specs.declared.Refusal.{Refusal}
+use Rattle.rules.specs.declared.Stop.{Stop}
 use Rattle.rules.specs.Limits.{lengthLimit}
 use Rattle.rules.specs.Record.{u8}
 use Rattle.rules.specs.Class.{Sign, Range, anyHolds}
@@ -63,7 +64,7 @@ option-has P w f t g v k at (suc n) h some none =
     either-has P (anyHolds g v (rangesAt t (at + 2) (u8 t (at + 1)))) _ _ (some (optionClass t at) k (h .2) (omega arith))
     (option-has P w f t g v (k + 1) ((f (optionClass t at)) .next) n (h .3) (λ class i u l. some class i u (omega arith)) none)
 
-module _ (P : Inside → Type 0) (refused : (r : Refusal) → P (Refused r)) where
+module _ (P : Inside → Type 0) (refused : (v : Stop) → P (Refused v)) where
   standing-has : (f : Frame) (a : ℕ) (from : BitPlace) (m : BitPlace → Inside)
       → ((alignedAt f a from) .0 ≤ f .bound .0 → P (m (alignedAt f a from))) → P (standing f a from m)
   unfolding standing within
@@ -73,14 +74,14 @@ module _ (P : Inside → Type 0) (refused : (r : Refusal) → P (Refused r)) whe
       by true q = rw (q, within) (refused _)
       by false q = rw (q, within) (h (ltb-false _ _ q))
 
-  length-has : (x : Content) (m : ℕ → Inside) → ((n : ℕ) → n ≤ lengthLimit → P (m n)) → P (byLength (lengthOf x) m)
+  length-has : (p : BitPlace) (x : Content) (m : ℕ → Inside) → ((n : ℕ) → n ≤ lengthLimit → P (m n)) → P (byLength p (lengthOf x) m)
   unfolding lengthOf byLength
-  length-has Unset m h = refused _
-  length-has (Flag c) m h = refused _
-  length-has (Signed n) m h = refused _
-  length-has (Unsigned n) m h = by (ltb lengthLimit n) refl
+  length-has p Unset m h = refused _
+  length-has p (Flag c) m h = refused _
+  length-has p (Signed n) m h = refused _
+  length-has p (Unsigned n) m h = by (ltb lengthLimit n) refl
     where
-      by : (c : Bool) → ltb lengthLimit n ≡ c → P (byLength (lengthOf (Unsigned n)) m)
+      by : (c : Bool) → ltb lengthLimit n ≡ c → P (byLength p (lengthOf (Unsigned n)) m)
       by true q = rw (q, lengthOf) (refused _)
       by false q = rw (q, lengthOf) (h n (ltb-false _ _ q))
 
@@ -102,14 +103,15 @@ module _ (P : Inside → Type 0) (refused : (r : Refusal) → P (Refused r)) whe
     optional-has (Flag c) g [] = present-has c
     optional-has (Unsigned n) g [] = refused _
     optional-has (Signed n) g [] = refused _
-    optional-has x g (r ∷ rs) = number-has (optionalInside p at) refused (numberOf g x) _ (λ v. present-has (anyHolds g v (r ∷ rs)))
+    optional-has x g (r ∷ rs) =
+        number-has (optionalInside p at) (λ r. refused _) (numberOf g x) _ (λ v. present-has (anyHolds g v (r ∷ rs)))
 
   variant-has : (p : BitPlace) (w : ℕ → Type 0) (f : ℕ → Stood) (t : List ℕ) (at : ℕ) (x : Content)
       → wholeOptions w f t (at + 3) (u8 t (at + 2)) → ((class i : ℕ) → w class → i < 0 + u8 t (at + 2) → P (Members p i class 1))
       → P (variantInside p (variantIn f t at x))
   unfolding variantIn variantInside
   variant-has p w f t at x h some =
-      number-has (variantInside p) refused (numberOf (signAt t (at + 5)) x) _
+      number-has (variantInside p) (λ r. refused _) (numberOf (signAt t (at + 5)) x) _
       (λ v. option-has (λ o. P (variantInside p o)) w f t (signAt t (at + 5)) v 0 (at + 3) (u8 t (at + 2)) h some (refused _))
 
 -- All five
@@ -127,14 +129,14 @@ module _ (b : List ℕ) (f : Frame) (d : ℕ) (t : List ℕ) (x : Notes) (at : �
   unfolding whole insideOf insideIn wholeIn shapeOf shapes optionalAt Held wholeMembers
   inside-whole w k framed ready =
       five (Has Here)
-      (λ p l. standing-has Here (λ r. tt) f _ from _ (λ h. record { place = aligned h; classes = p .1 }))
-      (λ p l. standing-has Here (λ r. tt) f _ from _ (λ h. record { place = aligned h; class = p .1 }))
-      (λ p l. length-has Here (λ r. tt) c _
-      (λ n u. standing-has Here (λ r. tt) f _ from _ (λ h. record { place = aligned h; class = p .1 })))
-      (λ p l. optional-has Here (λ r. tt) from (behindNoted x at) (optionalClass t at) (record { place = here; classes = (p .1, tt) })
+      (λ p l. standing-has Here (λ v. tt) f _ from _ (λ h. record { place = aligned h; classes = p .1 }))
+      (λ p l. standing-has Here (λ v. tt) f _ from _ (λ h. record { place = aligned h; class = p .1 }))
+      (λ p l. length-has Here (λ v. tt) from c _
+      (λ n u. standing-has Here (λ v. tt) f _ from _ (λ h. record { place = aligned h; class = p .1 })))
+      (λ p l. optional-has Here (λ v. tt) from (behindNoted x at) (optionalClass t at) (record { place = here; classes = (p .1, tt) })
       (record { place = here; classes = tt }) c (signAt t (at + 3)) (rangesAt t (at + 3) (u8 t (at + 2))))
       (λ p l. rw (variant-noted d t x at c ready (p .1))
-      (variant-has Here (λ r. tt) from (whole d t) (stoodAt d t) t at c (p .1) (λ class i u h. record { place = here; classes = (u, tt) })))
+      (variant-has Here (λ v. tt) from (whole d t) (stoodAt d t) t at c (p .1) (λ class i u h. record { place = here; classes = (u, tt) })))
       (u8 t at) k (w .high) (w .parts) (w .there)
     where
       aligned : (alignedAt f (bitsNoted x at) from) .0 ≤ f .bound .0 → Placed f from (alignedAt f (bitsNoted x at) from)
@@ -149,7 +151,7 @@ module _ (b : List ℕ) (f : Frame) (d : ℕ) (t : List ℕ) (x : Notes) (at : �
 unfoldable pub Ends : ℕ → List ℕ → ℕ → ℕ → Inside → Type 0
 Ends d t at k (Members p v from n) = (k ≡ 32 → n ≡ 1) × ((k ≡ 32 → ⊥) → behindMembers (stoodAt d t) from n ≡ nextAt d t at)
 Ends d t at k (Elements p v from n) = (k ≡ 28 → ⊥) × (k ≡ 31 → ⊥)
-Ends d t at k (Refused r) = Unit {0}
+Ends d t at k (Refused v) = Unit {0}
 
 module _ (f : Frame) (d : ℕ) (t : List ℕ) (x : Notes) (at : ℕ) (c : Content) (from : BitPlace) (w : whole (suc d) t at) (ready : Prepared t x)
   where
@@ -163,16 +165,16 @@ module _ (f : Frame) (d : ℕ) (t : List ℕ) (x : Notes) (at : ℕ) (c : Conten
     unfolding whole insideOf insideIn wholeIn shapeOf shapes optionalAt Ends behindMembers
     inside-ends k =
         five Ending
-        (λ e p. standing-has (Here-ends 28) (λ r. tt) f _ from _
+        (λ e p. standing-has (Here-ends 28) (λ v. tt) f _ from _
         (λ h. (λ z. absurd (omega arith), λ z. structure-in-place (suc d) t at w (rw e refl) .ends)))
-        (λ e p. standing-has (Here-ends 29) (λ r. tt) f _ from _ (λ h. (λ z. absurd (omega arith), λ z. absurd (omega arith))))
-        (λ e p. length-has (Here-ends 30) (λ r. tt) c _
-        (λ n u. standing-has (Here-ends 30) (λ r. tt) f _ from _ (λ h. (λ z. absurd (omega arith), λ z. absurd (omega arith)))))
-        (λ e p. optional-has (Here-ends 31) (λ r. tt) from (behindNoted x at) (optionalClass t at)
+        (λ e p. standing-has (Here-ends 29) (λ v. tt) f _ from _ (λ h. (λ z. absurd (omega arith), λ z. absurd (omega arith))))
+        (λ e p. length-has (Here-ends 30) (λ v. tt) from c _
+        (λ n u. standing-has (Here-ends 30) (λ v. tt) f _ from _ (λ h. (λ z. absurd (omega arith), λ z. absurd (omega arith)))))
+        (λ e p. optional-has (Here-ends 31) (λ v. tt) from (behindNoted x at) (optionalClass t at)
         (λ z. absurd (omega arith), λ z. optional-in-place (suc d) t at w (rw e refl) .ends)
         (λ z. absurd (omega arith), λ z. ready .classes (suc d) at w .size)
         c (signAt t (at + 3)) (rangesAt t (at + 3) (u8 t (at + 2))))
         (λ e p. rw (variant-noted d t x at c ready (p .1))
-        (variant-has (Here-ends 32) (λ r. tt) from (whole d t) (stoodAt d t) t at c (p .1)
+        (variant-has (Here-ends 32) (λ v. tt) from (whole d t) (stoodAt d t) t at c (p .1)
         (λ class i u h. (λ z. refl, λ z. absurd (z refl)))))
         (u8 t at) k (w .high) refl (w .parts)

@@ -8,6 +8,7 @@ use Rattle.rules.specs.declared.BitPlace.{BitPlace}
 use Rattle.rules.specs.declared.Content.{Content}
 use Rattle.rules.specs.declared.Refusal.{Refusal}
 use Rattle.rules.specs.Limits.{noSlot}
+use Rattle.rules.specs.Verdict.{stopAt}
 use Rattle.rules.specs.Record.{u8, u16}
 use Rattle.facts.proofs.Cases.{below, _▷_}
 use Rattle.frame.specs.declared.Frame.{Frame}
@@ -35,7 +36,7 @@ module _ (t : List ℕ) (x : Notes) (at : ℕ) (f : Frame) (p : BitPlace) (c : C
   unfolding insideOf insideIn shapeOf shapes
   inside-array e = rw (e) refl
 
-  pub inside-no-length : (r : Refusal) → u8 t at ≡ 30 → lengthOf c ≡ NotOf r → Refused r ≡ insideOf t x at f p c
+  pub inside-no-length : (r : Refusal) → u8 t at ≡ 30 → lengthOf c ≡ NotOf r → Refused (stopAt r p) ≡ insideOf t x at f p c
   unfolding insideOf insideIn shapeOf shapes byLength
   inside-no-length r e h = rw (e, h) refl
 

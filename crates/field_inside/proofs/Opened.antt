@@ -18,13 +18,14 @@ use Rattle.rules.specs.Slots.{slotAt}
 use Rattle.rules.specs.Record.{u8, u16}
 use Rattle.rules.specs.Class.{Sign, plain, signed, Range, structure, staticArray, dynamicArray, variant, count, alignOf, anyHolds}
 use Rattle.rules.specs.Entry.{entry}
-use Rattle.rules.specs.Step.{State, Step, _⨾_, onto, after, refuse, listed}
+use Rattle.rules.specs.Verdict.{stopAt}
+use Rattle.rules.specs.Step.{State, Step, _⨾_, onto, after, refuse, refuseAt, listed}
 use Rattle.rules.specs.Field.{Env, aligned, fit, field, fromSlot, asFlag, asNumber, asLength, times, present, read, readMembers, readOption}
 use Rattle.facts.proofs.Steps.{onto-nil, after-pass}
 use Rattle.frame.specs.declared.Frame.{Frame}
 use Rattle.frame.specs.Framed.{Framed, envOf, alignedAt}
 use Rattle.slots.specs.Taken.{lengthOf, numberOf}
-use Rattle.listing.proofs.Checks.{check-stops, check-goes, room-first}
+use Rattle.listing.proofs.Checks.{check-stops, check-goes, checkAt-stops, checkAt-goes, room-first}
 use Rattle.class_layout.specs.Trees.{shapeOf, shapes, rangesAt, signAt, optionClass, optionalOf, Stood, membersAt, optionsAt, classIn}
 use Rattle.class_layout.specs.Trees.{stoodAt, classAt, wholeOptions, wholeIn, whole}
 use Rattle.class_layout.specs.Notes.{Notes, endNoted, Prepared}
@@ -71,7 +72,7 @@ module _ (b uuid : List ℕ) (f : Frame) (s : State) (d : ℕ) (t : List ℕ) wh
 
   stands-opened : (k a : ℕ) (m : Step) (w : BitPlace → Inside) → m s ≡ opened e k d t (w (alignedAt f a (s .place))) s
       → (fit e a 0 ⨾ m) s ≡ opened e k d t (standing f a (s .place) w) s
-  unfolding fit aligned _⨾_ after standing within alignedAt opened refuse
+  unfolding fit aligned _⨾_ after standing within alignedAt opened refuseAt
   stands-opened k a m w h = by (ltb (f .bound .0) (alignFrom (f .start .0) a (s .place .0))) refl
     where
       zero-on : alignFrom (f .start .0) a (s .place .0) + 0 ≡ alignFrom (f .start .0) a (s .place .0)
@@ -79,8 +80,8 @@ module _ (b uuid : List ℕ) (f : Frame) (s : State) (d : ℕ) (t : List ℕ) wh
 
       by : (c : Bool) → ltb (f .bound .0) (alignFrom (f .start .0) a (s .place .0)) ≡ c
           → (fit e a 0 ⨾ m) s ≡ opened e k d t (standing f a (s .place) w) s
-      by true q = ap (λ o. after o m) (check-stops _ PastBound s (rw zero-on q)) ∙ rw (q, within) refl
-      by false q = ap (λ o. after o m) (check-goes _ PastBound s (rw zero-on q)) ∙ onto-nil (m s) ∙ h ∙ rw (q, within) refl
+      by true q = ap (λ o. after o m) (checkAt-stops _ PastBound _ s (rw zero-on q)) ∙ rw (q, within) refl
+      by false q = ap (λ o. after o m) (checkAt-goes _ PastBound _ s (rw zero-on q)) ∙ onto-nil (m s) ∙ h ∙ rw (q, within) refl
 
   -- "structures and arrays have bits 0 and their count"
   members-opened : (k a from n : ℕ)
@@ -100,21 +101,21 @@ module _ (b uuid : List ℕ) (f : Frame) (s : State) (d : ℕ) (t : List ℕ) wh
   -- A length, and a number: "slot checks 26, 27, 28"
 
   length-opened : (k : ℕ) (x : Content) (m : ℕ → Step) (w : ℕ → Inside) → ((n : ℕ) → m n s ≡ opened e k d t (w n) s)
-      → asLength x m s ≡ opened e k d t (byLength (lengthOf x) w) s
-  unfolding asLength asNumber lengthOf byLength opened _⨾_ after refuse
+      → asLength x m s ≡ opened e k d t (byLength (s .place) (lengthOf x) w) s
+  unfolding asLength asNumber lengthOf byLength opened _⨾_ after refuse refuseAt
   length-opened k Unset m w h = refl
   length-opened k (Flag c) m w h = refl
   length-opened k (Signed n) m w h = refl
   length-opened k (Unsigned n) m w h = by (ltb lengthLimit n) refl
     where
-      by : (c : Bool) → ltb lengthLimit n ≡ c → asLength (Unsigned n) m s ≡ opened e k d t (byLength (lengthOf (Unsigned n)) w) s
+      by : (c : Bool) → ltb lengthLimit n ≡ c → asLength (Unsigned n) m s ≡ opened e k d t (byLength (s .place) (lengthOf (Unsigned n)) w) s
       by true q = ap (λ o. after o (m n)) (check-stops _ LengthTooLarge s q) ∙ rw (q, lengthOf) refl
       by false q = ap (λ o. after o (m n)) (check-goes _ LengthTooLarge s q) ∙ onto-nil (m n s) ∙ h n ∙ rw (q, lengthOf) refl
 
-  -- what is told of a choice, where one that cannot be told is refused
-  module _ (k : ℕ) (inside : Choice → Inside) (refused : (r : Refusal) → inside (NotTold r) ≡ Refused r) where
+  -- what is told of a choice, where one that cannot be told is refused at the field's place
+  module _ (k : ℕ) (inside : Choice → Inside) (refused : (r : Refusal) → inside (NotTold r) ≡ Refused (stopAt r (s .place))) where
     refused-opened : (r : Refusal) → refuse r s ≡ opened e k d t (inside (NotTold r)) s
-    unfolding opened
+    unfolding opened refuse refuseAt
     refused-opened r = rw (refused r) refl
 
     number-opened : (g : Sign) (x : Content) (m : ℕ → Step) (w : ℕ → Choice) → ((n : ℕ) → m n s ≡ opened e k d t (inside (w n)) s)
@@ -188,7 +189,7 @@ module _ (b uuid : List ℕ) (f : Frame) (s : State) (d : ℕ) (t : List ℕ) wh
 
     dynamic-opened : (i a from A : ℕ) → alignOf (dynamicArray i a (classAt d t from)) ≡ A
         → read e (dynamicArray i a (classAt d t from)) s
-        ≡ opened e 30 d t (byLength (lengthOf (slotAt (s .slots) i)) (λ n. standing f A (s .place) (elementsFrom n from))) s
+        ≡ opened e 30 d t (byLength (s .place) (lengthOf (slotAt (s .slots) i)) (λ n. standing f A (s .place) (elementsFrom n from))) s
     unfolding read fromSlot
     dynamic-opened i a from A h = room-first _ s room ∙ rw (← h) (length-opened 30 (slotAt (s .slots) i) _ _ (elements-opened 30 _ from))
 

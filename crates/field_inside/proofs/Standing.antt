@@ -4,6 +4,7 @@ use Prim.Native.Nat.{ℕ, _≤_, _<_}
 use borrow.Author.Tests.{lt-ltb, le-ltb}
 use Rattle.rules.specs.declared.BitPlace.{BitPlace}
 use Rattle.rules.specs.declared.Refusal.the-variants.{PastBound}
+use Rattle.rules.specs.Verdict.{stopAt}
 use Rattle.frame.specs.declared.Frame.{Frame}
 use Rattle.frame.specs.Framed.{alignedAt}
 use Rattle.field_inside.specs.declared.look.Inside.{Inside}
@@ -11,7 +12,7 @@ use Rattle.field_inside.specs.declared.look.Inside.the-variants.{Refused
 use Rattle.field_inside.specs.Inside.{within, standing}
 
 module _ (f : Frame) (p : BitPlace) (i : Inside) where
-  pub within-past : f .bound .0 < p .0 → Refused PastBound ≡ within f p i
+  pub within-past : f .bound .0 < p .0 → Refused (stopAt PastBound (f .bound)) ≡ within f p i
   unfolding within
   within-past l = rw (lt-ltb _ _ l, within) refl
 

@@ -24,4 +24,4 @@ pub record HeldElements (d : ℕ) (t : List ℕ) (f : Frame) (from p : BitPlace)
 unfoldable pub Held : ℕ → List ℕ → Frame → BitPlace → Inside → Type 0
 Held d t f from (Members p v at n) = HeldMembers d t f from p at n
 Held d t f from (Elements p v at n) = HeldElements d t f from p at
-Held d t f from (Refused r) = Unit {0}
+Held d t f from (Refused v) = Unit {0}

@@ -11,7 +11,8 @@ use Rattle.rules.specs.declared.Refusal.the-variants.{PastBound, SelectorInNoOp
 use Rattle.rules.specs.Limits.{tableLimit, noSlot}
 use Rattle.rules.specs.Record.{Shape, bitField, lebField, signedLebField, zeroString, text, blob, textOf, blobOf, members, elements, elementsOf, option?, options, u8, u16}
 use Rattle.rules.specs.Entry.{entry}
-use Rattle.rules.specs.Step.{Step, _⨾_, refuse, listed}
+use Rattle.rules.specs.Verdict.{stopAt}
+use Rattle.rules.specs.Step.{Step, _⨾_, refuseAt, listed}
 use Rattle.rules.specs.Class.{Class as FieldClass}
 use Rattle.rules.specs.Field.{Env, times, forget, read, readMembers}
 use Rattle.frame.specs.declared.Frame.{Frame}
@@ -46,9 +47,9 @@ slotReadIn t at options = u8 t (at + 1)
 unfoldable pub slotReadAt : List ℕ → ℕ → ℕ
 slotReadAt t at = slotReadIn t at (shapeOf (u8 t at))
 
--- "alignment, bits or bytes past the bound" (22)
+-- "alignment, bits or bytes past the bound" (22). "For 22 the place becomes the bound that would be crossed." (02, 8)
 unfoldable pub within : Frame → BitPlace → Inside → Inside
-within f p i = elim (ltb (f .bound .0) (p .0)) [ true ↦ Refused PastBound | false ↦ i ]
+within f p i = elim (ltb (f .bound .0) (p .0)) [ true ↦ Refused (stopAt PastBound (f .bound)) | false ↦ i ]
 
 -- what is told of the aligned place
 unfoldable pub standing : Frame → ℕ → BitPlace → (BitPlace → Inside) → Inside
@@ -61,21 +62,21 @@ membersFrom n from p = Members p n from n
 abbrev pub elementsFrom : ℕ → ℕ → BitPlace → Inside
 elementsFrom n from p = Elements p n from n
 
-unfoldable pub byLength : Length → (ℕ → Inside) → Inside
-byLength (Of n) m = m n
-byLength (NotOf r) m = Refused r
+unfoldable pub byLength : BitPlace → Length → (ℕ → Inside) → Inside
+byLength p (Of n) m = m n
+byLength p (NotOf r) m = Refused (stopAt r p)
 
 -- "optionals bits 0 and 1 or 0"; one that is not there holds no class, at the byte behind it
 unfoldable pub optionalInside : BitPlace → ℕ → Choice → Inside
 optionalInside p behind (Class class i) = Members p 1 class 1
 optionalInside p behind Nothing = Members p 0 behind 0
-optionalInside p behind (NotTold r) = Refused r
+optionalInside p behind (NotTold r) = Refused (stopAt r p)
 
 -- "variants bits 0 and the option's number from 0"; "selector in no option" (29)
 unfoldable pub variantInside : BitPlace → Choice → Inside
 variantInside p (Class class i) = Members p i class 1
-variantInside p Nothing = Refused SelectorInNoOption
-variantInside p (NotTold r) = Refused r
+variantInside p Nothing = Refused (stopAt SelectorInNoOption p)
+variantInside p (NotTold r) = Refused (stopAt r p)
 
 -- the alignment noted of the class at a byte, in bits
 abbrev pub bitsNoted : Notes → ℕ → ℕ
@@ -97,7 +98,7 @@ insideIn t x at f p c textOf = Members p 0 at 0
 insideIn t x at f p c blobOf = Members p 0 at 0
 insideIn t x at f p c members = standing f (bitsNoted x at) p (membersFrom (u8 t (at + 1)) (at + 3))
 insideIn t x at f p c elements = standing f (bitsNoted x at) p (elementsFrom (u16 t (at + 1)) (at + 4))
-insideIn t x at f p c elementsOf = byLength (lengthOf c) (λ n. standing f (bitsNoted x at) p (elementsFrom n (at + 3)))
+insideIn t x at f p c elementsOf = byLength p (lengthOf c) (λ n. standing f (bitsNoted x at) p (elementsFrom n (at + 3)))
 insideIn t x at f p c option? = optionalInside p (behindNoted x at) (optionalAt t at c)
 insideIn t x at f p c options = variantInside p (variantAt t (x .sizes) at c)
 
@@ -113,7 +114,7 @@ elementOf e c = forget c ⨾ read e c ⨾ forget c
 unfoldable pub opened : Env → ℕ → ℕ → List ℕ → Inside → Step
 opened e k d t (Members p v from n) s = (listed (entry k p 0 v) p ⨾ readMembers e (membersAt (stoodAt d t) from n)) s
 opened e k d t (Elements p v from n) s = (listed (entry k p 0 v) p ⨾ times n (elementOf e (classAt d t from))) s
-opened e k d t (Refused r) s = refuse r s
+opened e k d t (Refused v) s = refuseAt (v .why) (v .place) s
 
 -- What the code goes by: a class of kinds 28 to 32 stands at a byte, with all that it holds in the table, and what is noted of it can be
 -- asked; no depth is in it

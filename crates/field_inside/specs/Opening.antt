@@ -1,7 +1,7 @@
 -- A field of kinds 28 to 32 opened, by what is told of it: its place and what it holds, in numbers alone; and the list behind its entry.
 use Prim.Native.Nat.{ℕ}
 use mathlib.Core.List.{List, [], _∷_, _++_}
-use mathlib.Core.Bool.{Bool, true, false, not}
+use mathlib.Core.Bool.{Bool, true, false}
 use lib.ListN.{drop}
 use lib.Dec.{eqb, ltb}
 use Rattle.rules.specs.declared.BitPlace.{BitPlace}
@@ -24,10 +24,11 @@ wentIn p from n elements forgets =
 unfoldable pub forgetsAt : List ℕ → ℕ → ℕ → ℕ
 forgetsAt a from n = elim (eqb n 0) [ true ↦ 0 | false ↦ setsNoted a from ]
 
-unfoldable pub openedAs : List ℕ → BitPlace → Inside → Opened
-openedAs a p (Members q v from n) = wentIn q from n false 0
-openedAs a p (Elements q v from n) = wentIn q from n true (forgetsAt a from n)
-openedAs a p (Refused r) = record { on = false; why = r; place = p; from = 0; count = 0; elements = false; forgets = 0 }
+unfoldable pub openedAs : List ℕ → Inside → Opened
+openedAs a (Members q v from n) = wentIn q from n false 0
+openedAs a (Elements q v from n) = wentIn q from n true (forgetsAt a from n)
+openedAs a (Refused v) =
+    record { on = false; why = v .why; place = v .place; from = 0; count = 0; elements = false; forgets = 0 }
 
 -- the list behind the entry of a field of the kind k, which has no bits of its own
 abbrev pub listHolder : ℕ → BitPlace → ℕ → List ℕ → List ℕ
@@ -36,11 +37,14 @@ listHolder k p v ws = words (entry k p 0 v ∷ []) ++ drop 4 ws
 unfoldable pub listOpened : ℕ → Inside → List ℕ → List ℕ
 listOpened k (Members q v from n) ws = listHolder k q v ws
 listOpened k (Elements q v from n) ws = listHolder k q v ws
-listOpened k (Refused r) ws = ws
+listOpened k (Refused v) ws = ws
 
--- a structure, aligned to so many bits: its place lies past the bound, or it is entered with the count of its members
+-- a structure, aligned to so many bits: its place lies past the bound, at which it is refused; or it is entered there
 unfoldable pub enteredAt : Frame → ℕ → BitPlace → Entered
-enteredAt f a p = record { on = not (ltb (f .bound .0) (alignedAt f a p .0)); place = alignedAt f a p }
+enteredAt f a p = elim (ltb (f .bound .0) (alignedAt f a p .0)) [
+  | true ↦ record { on = false; place = f .bound }
+  | false ↦ record { on = true; place = alignedAt f a p }
+]
 
 unfoldable pub listEntered : Frame → ℕ → BitPlace → ℕ → List ℕ → List ℕ
 listEntered f a p n ws = elim (ltb (f .bound .0) (alignedAt f a p .0)) [ true ↦ ws | false ↦ listHolder 28 (alignedAt f a p) n ws ]

@@ -10,6 +10,7 @@ use numbers::limits;
 use rules::BitPlace;
 use rules::Content;
 use rules::Refusal;
+use rules::Stop;
 use slots::Length;
 use slots::length_of;
 use table_bytes::count_at;
@@ -38,7 +39,7 @@ pub enum Inside {
         from: usize,
         count: usize,
     },
-    Refused(Refusal),
+    Refused(Stop),
 }
 
 // The slot that the class of kind 26 to 32 at a byte reads; 255 where it reads none.
@@ -83,7 +84,7 @@ pub fn look(
             place,
         ),
         kinds::DYNAMIC_ARRAY => match length_of(content) {
-            Length::NotOf(why) => Inside::Refused(why),
+            Length::NotOf(why) => Inside::Refused(Stop { why, place }),
             Length::Of(n) => elements(
                 n,
                 at + bodies::DYNAMIC_ARRAY_SIZE,
@@ -129,12 +130,16 @@ fn elements(count: usize, from: usize, exponent: u64, frame: Frame, place: BitPl
     within(frame, aligned, told)
 }
 
-// What is told of a place, unless it lies past the bound.
+// What is told of a place, unless it lies past the bound: "For 22 the place becomes the bound that would be crossed." (02, 8)
 fn within(frame: Frame, place: BitPlace, told: Inside) -> Inside
     ensures { λ r. ⌜ r ≡ within frame place told ⌝ }
 {
-    if frame.bound.0 < place.0 {
-        return Inside::Refused(Refusal::PastBound);
+    let bound = frame.bound;
+    if bound.0 < place.0 {
+        return Inside::Refused(Stop {
+            why: Refusal::PastBound,
+            place: bound,
+        });
     }
     told
 }
@@ -144,7 +149,7 @@ fn optional(choice: Choice, behind: usize, place: BitPlace) -> Inside
     ensures { λ r. ⌜ r ≡ optionalInside place behind choice ⌝ }
 {
     match choice {
-        Choice::Refused(why) => Inside::Refused(why),
+        Choice::Refused(why) => Inside::Refused(Stop { why, place }),
         Choice::Nothing => Inside::Members {
             place,
             value: 0,
@@ -168,8 +173,11 @@ fn variant(choice: Choice, place: BitPlace) -> Inside
     ensures { λ r. ⌜ r ≡ variantInside place choice ⌝ }
 {
     match choice {
-        Choice::Refused(why) => Inside::Refused(why),
-        Choice::Nothing => Inside::Refused(Refusal::SelectorInNoOption),
+        Choice::Refused(why) => Inside::Refused(Stop { why, place }),
+        Choice::Nothing => Inside::Refused(Stop {
+            why: Refusal::SelectorInNoOption,
+            place,
+        }),
         Choice::Class { at: class, option } => Inside::Members {
             place,
             value: option,

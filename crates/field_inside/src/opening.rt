@@ -22,7 +22,7 @@ ghost use Rattle.field_inside.specs.Inside.{insideOf, HolderStands};
 ghost use Rattle.field_inside.specs.Opening.{openedAs, listOpened, enteredAt, listEntered, wentIn, forgetsAt};
 
 // A field that was opened: its place, and what it holds, as `Inside` has it, with what is forgotten around each element (02, 3); or why it
-// was not, at the place from which it was looked for.
+// was not, and at which place.
 pub struct Opened {
     pub on: bool,
     pub why: Refusal,
@@ -48,7 +48,7 @@ pub fn open_field(
     requires { ⌜ (frame .start .0 ≤ place .0) × (place .0 + 64 ≤ 2 ^ 64) ⌝ }
     requires { ⌜ 4 ≤ length (now list) ⌝ }
     ensures { λ r. ⌜
-        r ≡ openedAs (now (aligns .entry)) place
+        r ≡ openedAs (now (aligns .entry))
         (insideOf (now (table .entry)) (notes (now (sizes .entry)) (now (aligns .entry))) at frame place content)
         ⌝ }
     ensures { λ _. ⌜
@@ -58,15 +58,19 @@ pub fn open_field(
 {
     let kind = table[at];
     match look(table, sizes, aligns, at, frame, place, content) {
-        Inside::Refused(why) => Opened {
-            on: false,
-            why,
-            place,
-            from: 0,
-            count: 0,
-            elements: false,
-            forgets: 0,
-        },
+        Inside::Refused(stop) => {
+            let why = stop.why;
+            let place = stop.place;
+            Opened {
+                on: false,
+                why,
+                place,
+                from: 0,
+                count: 0,
+                elements: false,
+                forgets: 0,
+            }
+        }
         Inside::Members {
             place: there,
             value,
@@ -116,7 +120,7 @@ fn forgotten_around(aligns: &[u16], at: usize, count: usize) -> usize
     0
 }
 
-// A structure's place, and whether that is not past the bound.
+// Whether a structure was entered, and its place; or the bound, past which that lies.
 pub struct Entered {
     pub on: bool,
     pub place: BitPlace,
@@ -141,8 +145,12 @@ pub fn enter_structure(
         ⌝ }
 {
     let place = places::align(from, frame.start, align_of(aligns[at]));
-    if frame.bound.0 < place.0 {
-        return Entered { on: false, place };
+    let bound = frame.bound;
+    if bound.0 < place.0 {
+        return Entered {
+            on: false,
+            place: bound,
+        };
     }
     list_holder(kinds::STRUCTURE, place, wide64(table[at + 1]), list);
     Entered { on: true, place }

@@ -34,8 +34,9 @@ use Rattle.field_runs.specs.Run.{run, over, behindRun, aloneRun}
 use Rattle.field_runs.specs.Ahead.{ahead, WholeRun, Forgets}
 use Rattle.field_runs.proofs.Ahead.{heldRead, alone-reads, alone-stands, instead}
 use Rattle.field_read.specs.Reads.{stateAt}
+use Rattle.field_read.proofs.Noted.{around-noted}
 use Rattle.field_read.proofs.Round.{Loop, env, left, Round, Stops, round-over, Holder, insideHere, holder-part, rest-stands}
-use Rattle.field_read.proofs.Round.{Told, members-told, elements-told, forgets-told, entry-put, open-same, open-stops, open-few}
+use Rattle.field_read.proofs.Round.{Told, members-told, elements-told, entry-put, open-same, open-stops, open-few}
 
 -- The same loop with something else behind its run
 
@@ -62,7 +63,7 @@ pub record ApartRound (w : Loop) (r : Run) (ws : List ℕ) (used : ℕ) (st : Pr
   pub same : length (merged used ws ys) ≡ length (w .list)
   pub few : o .elements ≡ false → o .count ≤ length (w .table)
   pub rest-stands : WholeRun (w .depths) (w .table) (behindRun r (w .notes .sizes) (r .next) (r .todo - 1))
-  pub stops : o .on ≡ false → Stops w (stopAt (o .why) (st .place)) used (merged used ws ys)
+  pub stops : o .on ≡ false → Stops w (stopAt (o .why) (o .place)) used (merged used ws ys)
   pub goes : o .on ≡ true → Round (apartFrom w (behindRun r (w .notes .sizes) (r .next) (r .todo - 1)))
       (aloneRun (o .from) (o .count) (o .elements) (o .forgets)) (merged used ws ys) (used + 4) (stateAt (o .place) (st .order) st) l
 
@@ -90,18 +91,18 @@ module _ {w : Loop} {r : Run} {ws : List ℕ} {used : ℕ} {st : Progress} {l : 
             (reads ∙ ap (λ (x : Step). (m ⨾ (x ⨾ left w rest)) here) (sym (alone-reads d t (env w) from n elements f right)));
       }
 
-  apart-goes : (i : Inside) → insideHere h ≡ i → openedAs (w .notes .aligns) (st .place) i .on ≡ true →
-      let o = openedAs (w .notes .aligns) (st .place) i in
+  apart-goes : (i : Inside) → insideHere h ≡ i → openedAs (w .notes .aligns) i .on ≡ true →
+      let o = openedAs (w .notes .aligns) i in
       Round (apartFrom w rest) (aloneRun (o .from) (o .count) (o .elements) (o .forgets))
       (merged used ws (listOpened (u8 (w .table) (r .next)) i (lent used ws))) (used + 4) (stateAt (o .place) (st .order) st) l
   unfolding openedAs wentIn listOpened
   apart-goes (Members p v from n) e on = told-round 0 (members-told h e) (λ b. absurd (clash b))
   apart-goes (Elements p v from n) e on =
       let q = elements-told h e in
-      told-round (forgetsAt (w .notes .aligns) from n) q (λ b. forgets-told h from n (q .class b))
-  apart-goes (Refused why) e on = absurd (clash on)
+      told-round (forgetsAt (w .notes .aligns) from n) q (λ b. around-noted _ _ (w .notes) (h .round .noted) from n (q .class b))
+  apart-goes (Refused v) e on = absurd (clash on)
 
-  pub apart-round : {o : Opened} {ys : List ℕ} → o ≡ openedAs (w .notes .aligns) (st .place) (insideHere h)
+  pub apart-round : {o : Opened} {ys : List ℕ} → o ≡ openedAs (w .notes .aligns) (insideHere h)
       → ys ≡ listOpened (u8 (w .table) (r .next)) (insideHere h) (lent used ws) → ApartRound w r ws used st l o ys
   apart-round e f = rw (e, f) record {
     same = open-same h (insideHere h);

@@ -8,7 +8,6 @@ use lib.ListN.{length, drop}
 use borrow.Rule.Slice.PartMut.{same-len-mid}
 use Rattle.rules.specs.declared.BitPlace.{BitPlace}
 use Rattle.rules.specs.declared.Stop.{Stop}
-use Rattle.rules.specs.declared.Refusal.{Refusal}
 use Rattle.rules.specs.Limits.{slotCount}
 use Rattle.rules.specs.Verdict.{stopAt}
 use Rattle.rules.specs.Slots.{Slots, slotAt}
@@ -16,19 +15,18 @@ use Rattle.rules.specs.Entry.{entry, words}
 use Rattle.rules.specs.declared.Content.{Content}
 use Rattle.rules.specs.Record.{u8}
 use Rattle.rules.specs.Class.{sets}
-use Rattle.rules.specs.Step.{State, Step, after, _⨾_, refuse, listed}
+use Rattle.rules.specs.Step.{State, Step, after, _⨾_, refuseAt, listed}
 use Rattle.facts.proofs.Truth.{clash}
 use Rattle.class_layout.specs.Trees.{whole, wholeMembers, stoodAt, classAt}
 use Rattle.class_layout.specs.Notes.{Notes, Prepared}
 use Rattle.field_inside.specs.declared.look.Inside.{Inside}
 use Rattle.field_inside.specs.declared.look.Inside.the-variants.{Members, Elements, Refused}
 use Rattle.field_inside.specs.declared.opening.Opened.{Opened}
-use Rattle.field_inside.specs.Opening.{openedAs, forgetsAt, wentIn, listOpened}
+use Rattle.field_inside.specs.Opening.{openedAs, wentIn, listOpened}
 use Rattle.field_inside.specs.Inside.{insideOf, slotReadAt, opened, HolderStands}
 use Rattle.field_inside.specs.Held.{Held, Placed, HeldMembers, HeldElements}
 use Rattle.field_inside.proofs.Noted.{opens}
 use Rattle.field_inside.proofs.Opened.{inside-read}
-use Rattle.field_inside.proofs.Forgotten.{forgets-none, forgets-some}
 use Rattle.field_inside.proofs.Held.{inside-whole}
 use Rattle.field_runs.specs.Ahead.{Forgets}
 use Rattle.frame.specs.declared.Frame.{Frame}
@@ -42,6 +40,7 @@ use Rattle.listing.proofs.Parts.{Part, part-last-on, part-last-stopped, part-le
 use Rattle.field_read.specs.declared.Field.{Field}
 use Rattle.field_read.specs.Reads.{FieldReads, gone, entered}
 use Rattle.class_layout.proofs.Standing.{depth-some}
+use Rattle.field_read.proofs.Noted.{around-noted}
 use Rattle.field_read.proofs.Turns.{Call, call, outcome, CallReads, stoppedCall, classRead, membersRead, elementsRead, did-length}
 
 -- the class at a byte holds fields, and c is the content of the slot that it reads
@@ -120,9 +119,9 @@ module _ {b u : List ℕ} {f : Frame} {t : List ℕ} {x : Notes} {d at : ℕ} {c
   opened-read = ap (λ (e : ℕ). classRead e t at (envOf b u f) s) (depth-some t at d (h .stands))
       ∙ inside-read b u f (d - 1) t x at c s deep (h .holds) (h .room) (sym (h .told)) (h .framed) (h .noted)
 
-  pub refusal-reads : {o : Inside} {why : Refusal} → o ≡ insideOf t x at f (st .place) c → o ≡ Refused why
-      → CallReads this (stoppedCall this (stopAt why (st .place)) 0) ws
-  unfolding refuse opened
+  pub refusal-reads : {o : Inside} {v : Stop} → o ≡ insideOf t x at f (st .place) c → o ≡ Refused v
+      → CallReads this (stoppedCall this v 0) ws
+  unfolding refuseAt opened
   refusal-reads look e = record {
     did = went-no-further _ st _ _ ws (opened-read ∙ rw (sym look ∙ e) refl);
     kept = λ v off. refl;
@@ -164,39 +163,34 @@ module _ {b u : List ℕ} {f : Frame} {t : List ℕ} {x : Notes} {d at : ℕ} {c
   abbrev told : Inside
   told = insideOf t x at f (st .place) c
 
-  refused-told : (j : Inside) → told ≡ j → openedAs (x .aligns) (st .place) j .on ≡ false
-      → CallReads this (stoppedCall this (stopAt (openedAs (x .aligns) (st .place) j .why) (st .place)) 0) (listOpened (u8 t at) j ws)
+  refused-told : (j : Inside) → told ≡ j →
+      let o = openedAs (x .aligns) j in
+      o .on ≡ false → CallReads this (stoppedCall this (stopAt (o .why) (o .place)) 0) (listOpened (u8 t at) j ws)
   unfolding openedAs wentIn listOpened
   refused-told (Members p v from n) e off = absurd (clash (sym off))
   refused-told (Elements p v from n) e off = absurd (clash (sym off))
-  refused-told (Refused why) e off = refusal-reads (sym e) refl
+  refused-told (Refused v) e off = refusal-reads (sym e) refl
 
   members-told : (j : Inside) → told ≡ j →
-      let o = openedAs (x .aligns) (st .place) j in
+      let o = openedAs (x .aligns) j in
       o .on ≡ true → o .elements ≡ false → wholeMembers (whole (d - 1) t) (stoodAt (d - 1) t) (o .from) (o .count) × Framed b f (o .place)
   unfolding openedAs wentIn
   members-told (Members p v from n) e on one = members-held (sym e) refl
   members-told (Elements p v from n) e on one = absurd (clash (sym one))
-  members-told (Refused why) e on one = absurd (clash on)
-
-  -- what is forgotten around each element is noted of its class
-  forgets-noted : (from n : ℕ) → whole (d - 1) t from → Forgets n (forgetsAt (x .aligns) from n) (sets (classAt (d - 1) t from))
-  forgets-noted from n class =
-      let says = h .noted .classes (d - 1) from class .sets in
-      record { none = forgets-none (x .aligns) from n (λ _. says); some = forgets-some (x .aligns) from n (λ _. says) }
+  members-told (Refused v) e on one = absurd (clash on)
 
   elements-told : (j : Inside) → told ≡ j →
-      let o = openedAs (x .aligns) (st .place) j in
+      let o = openedAs (x .aligns) j in
       o .on ≡ true → o .elements ≡ true → ElementsStand (d - 1) t o × Framed b f (o .place)
   unfolding openedAs wentIn
   elements-told (Members p v from n) e on one = absurd (clash one)
   elements-told (Elements p v from n) e on one =
       let q = elements-held (sym e) refl in
-      (record { class = q .0; forgets = forgets-noted from n (q .0) }, q .1)
-  elements-told (Refused why) e on one = absurd (clash on)
+      (record { class = q .0; forgets = around-noted (d - 1) t x (h .noted) from n (q .0) }, q .1)
+  elements-told (Refused v) e on one = absurd (clash on)
 
   members-did : {ys : List ℕ} {r : Field} (j : Inside) → told ≡ j →
-      let o = openedAs (x .aligns) (st .place) j in
+      let o = openedAs (x .aligns) j in
       o .on ≡ true → o .elements ≡ false
       → FieldReads (membersRead (d - 1) t (o .from) (o .count) (envOf b u f)) (atPlace (o .place) st) l r
       (lent 4 (listOpened (u8 t at) j ws)) ys
@@ -204,10 +198,10 @@ module _ {b u : List ℕ} {f : Frame} {t : List ℕ} {x : Notes} {d at : ℕ} {c
   unfolding openedAs wentIn listOpened
   members-did (Members p v from n) e on one did = members-closed (sym e) refl refl did
   members-did (Elements p v from n) e on one did = absurd (clash (sym one))
-  members-did (Refused why) e on one did = absurd (clash on)
+  members-did (Refused v) e on one did = absurd (clash on)
 
   elements-did : {ys : List ℕ} {r : Field} (j : Inside) → told ≡ j →
-      let o = openedAs (x .aligns) (st .place) j in
+      let o = openedAs (x .aligns) j in
       o .on ≡ true → o .elements ≡ true
       → FieldReads (elementsRead (d - 1) t (o .from) (o .count) (envOf b u f)) (atPlace (o .place) st) l r
       (lent 4 (listOpened (u8 t at) j ws)) ys
@@ -215,11 +209,11 @@ module _ {b u : List ℕ} {f : Frame} {t : List ℕ} {x : Notes} {d at : ℕ} {c
   unfolding openedAs wentIn listOpened
   elements-did (Members p v from n) e on one did = absurd (clash one)
   elements-did (Elements p v from n) e on one did = elements-closed (sym e) refl refl did
-  elements-did (Refused why) e on one did = absurd (clash on)
+  elements-did (Refused v) e on one did = absurd (clash on)
 
   -- the same of what the code says
-  module _ {o : Opened} {ws₁ : List ℕ} (e : o ≡ openedAs (x .aligns) (st .place) told) (list : ws₁ ≡ listOpened (u8 t at) told ws) where
-    pub open-refused : o .on ≡ false → CallReads this (stoppedCall this (stopAt (o .why) (st .place)) 0) ws₁
+  module _ {o : Opened} {ws₁ : List ℕ} (e : o ≡ openedAs (x .aligns) told) (list : ws₁ ≡ listOpened (u8 t at) told ws) where
+    pub open-refused : o .on ≡ false → CallReads this (stoppedCall this (stopAt (o .why) (o .place)) 0) ws₁
     open-refused off = rw (list, e) (refused-told told refl (rw e at off))
 
     pub open-members : o .on ≡ true → o .elements ≡ false

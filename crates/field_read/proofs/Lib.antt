@@ -1,4 +1,5 @@
 mod Roles
+mod Noted
 pub mod Round
 pub mod Apart
 pub mod Told

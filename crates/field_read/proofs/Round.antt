@@ -13,7 +13,6 @@ use Rattle.rules.specs.declared.LastOrder.{LastOrder}
 use Rattle.rules.specs.declared.Entry.{Entry}
 use Rattle.rules.specs.declared.Stop.{Stop}
 use Rattle.rules.specs.declared.Content.{Content}
-use Rattle.rules.specs.declared.Refusal.{Refusal}
 use Rattle.rules.specs.declared.Refusal.the-variants.{ListFull, PastBound}
 use Rattle.rules.specs.Limits.{slotCount}
 use Rattle.rules.specs.Verdict.{stopAt}
@@ -23,7 +22,7 @@ use Rattle.rules.specs.Record.{u8}
 use Rattle.rules.specs.Faults.{roles, roleOf}
 use Rattle.rules.specs.Class.{Class, fixed, leb128, signedLeb128, string, staticString, staticBlob, dynamicString, dynamicBlob}
 use Rattle.rules.specs.Class.{sets, structure, staticArray, dynamicArray, flagged, optional, variant}
-use Rattle.rules.specs.Step.{State, Out, stop, go, Step, onto, after, _⨾_, pass, refuse, listed, change, withSlots, withSaid}
+use Rattle.rules.specs.Step.{State, Out, stop, go, Step, onto, after, _⨾_, pass, refuse, refuseAt, listed, change, withSlots, withSaid}
 use Rattle.rules.specs.Field.{Env, read, readFixed, store, say as saying, role}
 use Rattle.facts.specs.Bytes.{Bytes}
 use Rattle.facts.proofs.Truth.{clash}
@@ -65,18 +64,19 @@ use Rattle.field_inside.specs.Opening.{openedAs, forgetsAt, listOpened, wentIn,
 use Rattle.field_inside.proofs.Holders.{inside-structure}
 use Rattle.field_inside.proofs.Entering.{entered-on, entered-off}
 use Rattle.field_inside.proofs.Opened.{inside-read}
-use Rattle.field_inside.proofs.Forgotten.{forgets-none, forgets-some}
 use Rattle.field_inside.proofs.Held.{inside-whole, Ends, inside-ends}
 use Rattle.field_inside.proofs.Deeper.{held-deeper, opened-deeper}
 use Rattle.field_runs.specs.declared.Run.{Run}
 use Rattle.field_runs.specs.Run.{over, free, element, firstAt, countOf, behindRun, openedRun, intoRun}
 use Rattle.field_runs.specs.Ahead.{ahead, WholeRun, Forgets}
 use Rattle.field_runs.proofs.Cases.{Begun, member-begun, first-member, count-members, element-yes, first-element, into-parts}
-use Rattle.field_runs.proofs.Ahead.{elements-times, Same, heldRead, instead, over-reads, sort-reads, sort-stands, behind-reads, behind-stands, tailRead}
+use Rattle.field_runs.proofs.Ahead.{elements-times, Same, heldRead, instead, over-reads, sort-reads, sort-stands, behind-reads}
+use Rattle.field_runs.proofs.Ahead.{behind-stands, tailRead}
 use Rattle.field_runs.proofs.Openings.{Holds, into-opens}
 use Rattle.laws.proofs.Between.{read-between}
 use Rattle.field_read.specs.declared.Field.{Field}
 use Rattle.field_read.specs.Reads.{FieldReads, stateAt}
+use Rattle.field_read.proofs.Noted.{around-noted}
 use Rattle.field_read.proofs.Roles.{Stays, role-stays}
 
 -- What stays through a loop: what is read and by which notes; the outcome of it all, what comes behind the run, and the list as it came
@@ -233,8 +233,8 @@ read-full e (optional i g rs c) s h = no-room-first _ s h
 read-full e (variant i g os) s h = no-room-first _ s h
 
 -- a first step that stops with nothing listed
-first-stops : (m g : Step) {o : Out} {ws₀ ws : List ℕ} {used : ℕ} {st : Progress} {l : Slots} (p : Part o (m ⨾ g) ws₀ ws used st l) (v : Stop)
-    → m (full st l (length ws₀ - used)) ≡ stop [] v → (came : Progress) (l′ : Slots) → Did o came (Stopped v) used came l′ ws₀ ws
+first-stops : (m g : Step) {o : Out} {ws₀ ws : List ℕ} {used : ℕ} {st : Progress} {l : Slots} (p : Part o (m ⨾ g) ws₀ ws used st l)
+    (v : Stop) → m (full st l (length ws₀ - used)) ≡ stop [] v → (came : Progress) (l′ : Slots) → Did o came (Stopped v) used came l′ ws₀ ws
 unfolding _⨾_ after onto outOf
 first-stops m g p v e came l′ = record {
   listed = p .listed;
@@ -278,7 +278,8 @@ module _ {w : Loop} {r : Run} {ws : List ℕ} {used : ℕ} {st : Progress} {l : 
       let t = w .table in
       let one = foremost (element r) d t (firstAt r) (countOf r) (some .some) (sort-stands d t r (h .stands) (some .some)) in
       let tail = tailRead d t (env w) r in
-      ap (λ (m : Step). m ⨾ w .behind) (sort-reads d t (env w) r (some .plain) ∙ ap (λ (m : Step). m ⨾ tail) (one .reads (env w)) ∙ seq-assoc _ _ _)
+      ap (λ (m : Step). m ⨾ w .behind)
+      (sort-reads d t (env w) r (some .plain) ∙ ap (λ (m : Step). m ⨾ tail) (one .reads (env w)) ∙ seq-assoc _ _ _)
       ∙ seq-assoc _ _ _
       ∙ ap (λ (m : Step). read (env w) firstClass ⨾ (m ⨾ w .behind))
       (sym (behind-reads d t (w .notes .sizes) sized r (firstAt r) (countOf r - 1) first-there (first-element r)
@@ -304,12 +305,12 @@ module _ {w : Loop} {r : Run} {ws : List ℕ} {used : ℕ} {st : Progress} {l : 
 -- Leaves, and what is due of the last
 
 -- of one class again and again, the last leaf's is that class
-then-at : (y : Seen) (at n : ℕ) (p : BitPlace) (o : LastOrder) (ends : Due → Bool) (rest : Due → LeavesListed)
-    → ((q : Due) → rest q .leaves .at ≡ at) → leafThen y at n p o ends rest .leaves .at ≡ at
+then-at : (y : Seen) (at n : ℕ) (o : LastOrder) (ends : Due → Bool) (rest : Due → LeavesListed)
+    → ((q : Due) → rest q .leaves .at ≡ at) → leafThen y at n o ends rest .leaves .at ≡ at
 unfolding leafThen stopsAt stoppedLeaves lastLeaf behindEntries
-then-at (SeesStop why) at n p o ends rest h = refl
-then-at (OtherUuid e) at n p o ends rest h = refl
-then-at (Sees q) at n p o ends rest h = by (ends q)
+then-at (SeesStop v) at n o ends rest h = refl
+then-at (OtherUuid e) at n o ends rest h = refl
+then-at (Sees q) at n o ends rest h = by (ends q)
   where
     by : (c : Bool) →
         let y : LeavesListed = elim c [ true ↦ lastLeaf q at (n - 1) | false ↦ behindEntries (q .entry ∷ []) (rest q) ] in
@@ -321,7 +322,7 @@ again-at : (t b u : List ℕ) (f : Frame) (x : Content) (at n : ℕ) (p : BitPla
     → leavesRead true t b u f x at n p o room .leaves .at ≡ at
 unfolding leavesRead stopsAt stoppedLeaves onward
 again-at t b u f x at zero p o room = refl
-again-at t b u f x at (suc n) p o room = then-at _ at (suc n) p o _ _ (λ q. again-at t b u f x at n _ _ _)
+again-at t b u f x at (suc n) p o room = then-at _ at (suc n) o _ _ (λ q. again-at t b u f x at n _ _ _)
 
 module _ {w : Loop} {r : Run} {ws : List ℕ} {used : ℕ} {st : Progress} {l : Slots} (h : Round w r ws used st l) (some : Begun r)
     (bytes : Bytes (w .stream)) (x : Content) (kind : u8 (w .table) (firstAt r) < 28) (room : 4 ≤ length ws - used)
@@ -338,7 +339,8 @@ module _ {w : Loop} {r : Run} {ws : List ℕ} {used : ℕ} {st : Progress} {l : 
 
   say : LeavesSay (element r) (w .depths) (w .table) (w .stream) (w .uuid) (w .frame) (firstAt r) (countOf r) begun leavesOf
   say = leaves-read (element r) (w .depths) (w .table) (w .stream) (w .uuid) (w .frame) x bytes (firstAt r) (countOf r) begun
-      (sort-stands (w .depths) (w .table) r (h .stands) (some .some)) (some .some) kind (h .framed) (omega (arith, lent-room used ws)) (h .many) told
+      (sort-stands (w .depths) (w .table) r (h .stands) (some .some)) (some .some) kind (h .framed) (omega (arith, lent-room used ws))
+      (h .many) told
 
   abbrev tail : Step
   tail = tailRead (w .depths) (w .table) (env w) r
@@ -569,8 +571,8 @@ pub record ClockRound (w : Loop) (m : Step) (r : Run) (ws : List ℕ) (used : �
   pub stops : a .on ≡ false → Stops w (stopAt (a .why) (st .place)) used (merged used ws ys)
   pub goes : a .on ≡ true → Kept w m r (merged used ws ys) (used + 4) (tickedState st (a .clock)) l
 
-pub clock-role : {w : Loop} {m : Step} {r : Run} {ws : List ℕ} {used : ℕ} {st : Progress} {l : Slots} {a : Advanced} {ys : List ℕ} (k n v : ℕ)
-    → k ≡ 7 → Kept w (role (roleOf k) n v ⨾ m) r ws used st l → a ≡ advancedBy n v (st .clock) (length (lent used ws))
+pub clock-role : {w : Loop} {m : Step} {r : Run} {ws : List ℕ} {used : ℕ} {st : Progress} {l : Slots} {a : Advanced} {ys : List ℕ}
+    (k n v : ℕ) → k ≡ 7 → Kept w (role (roleOf k) n v ⨾ m) r ws used st l → a ≡ advancedBy n v (st .clock) (length (lent used ws))
     → ys ≡ listAdvanced (st .place) n a (lent used ws) → ClockRound w m r ws used st l a ys
 unfolding roleOf roles
 clock-role {w} {m} {r} {ws} {used} {st} {l} {a} {ys} k n v is h e f = by (a .on) refl
@@ -602,10 +604,10 @@ onto-lists e (go fs q) h = omega (arith, ap (λ o. length (listOf o)) h)
 
 opened-lists : (e : Env) (k d : ℕ) (t : List ℕ) (i : Inside) (a : State) {es : List Entry} {z : State} → opened e k d t i a ≡ go es z
     → 1 ≤ length es
-unfolding opened _⨾_ after listed refuse
+unfolding opened _⨾_ after listed refuseAt
 opened-lists e k d t (Members p v from n) a h = onto-lists _ _ h
 opened-lists e k d t (Elements p v from n) a h = onto-lists _ _ h
-opened-lists e k d t (Refused why) a h = let z : _≡_ {A = ℕ} 0 1 = cc in absurd (omega arith)
+opened-lists e k d t (Refused v) a h = let z : _≡_ {A = ℕ} 0 1 = cc in absurd (omega arith)
 
 -- a first member that holds fields, with room for its entry; c is what the slot holds that it reads
 pub record Holder (w : Loop) (r : Run) (ws : List ℕ) (used : ℕ) (st : Progress) (l : Slots) (c : Content) : Type 0 where
@@ -618,10 +620,11 @@ pub record Holder (w : Loop) (r : Run) (ws : List ℕ) (used : ℕ) (st : Progre
 -- what was opened: it stopped the loop, or its parts stand in the run
 pub record OpenRound (w : Loop) (r : Run) (ws : List ℕ) (used : ℕ) (st : Progress) (l : Slots) (i : Inside) : Type 0 where
   pub same : length (merged used ws (listOpened (u8 (w .table) (r .next)) i (lent used ws))) ≡ length (w .list)
-  pub stops : openedAs (w .notes .aligns) (st .place) i .on ≡ false → Stops w (stopAt (openedAs (w .notes .aligns) (st .place) i .why) (st .place)) used
-      (merged used ws (listOpened (u8 (w .table) (r .next)) i (lent used ws)))
-  pub goes : openedAs (w .notes .aligns) (st .place) i .on ≡ true
-      → let o = openedAs (w .notes .aligns) (st .place) i in
+  pub stops : openedAs (w .notes .aligns) i .on ≡ false
+      → let o = openedAs (w .notes .aligns) i in
+      Stops w (stopAt (o .why) (o .place)) used (merged used ws (listOpened (u8 (w .table) (r .next)) i (lent used ws)))
+  pub goes : openedAs (w .notes .aligns) i .on ≡ true
+      → let o = openedAs (w .notes .aligns) i in
       Round w (intoRun (u8 (w .table) (r .next)) r (w .notes .sizes) (o .from) (o .count) (o .elements) (o .forgets))
       (merged used ws (listOpened (u8 (w .table) (r .next)) i (lent used ws))) (used + 4) (stateAt (o .place) (st .order) st) l
 
@@ -727,15 +730,6 @@ module _ {w : Loop} {r : Run} {ws : List ℕ} {used : ℕ} {st : Progress} {l : 
   entry-put p v m g part reads =
       part-put part (entry (u8 t at) p 0 v ∷ []) 4 refl (omega (arith, lent-room used ws, h .room)) refl p (st .order) g reads
 
-  -- what is forgotten around each element is noted of its class
-  pub forgets-told : (from n : ℕ) → whole d t from → Forgets n (forgetsAt (w .notes .aligns) from n) (sets (classAt d t from))
-  forgets-told from n class =
-      let says = h .round .noted .classes d from class .sets in
-      record {
-        none = forgets-none (w .notes .aligns) from n (λ _. says);
-        some = forgets-some (w .notes .aligns) from n (λ _. says);
-      }
-
   -- and its parts stand in the run
   opened-round : {p : BitPlace} {v from n : ℕ} {elements : Bool} (f : ℕ) → Told p v from n elements
       → Holds d t r (h .round .stands) (h .some) (w .notes .sizes) (u8 t at) from n elements
@@ -758,10 +752,10 @@ module _ {w : Loop} {r : Run} {ws : List ℕ} {used : ℕ} {st : Progress} {l : 
       }
 
   -- what is refused stops the loop
-  refused-round : (why : Refusal) → insideHere ≡ Refused why → Stops w (stopAt why (st .place)) used (merged used ws (lent used ws))
-  unfolding opened refuse
-  refused-round why e came l′ =
-      let reads : read (env w) (classAt d t at) here ≡ stop [] (stopAt why (st .place)) =
+  refused-round : (v : Stop) → insideHere ≡ Refused v → Stops w v used (merged used ws (lent used ws))
+  unfolding opened refuseAt
+  refused-round v e came l′ =
+      let reads : read (env w) (classAt d t at) here ≡ stop [] v =
       class-reads ∙ ap (λ i. opened (env w) (u8 t at) d t i here) e in
       let did = first-stops _ _ holder-part _ reads came l′ in
       let same : merged used ws (lent used ws) ≡ ws = unlent used ws in
@@ -774,23 +768,26 @@ module _ {w : Loop} {r : Run} {ws : List ℕ} {used : ℕ} {st : Progress} {l : 
       put-length (h .round .part) (entry (u8 t at) p 0 v ∷ []) 4 refl (omega (arith, lent-room used ws, h .room)) refl
   open-same (Elements p v from n) =
       put-length (h .round .part) (entry (u8 t at) p 0 v ∷ []) 4 refl (omega (arith, lent-room used ws, h .room)) refl
-  open-same (Refused why) = ap length (unlent used ws) ∙ part-length (h .round .part)
+  open-same (Refused v) = ap length (unlent used ws) ∙ part-length (h .round .part)
 
-  pub open-stops : (i : Inside) → insideHere ≡ i → openedAs (w .notes .aligns) (st .place) i .on ≡ false
-      → Stops w (stopAt (openedAs (w .notes .aligns) (st .place) i .why) (st .place)) used (merged used ws (listOpened (u8 t at) i (lent used ws)))
+  pub open-stops : (i : Inside) → insideHere ≡ i → openedAs (w .notes .aligns) i .on ≡ false →
+      let o = openedAs (w .notes .aligns) i in
+      Stops w (stopAt (o .why) (o .place)) used (merged used ws (listOpened (u8 t at) i (lent used ws)))
   unfolding openedAs wentIn listOpened
   open-stops (Members p v from n) e b = absurd (clash (sym b))
   open-stops (Elements p v from n) e b = absurd (clash (sym b))
-  open-stops (Refused why) e b = refused-round why e
+  open-stops (Refused v) e b = refused-round v e
 
-  few-told : (i : Inside) → Held d t (w .frame) (st .place) i → openedAs (w .notes .aligns) (st .place) i .elements ≡ false
-      → openedAs (w .notes .aligns) (st .place) i .count ≤ length t
+  few-told : (i : Inside) → Held d t (w .frame) (st .place) i → openedAs (w .notes .aligns) i .elements ≡ false
+      → openedAs (w .notes .aligns) i .count ≤ length t
   unfolding Held openedAs wentIn
   few-told (Members q v from n) k e = members-few d t from n (k .classes)
   few-told (Elements q v from n) k e = absurd (clash (sym e))
-  few-told (Refused why) k e = omega arith
+  few-told (Refused v) k e = omega arith
 
-  pub open-few : openedAs (w .notes .aligns) (st .place) insideHere .elements ≡ false → openedAs (w .notes .aligns) (st .place) insideHere .count ≤ length t
+  pub open-few :
+      let o = openedAs (w .notes .aligns) insideHere in
+      o .elements ≡ false → o .count ≤ length t
   open-few = few-told insideHere held
 
   -- an array, or a variant, is opened in its run only where nothing is put off
@@ -822,11 +819,11 @@ module _ {w : Loop} {r : Run} {ws : List ℕ} {used : ℕ} {st : Progress} {l : 
           one = λ b. absurd (clash (sym b));
           parts = q .parts;
           ends = λ b. absurd (clash (sym b));
-        } (λ b. forgets-told from n (q .class b));
+        } (λ b. around-noted d t (w .notes) (h .round .noted) from n (q .class b));
       }
-  open-round may (Refused why) e = record {
-    same = open-same (Refused why);
-    stops = open-stops (Refused why) e;
+  open-round may (Refused v) e = record {
+    same = open-same (Refused v);
+    stops = open-stops (Refused v) e;
     goes = λ b. absurd (clash b);
   }
 
@@ -834,13 +831,13 @@ module _ {w : Loop} {r : Run} {ws : List ℕ} {used : ℕ} {st : Progress} {l : 
 pub record CodeRound (w : Loop) (r : Run) (ws : List ℕ) (used : ℕ) (st : Progress) (l : Slots) (o : Opened) (ys : List ℕ) : Type 0 where
   pub same : length (merged used ws ys) ≡ length (w .list)
   pub few : o .elements ≡ false → o .count ≤ length (w .table)
-  pub stops : o .on ≡ false → Stops w (stopAt (o .why) (st .place)) used (merged used ws ys)
+  pub stops : o .on ≡ false → Stops w (stopAt (o .why) (o .place)) used (merged used ws ys)
   pub goes : o .on ≡ true → Round w (intoRun (u8 (w .table) (r .next)) r (w .notes .sizes) (o .from) (o .count) (o .elements) (o .forgets))
       (merged used ws ys) (used + 4) (stateAt (o .place) (st .order) st) l
 
 pub code-round : {w : Loop} {r : Run} {ws : List ℕ} {used : ℕ} {st : Progress} {l : Slots} {c : Content} (h : Holder w r ws used st l c)
     → ((u8 (w .table) (r .next) ≡ 28 → ⊥) → (u8 (w .table) (r .next) ≡ 31 → ⊥) → free r ≡ true) → {o : Opened} {ys : List ℕ}
-    → o ≡ openedAs (w .notes .aligns) (st .place) (insideHere h) → ys ≡ listOpened (u8 (w .table) (r .next)) (insideHere h) (lent used ws)
+    → o ≡ openedAs (w .notes .aligns) (insideHere h) → ys ≡ listOpened (u8 (w .table) (r .next)) (insideHere h) (lent used ws)
     → CodeRound w r ws used st l o ys
 code-round h may e f =
     let q = open-round h may (insideHere h) refl in
@@ -849,7 +846,7 @@ code-round h may e f =
 -- a structure that was entered
 pub record EnterRound (w : Loop) (r : Run) (ws : List ℕ) (used : ℕ) (st : Progress) (l : Slots) (o : Entered) (ys : List ℕ) : Type 0 where
   pub same : length (merged used ws ys) ≡ length (w .list)
-  pub stops : o .on ≡ false → Stops w (stopAt PastBound (st .place)) used (merged used ws ys)
+  pub stops : o .on ≡ false → Stops w (stopAt PastBound (o .place)) used (merged used ws ys)
   pub goes : o .on ≡ true → Round w (openedRun r (r .next + 3) (u8 (w .table) (r .next + 1))) (merged used ws ys) (used + 4)
       (stateAt (o .place) (st .order) st) l
 
@@ -857,7 +854,7 @@ pub enter-round : {w : Loop} {r : Run} {ws : List ℕ} {used : ℕ} {st : Progre
     → u8 (w .table) (r .next) ≡ 28 → {o : Entered} {ys : List ℕ} → o ≡ enteredAt (w .frame) (bitsNoted (w .notes) (r .next)) (st .place)
     → ys ≡ listEntered (w .frame) (bitsNoted (w .notes) (r .next)) (st .place) (u8 (w .table) (r .next + 1)) (lent used ws)
     → EnterRound w r ws used st l o ys
-unfolding openedAs listOpened wentIn enteredAt
+unfolding openedAs listOpened wentIn
 enter-round {w} {r} {ws} {used} {st} {l} {c} h k {o} {ys} e f = by (o .on) refl
   where
     n : ℕ
@@ -875,19 +872,19 @@ enter-round {w} {r} {ws} {used} {st} {l} {c} h k {o} {ys} e f = by (o .on) refl
     by : (b : Bool) → o .on ≡ b → EnterRound w r ws used st l o ys
     by true b =
         let on = entered-on (w .frame) a (st .place) n (lent used ws) (membersFrom n (r .next + 3)) (ap (λ z. z .on) (sym e) ∙ b) in
-        let q = open-round h may (Members (alignedAt (w .frame) a (st .place)) n (r .next + 3) n) (sym told ∙ on .0) in
-        rw (f ∙ on .1, e) record {
+        let q = open-round h may (Members (alignedAt (w .frame) a (st .place)) n (r .next + 3) n) (sym told ∙ on .told) in
+        rw (f ∙ on .listed, e ∙ on .on) record {
           same = rw k at (q .same);
-          stops = λ off. absurd (clash (sym off ∙ ap (λ z. z .on) (sym e) ∙ b));
+          stops = λ off. absurd (clash (sym off));
           goes = λ _. rw (sym (into-parts 28 r (w .notes .sizes) (r .next + 3) n false 0 refl (λ z. omega arith))) (rw k at (q .goes refl));
         }
     by false b =
         let off = entered-off (w .frame) a (st .place) n (lent used ws) (membersFrom n (r .next + 3)) (ap (λ z. z .on) (sym e) ∙ b) in
-        let q = open-round h may (Refused PastBound) (sym told ∙ off .0) in
-        rw (f ∙ off .1) record {
+        let q = open-round h may (Refused (stopAt PastBound (w .frame .bound))) (sym told ∙ off .told) in
+        rw (f ∙ off .listed, e ∙ off .off) record {
           same = q .same;
           stops = λ _. q .stops refl;
-          goes = λ on. absurd (clash (sym b ∙ on));
+          goes = λ on. absurd (clash on);
         }
 
 -- A field that is read by itself

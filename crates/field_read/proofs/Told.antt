@@ -63,7 +63,9 @@ not-zero r h = by (eqb (r .forgets) 0) refl h
   where
     by : (b : Bool) → eqb (r .forgets) 0 ≡ b → not b ≡ true → 0 < r .forgets
     by true e k = absurd (clash k)
-    by false e k = let n = eqb-false (r .forgets) 0 e in ⊎-elim (λ (x : 0 < r .forgets). x) (λ (x : r .forgets ≤ 0). absurd (n (omega arith))) (lt-or-ge 0 (r .forgets))
+    by false e k =
+        let n = eqb-false (r .forgets) 0 e in
+        ⊎-elim (λ (x : 0 < r .forgets). x) (λ (x : r .forgets ≤ 0). absurd (n (omega arith))) (lt-or-ge 0 (r .forgets))
 
 pub border-some : (r : Run) → border r ≡ true → 0 < r .forgets
 border-some r h = not-zero r (forgets-true r h)
@@ -79,8 +81,9 @@ module _ {w : Loop} {r : Run} {ws : List ℕ} {used : ℕ} {st : Progress} {l : 
     noted = h .noted;
     framed = h .framed;
     many = h .many;
-    part = rw (goes .reads (env w), seq-assoc (forgotten (w .depths) (w .table) r) (ahead (w .depths) (w .table) (env w) (forwardRun r)) (w .behind))
-        at (h .part);
+    part =
+        let next = ahead (w .depths) (w .table) (env w) (forwardRun r) in
+        rw (goes .reads (env w), seq-assoc (forgotten (w .depths) (w .table) r) next (w .behind)) at (h .part);
   }
 
   at-border : border r ≡ true → Round w (forwardRun r) ws used st (unset l (slotsOf (w .table) (w .notes .sizes) (r .again)))
@@ -129,7 +132,10 @@ module _ {w : Loop} {r : Run} {ws : List ℕ} {used : ℕ} {st : Progress} {l : 
     {again : Bool} {n count : ℕ} (is-element : again ≡ element r) (is-first : n ≡ firstAt r) (is-count : count ≡ countOf r) where
   pub leaves-in-row : InRow again (w .table) n count
   leaves-in-row =
-      rw (is-element, is-first, is-count) record { depth = w .depths; stands = sort-stands (w .depths) (w .table) r (h .stands) (some .some) }
+      rw (is-element, is-first, is-count) record {
+        depth = w .depths;
+        stands = sort-stands (w .depths) (w .table) r (h .stands) (some .some);
+      }
 
   pub leaves-did : Bytes (w .stream) → (x : Content) → u8 (w .table) n < 28 → 4 ≤ length ws - used
       → slotAt l (leafSlot (w .table) n) ≡ x → {q : Leaves} {ys : List ℕ} → q ≡ leavesAt w st used ws again x n count .leaves
@@ -150,8 +156,8 @@ leaves-due {l = l} {q = q} d on many e set =
     rw e (⊎-elim (λ f. rw f h) (λ f. rw (f .1) (rw (no-slot l (q .slot) _ many (f .0)) at h)) set)
 
 -- a role that was applied
-pub role-did : {w : Loop} {m : Step} {r : Run} {ws : List ℕ} {used : ℕ} {st st′ : Progress} {l : Slots} {q : Roled} {ys : List ℕ} (k n v : ℕ)
-    → Kept w (role (roleOf k) n v ⨾ m) r ws used st l → st′ ≡ st → RoleDid (role (roleOf k) n v) st′ q (lent used ws) ys
+pub role-did : {w : Loop} {m : Step} {r : Run} {ws : List ℕ} {used : ℕ} {st st′ : Progress} {l : Slots} {q : Roled} {ys : List ℕ}
+    (k n v : ℕ) → Kept w (role (roleOf k) n v ⨾ m) r ws used st l → st′ ≡ st → RoleDid (role (roleOf k) n v) st′ q (lent used ws) ys
     → RoleRound w m r ws used st l q ys
 role-did k n v h e did = role-round k n v h (rw e at did)
 
@@ -196,7 +202,7 @@ module _ {w : Loop} {r : Run} {ws : List ℕ} {used : ℕ} {st : Progress} {l : 
   entered-run d e f on = rw (e, f, sym (first .1)) (d .goes on)
 
   -- a field that was opened in its run
-  pub inside-did : canOpen (u8 t n) r ≡ true → {o : Opened} {ys : List ℕ} → o ≡ openedAs (w .notes .aligns) (st .place) inside
+  pub inside-did : canOpen (u8 t n) r ≡ true → {o : Opened} {ys : List ℕ} → o ≡ openedAs (w .notes .aligns) inside
       → ys ≡ listOpened (u8 t n) inside (lent used ws) → CodeRound w r ws used st l o ys
   inside-did can e f = code-round h (λ y z. sym (open-free _ _ (rw (first .1) at z)) ∙ can) (rw (first .1) e) (rw (first .1) f)
 
@@ -206,7 +212,7 @@ module _ {w : Loop} {r : Run} {ws : List ℕ} {used : ℕ} {st : Progress} {l : 
   inside-run d e on = rw (e, sym (first .1)) (d .goes on)
 
   -- or in a run of its own
-  pub apart-did : {o : Opened} {ys : List ℕ} → o ≡ openedAs (w .notes .aligns) (st .place) inside → ys ≡ listOpened (u8 t n) inside (lent used ws)
+  pub apart-did : {o : Opened} {ys : List ℕ} → o ≡ openedAs (w .notes .aligns) inside → ys ≡ listOpened (u8 t n) inside (lent used ws)
       → ApartRound w r ws used st l o ys
   apart-did e f = apart-round h (rw (first .1) e) (rw (first .1) f)
 

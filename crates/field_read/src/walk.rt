@@ -86,7 +86,7 @@ pub fn read_field(
     let o = open_field(table, sizes, aligns, frame, at, st.place, content, list);
     if !o.on {
         let why = o.why;
-        return refused(why, st.place, 0, st, slots);
+        return refused(why, o.place, 0, st, slots);
     }
     let next = at_place(o.place, st);
     let r = if o.elements {
@@ -338,10 +338,10 @@ fn walk(
         run = taken(run);
         if kind == kinds::STRUCTURE {
             let o = enter_structure(table, aligns, frame, next, place, &mut list[used..]);
+            place = o.place;
             if !o.on {
                 return refused(Refusal::PastBound, place, used, st, given);
             }
-            place = o.place;
             run = opened(run, next + STRUCTURE_SIZE, wide(table[next + 1]));
             used = used + 4;
             continue;
@@ -363,11 +363,11 @@ fn walk(
                 content,
                 &mut list[used..],
             );
+            place = o.place;
             if !o.on {
                 let why = o.why;
                 return refused(why, place, used, st, given);
             }
-            place = o.place;
             run = into(kind, run, sizes, o.from, o.count, o.elements, o.forgets);
             used = used + 4;
             continue;

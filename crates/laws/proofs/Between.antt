@@ -1,5 +1,6 @@
 -- A reading of fields never leaves the packet: the place does not go back, and stays between the packet's start and the bound.
--- One law says it together with any fact of the place, and of what the roles said, that outlasts moves.
+-- One law says it together with any fact of the place, and of what the roles said, that outlasts moves. Where it stops lies between them
+-- too: at the state's place, at the bound (22), or at a number's tenth byte (24).
 use mathlib.Core.Path.{_≡_, refl, subst}
 use Prim.Native.Nat.{ℕ, _+_, _*_, _^_, _≤_, _<_}
 use native.Mathlib.Omega.{arith}
@@ -23,7 +24,7 @@ use Rattle.rules.specs.declared.Ended.{Ended}
 use Rattle.rules.specs.declared.Ended.the-variants.{After, Never}
 use Rattle.rules.specs.declared.Entry.{Entry}
 use Rattle.rules.specs.declared.Refusal.{Refusal}
-use Rattle.rules.specs.declared.Refusal.the-variants.{PastBound, OrderChanged, LebTooLarge, NoZeroByte, SlotUnset, SlotOfWrongSort}
+use Rattle.rules.specs.declared.Refusal.the-variants.{PastBound, OrderChanged, NoZeroByte, SlotUnset, SlotOfWrongSort}
 use Rattle.rules.specs.declared.Refusal.the-variants.{LengthTooLarge, SelectorInNoOption, WrongMagic, WrongUuid, ClockTooLarge}
 use Rattle.rules.specs.declared.Stop.{Stop}
 use Rattle.rules.specs.Verdict.{stopAt}
@@ -34,18 +35,20 @@ use Rattle.rules.specs.Text.{textLength, zeroAt}
 use Rattle.rules.specs.Place.{alignFrom}
 use Rattle.rules.specs.Slots.{slotAt}
 use Rattle.rules.specs.Entry.{entry, clockAdvanced}
-use Rattle.rules.specs.Step.{State, go, Step, _⨾_, check, listed, change, pass, withSlots, withOrder, withClock, withSaid}
+use Rattle.rules.specs.Step.{State, go, Step, _⨾_, refuseAt, check, listed, change, pass, withSlots, withOrder, withClock, withSaid}
 use Rattle.rules.specs.Class.{Role, noRole, magic, streamClassId, streamId, uuid, totalLength, contentLength, clock, endClock}
 use Rattle.rules.specs.Class.{discarded, sequence, eventClassId}
 use Rattle.rules.specs.Class.{Class, Sort, kindOf}
 use Rattle.rules.specs.Field.{Env, aligned, fit, field, store, newClock, say, role, blobRole, fromSlot, valueOf, slotOf, ahead, bytesAt}
 use Rattle.rules.specs.Field.{readFixed, readLeb, readZero, readText, readBlob, read}
 use Rattle.leb128.proofs.ValueSays.{unsigned-value, signed-value}
+use Rattle.leb128.proofs.Settled.{unsigned-reaches, signed-reaches}
 use Rattle.text.proofs.Laws.{zero-found}
 use Rattle.laws.specs.Between.{Between}
 use Rattle.laws.proofs.Law.{Any, any-slot, Law, fits, law-read}
-use Rattle.laws.proofs.Triple.{Ok, Triple, then, passing, changing, looser, refusing, checks, tested, untested, dued}
-use Rattle.laws.proofs.Places.{alignFrom-le, start-le, align-one, ahead-fits, LebFits}
+use Rattle.laws.proofs.Triple.{Ok, Triple, then, passing, changing, looser, refusing, refusing-at, checks, tested-at, untested}
+use Rattle.laws.proofs.Triple.{untested-at, dued}
+use Rattle.laws.proofs.Places.{alignFrom-le, start-le, align-one, ahead-fits, LebFits, LebReaches, start-tenth, tenth-fits}
 
 -- J outlasts moves; and outlasts what a role says behind a field of n bits, where N n
 pub record Kept (e : Env) (N : ℕ → Type 0) (J : ℕ → Said → Type 0) : Type 0 where
@@ -88,20 +91,24 @@ module _ (e : Env) where
     stops : (r : Refusal) → NoMore r → (s : State) → Holds s → At (stopAt r (s .place))
     stops r i s h = (h .from, h .to)
 
+    -- at the bound, which is not before the place
+    at-bound : (s : State) → Holds s → At (stopAt PastBound (e .bound))
+    at-bound s h = let from : e .start .0 ≤ s .place .0 = h .from in omega (arith, h .to)
+
     infixr 20 _⨾ᵇ_
     _⨾ᵇ_ : {A B C : State → Type 0} {m n : Step} → Fine A m B → Fine B n C → Fine A (m ⨾ n) C
     h ⨾ᵇ k = then In At NoMore h k
 
     fitting : (a n : ℕ) {m : Step} → Fine (Fit a n) m Holds → Holding J (fit e a n ⨾ m)
     unfolding fit
-    fitting a n h = tested In At NoMore stops _ PastBound tt (record { at = λ s x. h .at s (x .0, ltb-false _ _ (x .1)) })
+    fitting a n h = tested-at In At NoMore _ _ at-bound _ (record { at = λ s x. h .at s (x .0, ltb-false _ _ (x .1)) })
 
     at-zero : (a : ℕ) {m : Step} → Fine (λ s. Holds s × ((aligned e a s) .0 ≤ e .bound .0)) m Holds → Holding J (fit e a 0 ⨾ m)
     at-zero a h = fitting a 0 (record { at = λ s x. let b : (aligned e a s) .0 + 0 ≤ e .bound .0 = x .1 in h .at s (x .0, omega arith) })
 
     plain-fit : (a n : ℕ) {m : Step} → Holding J m → Holding J (fit e a n ⨾ m)
     unfolding fit
-    plain-fit a n h = untested In At NoMore stops _ PastBound tt h
+    plain-fit a n h = untested-at In At NoMore _ _ at-bound _ h
 
     -- a field that fits
     put-field : (k a n v : ℕ) → 1 ≤ a → Fine (Fit a n) (field e k a n v) (Behind n)
@@ -203,11 +210,11 @@ module _ (e : Env) where
         }))))
 
     held-leb : (k : ℕ) (sl : ℕ → Content) (i : ℕ) (r : Role) (x : Leb) (s : State) → Holds s → (aligned e 8 s) .0 ≤ e .bound .0
-        → LebFits (ahead e (aligned e 8 s)) x → Ok In At NoMore Holds (readLeb e k sl i r x s)
+        → LebFits (ahead e (aligned e 8 s)) x → LebReaches (ahead e (aligned e 8 s)) x → Ok In At NoMore Holds (readLeb e k sl i r x s)
     unfolding readLeb
-    held-leb k sl i r Past s h b g = refusing In At NoMore stops PastBound tt .at s h
-    held-leb k sl i r Large s h b g = refusing In At NoMore stops LebTooLarge tt .at s h
-    held-leb k sl i r (Value v n) s h b g =
+    held-leb k sl i r Past s h b g t = refusing-at In At NoMore _ _ at-bound .at s h
+    held-leb k sl i r Large s h b g t = unfold refuseAt in (tt, (start-tenth e s, tenth-fits e s b (t refl)))
+    held-leb k sl i r (Value v n) s h b g t =
         let y = g v n refl in
         let w : N (8 * n .0) = j .some-bits (8 * n .0) (omega (arith, y .some)) in
         (put-field k 8 (8 * n .0) v (omega arith) ⨾ᵇ set-slot (8 * n .0) i (sl v) ⨾ᵇ held-role (8 * n .0) w r (7 * n .0) v) .at s
@@ -238,10 +245,12 @@ module _ (e : Env) where
       slot = λ i f h. record { at = λ s x. h (slotAt (s .slots) i) (any-slot (slotAt (s .slots) i)) .at s x };
       fixes = λ k n o a i r w z. held-fixed k n o (2 ^ a) i r w (pow-pos a);
       lebs = λ i r z. at-zero 8 (record {
-        at = λ s x. held-leb 21 Unsigned i r (lebUnsigned (ahead e (aligned e 8 s))) s (x .0) (x .1) (unsigned-value _);
+        at = λ s x. held-leb 21 Unsigned i r (lebUnsigned (ahead e (aligned e 8 s))) s (x .0) (x .1) (unsigned-value _)
+            (unsigned-reaches _);
       });
       signedLebs = λ i z. at-zero 8 (record {
-        at = λ s x. held-leb 22 Signed i noRole (lebSigned (ahead e (aligned e 8 s))) s (x .0) (x .1) (signed-value _);
+        at = λ s x. held-leb 22 Signed i noRole (lebSigned (ahead e (aligned e 8 s))) s (x .0) (x .1) (signed-value _)
+            (signed-reaches _);
       });
       zeros = at-zero 8 (record { at = λ s x. held-zero (zeroAt (ahead e (aligned e 8 s))) s (x .0) (x .1) (λ n z. zero-found _ n z .0) });
       texts = λ k n h. unfold readText in

@@ -1,7 +1,7 @@
 -- The same bytes at another place: steps that do the same there whatever the bytes, and what stands beside what in front of a step: a
--- test, the room of an entry, bits that must fit before the bound. What is meant by it stands in specs/Far.
+-- test, the room of an entry, the bound, bits that must fit before it. What is meant by it stands in specs/Far.
 use mathlib.Core.Path.{_≡_, refl, sym, ap, _∙_, subst}
-use mathlib.Core.Logic.{inl, inr}
+use mathlib.Core.Logic.{inl, inr, ⊎-elim}
 use Prim.Native.Nat.{ℕ, _+_, _-_, _≤_, _<_}
 use native.Mathlib.Omega.{arith}
 use mathlib.Core.List.{List, [], _∷_, _++_}
@@ -10,15 +10,16 @@ use lib.Dec.{ltb}
 use borrow.Author.Tests.{ltb-true, ltb-false}
 use Rattle.rules.specs.declared.Entry.{Entry}
 use Rattle.rules.specs.declared.Refusal.{Refusal}
-use Rattle.rules.specs.declared.Refusal.the-variants.{PastBound, ListFull}
+use Rattle.rules.specs.declared.Refusal.the-variants.{PastBound, LebTooLarge, ListFull}
 use Rattle.rules.specs.Place.{bitPlace, roundUp, alignFrom}
 use Rattle.rules.specs.Entry.{entry}
 use Rattle.rules.specs.Verdict.{stopAt}
 use Rattle.rules.specs.Limits.{wordsPerEntry}
-use Rattle.rules.specs.Step.{State, Out, stop, go, Step, onto, after, _⨾_, refuse, check, due, listed, pass}
+use Rattle.rules.specs.Step.{State, Out, stop, go, Step, onto, after, _⨾_, refuse, refuseAt, check, checkAt, due, listed, pass}
 use Rattle.rules.specs.Field.{Env, aligned, fit, field}
 use Rattle.facts.proofs.Steps.{onto-nil}
-use Rattle.laws.proofs.Places.{start-le}
+use Rattle.facts.proofs.Numbers.{lt-or-ge}
+use Rattle.laws.proofs.Places.{start-le, tenthByte}
 use Rattle.laws.specs.Far.{away, farEntry, farAll, farStop, far, farOut, Rel}
 
 module _ (e e′ : Env) where
@@ -85,6 +86,14 @@ module _ (e e′ : Env) where
   unfolding refuse farOut farAll far
   exact-refuse r = record { at = λ l s. refl }
 
+  pub exact-large : Exact (λ s. refuseAt LebTooLarge (tenthByte e s) s) (λ s. refuseAt LebTooLarge (tenthByte e′ s) s)
+  unfolding refuseAt farOut farAll
+  exact-large = record {
+    at = λ l s.
+        let p : (tenthByte e′ (far e e′ l s)) .0 ≡ away e e′ ((tenthByte e s) .0) = omega (arith, aligned-far 8 l s, start-aligned 8 s) in
+        ap (λ x. stop [] (stopAt LebTooLarge (bitPlace x))) p;
+  }
+
   pub exact-pass : Exact pass pass
   unfolding pass farOut farAll
   exact-pass = record { at = λ l s. refl }
@@ -111,15 +120,34 @@ module _ (e e′ : Env) where
   unfolding due
   rel-due l m m′ s h = rel-check l _ _ ListFull m m′ s (unfold far in refl) h
 
-  -- in front of a step that takes n bits from where it stands: it ends behind them where it goes through
   module _ (inside : e .start .0 ≤ e .bound .0) (inside′ : e′ .start .0 ≤ e′ .bound .0)
       (narrower : e .bound .0 - e .start .0 ≤ e′ .bound .0 - e′ .start .0) where
+    -- refused at the bound: at the same place there, or short of a bound that is further
+    pub rel-past : (l : ℕ → ℕ) (s : State) → Rel e e′ l (refuseAt PastBound (e .bound) s) (refuseAt PastBound (e′ .bound) (far e e′ l s))
+    unfolding refuseAt onto farOut farAll
+    rel-past l s = ⊎-elim
+        (λ (w : e .bound .0 - e .start .0 < e′ .bound .0 - e′ .start .0). inr (record {
+          es = [];
+          v = stopAt PastBound (e .bound);
+          stops = refl;
+          short = inl refl;
+          rest = stop [] (stopAt PastBound (e′ .bound));
+          goes = refl;
+          wider = w;
+          beyond = λ fs t q. let z : _≡_ {A = ℕ} 0 1 = cc in absurd (omega arith);
+        }))
+        (λ (w : e′ .bound .0 - e′ .start .0 ≤ e .bound .0 - e .start .0).
+        let p : e′ .bound .0 ≡ away e e′ (e .bound .0) = omega arith in
+        inl (ap (λ x. stop [] (stopAt PastBound (bitPlace x))) p))
+        (lt-or-ge (e .bound .0 - e .start .0) (e′ .bound .0 - e′ .start .0))
+
+    -- in front of a step that takes n bits from where it stands: it ends behind them where it goes through
     pub rel-fit : (l : ℕ → ℕ) (a n : ℕ) (m m′ : Step) (s : State)
         → ((aligned e a s) .0 + n ≤ e .bound .0 → Rel e e′ l (m s) (m′ (far e e′ l s)))
         → ((aligned e′ a (far e e′ l s)) .0 + n ≤ e′ .bound .0 → (fs : List Entry) (t : State) → m′ (far e e′ l s) ≡ go fs t
         → (aligned e′ a (far e e′ l s)) .0 + n ≤ t .place .0)
         → Rel e e′ l ((fit e a n ⨾ m) s) ((fit e′ a n ⨾ m′) (far e e′ l s))
-    unfolding fit check _⨾_
+    unfolding fit checkAt _⨾_
     rel-fit l a n m m′ s h g =
         by (ltb (e .bound .0) ((aligned e a s) .0 + n)) refl (ltb (e′ .bound .0) ((aligned e′ a (far e e′ l s)) .0 + n)) refl
       where
@@ -131,9 +159,9 @@ module _ (e e′ : Env) where
 
         by : (b : Bool) → ltb (e .bound .0) ((aligned e a s) .0 + n) ≡ b → (b′ : Bool)
             → ltb (e′ .bound .0) ((aligned e′ a (far e e′ l s)) .0 + n) ≡ b′
-            → Rel e e′ l (after (elim b [ true ↦ refuse PastBound s | false ↦ pass s ]) m)
-            (after (elim b′ [ true ↦ refuse PastBound (far e e′ l s) | false ↦ pass (far e e′ l s) ]) m′)
-        by true p true p′ = unfold refuse after farOut farAll far in inl refl
+            → Rel e e′ l (after (elim b [ true ↦ refuseAt PastBound (e .bound) s | false ↦ pass s ]) m)
+            (after (elim b′ [ true ↦ refuseAt PastBound (e′ .bound) (far e e′ l s) | false ↦ pass (far e e′ l s) ]) m′)
+        by true p true p′ = unfold refuseAt after in rel-past l s
         by false p false p′ = unfold pass after in rw (onto-nil (m s), onto-nil (m′ (far e e′ l s))) (h (ltb-false _ _ p))
         by false p true p′ =
             let u : (aligned e a s) .0 + n ≤ e .bound .0 = ltb-false _ _ p in
@@ -144,8 +172,8 @@ module _ (e e′ : Env) where
             let u′ : (aligned e′ a (far e e′ l s)) .0 + n ≤ e′ .bound .0 = ltb-false _ _ p′ in
             inr (record {
               es = [];
-              v = stopAt PastBound (s .place);
-              stops = unfold refuse after in refl;
+              v = stopAt PastBound (e .bound);
+              stops = unfold refuseAt after in refl;
               short = inl refl;
               rest = m′ (far e e′ l s);
               goes = unfold pass after farAll in refl;

@@ -16,7 +16,7 @@ use Rattle.rules.specs.declared.Stop.{Stop}
 use Rattle.rules.specs.Limits.{slotCount, packetSlotCount}
 use Rattle.rules.specs.Verdict.{stopAt}
 use Rattle.rules.specs.Slots.{Slots, slot, slotAt, packetSlots, setSlot}
-use Rattle.rules.specs.Step.{State, Step, go, listed, withSlots, withOrder, withClock, withSaid}
+use Rattle.rules.specs.Step.{State, Step, go, refuseAt, listed, withSlots, withOrder, withClock, withSaid}
 use Rattle.rules.specs.Class.{Class}
 use Rattle.rules.specs.Field.{Env, field, store, say, fromSlot}
 use Rattle.rules.specs.Table.{Table, asked}
@@ -26,7 +26,7 @@ use Rattle.facts.proofs.Slots.{no-slot}
 use Rattle.laws.specs.Kept.{RootKeeps, LeavesUnset, KeepsSlots}
 use Rattle.laws.proofs.Law.{Any, FitRoot}
 use Rattle.laws.proofs.Simple.{view, Simple, simple-fits}
-use Rattle.laws.proofs.Triple.{Ok, Triple, then, passing, changing, refusing, checks, untested, dued}
+use Rattle.laws.proofs.Triple.{Ok, Triple, then, passing, changing, refusing, refusing-at, checks, untested, untested-at, dued}
 use Rattle.laws.proofs.Accepted.{SetUnder, Tells, accepted-fits}
 
 -- Any root
@@ -52,7 +52,7 @@ module _ (P : Slots → Type 0) (S : ℕ → Type 0) (set-kept : (l : Slots) (i 
   stops r i s h = tt
 
   keeps-simple : (e : Env) → Simple e S Keeps Keeps
-  unfolding fromSlot field listed store say withSlots withOrder withClock withSaid
+  unfolding refuseAt fromSlot field listed store say withSlots withOrder withClock withSaid
   keeps-simple e = record {
     seq = λ a b. then AnyEntry AnyStop AnyRefusal a b;
     seqʳ = λ a b. then AnyEntry AnyStop AnyRefusal a b;
@@ -62,6 +62,9 @@ module _ (P : Slots → Type 0) (S : ℕ → Type 0) (set-kept : (l : Slots) (i 
     refuses = λ r small. refusing AnyEntry AnyStop AnyRefusal stops r tt;
     checks = λ t r small. checks AnyEntry AnyStop AnyRefusal stops _ r tt;
     checksʳ = λ t r small a. untested AnyEntry AnyStop AnyRefusal stops _ r tt a;
+    refusesPast = refusing-at AnyEntry AnyStop AnyRefusal _ _ (λ s h. tt);
+    checksPastʳ = λ t a. untested-at AnyEntry AnyStop AnyRefusal _ _ (λ s h. tt) _ a;
+    refusesLarge = record { at = λ s h. (tt, tt) };
     looks = λ f a. record { at = λ s h. a (view s) .at s h };
     looksʳ = λ f a. record { at = λ s h. a (view s) .at s h };
     slots = λ i f a. record { at = λ s h. a (slotAt (s .slots) i) .at s h };

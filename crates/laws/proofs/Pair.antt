@@ -9,7 +9,7 @@ use mathlib.Core.Bool.{Bool, true, false, not, _&&_}
 use mathlib.Core.Option.{Option, none, some}
 use lib.ListN.{length, take, drop, length-take, length-drop}
 use lib.Seq.{take-add}
-use lib.Dec.{eqb}
+use lib.Dec.{ltb, eqb}
 use Rattle.rules.specs.declared.ByteLength.{ByteLength}
 use Rattle.rules.specs.declared.Order.{Order}
 use Rattle.rules.specs.declared.LastOrder.{LastOrder}
@@ -23,7 +23,7 @@ use Rattle.rules.specs.declared.Ended.{Ended}
 use Rattle.rules.specs.declared.Ended.the-variants.{After, Never}
 use Rattle.rules.specs.declared.Entry.{Entry}
 use Rattle.rules.specs.declared.Refusal.{Refusal}
-use Rattle.rules.specs.declared.Refusal.the-variants.{PastBound, OrderChanged, LebTooLarge, NoZeroByte, SlotUnset, SlotOfWrongSort}
+use Rattle.rules.specs.declared.Refusal.the-variants.{PastBound, OrderChanged, NoZeroByte, SlotUnset, SlotOfWrongSort}
 use Rattle.rules.specs.declared.Refusal.the-variants.{LengthTooLarge, SelectorInNoOption, WrongMagic, WrongUuid, ClockTooLarge, ListFull}
 use Rattle.rules.specs.declared.Stop.{Stop}
 use Rattle.rules.specs.Bits.{bits}
@@ -33,8 +33,8 @@ use Rattle.rules.specs.Text.{textLength, zeroAt}
 use Rattle.rules.specs.Slots.{slotAt}
 use Rattle.rules.specs.Entry.{entry, clockAdvanced}
 use Rattle.rules.specs.Verdict.{stopAt}
-use Rattle.rules.specs.Step.{State, Out, stop, go, Step, onto, after, _⨾_, refuse, check, due, listed, change, pass, withSlots, withOrder}
-use Rattle.rules.specs.Step.{withClock, withSaid}
+use Rattle.rules.specs.Step.{State, Out, stop, go, Step, onto, after, _⨾_, refuse, refuseAt, check, checkAt, due, listed, change, pass}
+use Rattle.rules.specs.Step.{withSlots, withOrder, withClock, withSaid}
 use Rattle.rules.specs.Class.{Role, noRole, magic, streamClassId, streamId, uuid, totalLength, contentLength, clock, endClock, discarded}
 use Rattle.rules.specs.Class.{sequence, eventClassId}
 use Rattle.rules.specs.Class.{Class, Sort, kindOf}
@@ -52,8 +52,8 @@ use Rattle.laws.proofs.Two.{Law2, two-root}
 use Rattle.laws.specs.Far.{Like, away, farEntry, farAll, far, farOut}
 use Rattle.laws.proofs.Far.{far-append, far-onto, Exact, exact-seq}
 use Rattle.laws.specs.Far.{Cut, Rel}
-use Rattle.laws.proofs.Far.{aligned-far, start-aligned, exact-field, exact-refuse, exact-pass, rel-check, rel-due}
-use Rattle.laws.proofs.Far.{rel-fit}
+use Rattle.laws.proofs.Far.{aligned-far, start-aligned, exact-field, exact-refuse, exact-large, exact-pass, rel-check, rel-due}
+use Rattle.laws.proofs.Far.{rel-past, rel-fit}
 use Rattle.laws.proofs.Agree.{piece, bits-same, leb-more, leb-signed-more, zero-more}
 
 -- where a step goes on, the place is at or behind where it was
@@ -115,18 +115,20 @@ unfolding store withSlots
 onward-store i x = onward-change _ (λ s. refl)
 
 -- a test in front is passed where the whole goes on
+through-if : (b : Bool) (v : Stop) (m : Step) (s : State) (fs : List Entry) (u : State)
+    → after (elim b [ true ↦ stop [] v | false ↦ pass s ]) m ≡ go fs u → m s ≡ go fs u
+unfolding after pass
+through-if true v m s fs u q = let z : _≡_ {A = ℕ} 0 1 = cc in absurd (omega arith)
+through-if false v m s fs u q = sym (onto-nil (m s)) ∙ q
+
 pub through : (t : State → Bool) (r : Refusal) (m : Step) (s : State) (fs : List Entry) (u : State) → (check t r ⨾ m) s ≡ go fs u
     → m s ≡ go fs u
-unfolding check _⨾_
-through t r m s fs u q = by (t s) q
-  where
-    by : (b : Bool) → after (elim b [ true ↦ refuse r s | false ↦ pass s ]) m ≡ go fs u → m s ≡ go fs u
-    by true g = unfold refuse after in let z : _≡_ {A = ℕ} 0 1 = cc in absurd (omega arith)
-    by false g = unfold pass after in sym (onto-nil (m s)) ∙ g
+unfolding check refuse _⨾_
+through t r m s fs u q = through-if (t s) _ m s fs u q
 
 pub through-fit : (x : Env) (a n : ℕ) (m : Step) (s : State) (fs : List Entry) (u : State) → (fit x a n ⨾ m) s ≡ go fs u → m s ≡ go fs u
-unfolding fit
-through-fit x a n m s fs u q = through _ PastBound m s fs u q
+unfolding fit checkAt refuseAt _⨾_
+through-fit x a n m s fs u q = through-if (ltb (x .bound .0) ((aligned x a s) .0 + n)) _ m s fs u q
 
 pub onto-go : (es : List Entry) (o : Out) (fs : List Entry) (t : State) → onto es o ≡ go fs t → (gs : List Entry) × (o ≡ go gs t)
 unfolding onto
@@ -415,20 +417,20 @@ module _ (e e′ : Env) (y : Like e e′) where
 
   -- what a reading of bytes ahead comes to: the same; or here there were too few, and there, with n bytes, it went past them
   module _ (k : ℕ) (c : ℕ → Content) (i : ℕ) (r : Role) where
-    leb-exact : (x : Leb) → Exact e e′ (readLeb e k c i r x) (readLeb e′ k c i r x)
+    leb-same : (x : Leb) (l : ℕ → ℕ) (s : State) → Beside l (readLeb e k c i r x s) (readLeb e′ k c i r x (there l s))
     unfolding readLeb
-    leb-exact (Value v n) =
-        exact-seq e e′ (exact-field e e′ k 8 (8 * n .0) v) (exact-seq e e′ (exact-store i (c v)) (exact-role r (7 * n .0) v))
-    leb-exact Past = exact-refuse e e′ PastBound
-    leb-exact Large = exact-refuse e e′ LebTooLarge
+    leb-same (Value v n) l s =
+        inl (exact-seq e e′ (exact-field e e′ k 8 (8 * n .0) v) (exact-seq e e′ (exact-store i (c v)) (exact-role r (7 * n .0) v)) .at l s)
+    leb-same Past l s = rel-past e e′ (y .inside) (y .inside′) (y .narrower) l s
+    leb-same Large l s = inl (exact-large e e′ .at l s)
 
     leb-reach : (x : Leb) (s : State) (fs : List Entry) (t : State) → readLeb e′ k c i r x s ≡ go fs t
         → (v : ℕ) × (n : ByteLength) × (x ≡ Value v n) × ((aligned e′ 8 s) .0 + 8 * n .0 ≤ t .place .0)
     unfolding readLeb
     leb-reach (Value v n) s fs t q =
         (v, n, refl, reach-field e′ k 8 (8 * n .0) v _ (onward-seq (onward-store i (c v)) (onward-role r (7 * n .0) v)) s fs t q)
-    leb-reach Past s fs t q = unfold refuse in let z : _≡_ {A = ℕ} 0 1 = cc in absurd (omega arith)
-    leb-reach Large s fs t q = unfold refuse in let z : _≡_ {A = ℕ} 0 1 = cc in absurd (omega arith)
+    leb-reach Past s fs t q = unfold refuseAt in let z : _≡_ {A = ℕ} 0 1 = cc in absurd (omega arith)
+    leb-reach Large s fs t q = unfold refuseAt in let z : _≡_ {A = ℕ} 0 1 = cc in absurd (omega arith)
 
     leb-cut : (l : ℕ → ℕ) (s : State) (x x′ : Leb) → (aligned e 8 s) .0 ≤ e .bound .0
         → e .bound .0 - e .start .0 < e′ .bound .0 - e′ .start .0
@@ -436,8 +438,8 @@ module _ (e e′ : Env) (y : Like e e′) where
         → Cut e e′ (readLeb e k c i r x s) (readLeb e′ k c i r x′ (there l s))
     leb-cut l s x x′ f w p h = record {
       es = [];
-      v = stopAt PastBound (s .place);
-      stops = unfold readLeb refuse in ap (λ z. readLeb e k c i r z s) p;
+      v = stopAt PastBound (e .bound);
+      stops = unfold readLeb refuseAt in ap (λ z. readLeb e k c i r z s) p;
       short = inl refl;
       rest = readLeb e′ k c i r x′ (there l s);
       goes = unfold farAll in sym (onto-nil _);
@@ -469,7 +471,7 @@ module _ (e e′ : Env) (y : Like e e′) where
         same : read (ahead e′ (aligned e′ 8 (there l s))) ≡ read (ahead e (aligned e 8 s))
             → Beside l (readLeb e k c i r (read (ahead e (aligned e 8 s))) s)
             (readLeb e′ k c i r (read (ahead e′ (aligned e′ 8 (there l s)))) (there l s))
-        same p = inl (ap (λ x. readLeb e′ k c i r x (there l s)) p ∙ leb-exact (read (ahead e (aligned e 8 s))) .at l s)
+        same p = rw p (leb-same (read (ahead e (aligned e 8 s))) l s)
 
         by : (aligned e 8 s) .0 ≤ e .bound .0
             → Beside l (readLeb e k c i r (read (ahead e (aligned e 8 s))) s)

@@ -30,7 +30,7 @@ use Rattle.rules.specs.Clock.{clockAfter}
 use Rattle.rules.specs.Text.{textLength, zeroAt}
 use Rattle.rules.specs.Place.{bitPlace, alignFrom}
 use Rattle.rules.specs.Entry.{entry, clockAdvanced}
-use Rattle.rules.specs.Step.{State, Step, _⨾_, refuse, check, due, listed, change, pass, withOrder, withClock}
+use Rattle.rules.specs.Step.{State, Step, _⨾_, refuse, refuseAt, check, checkAt, due, listed, change, pass, withOrder, withClock}
 use Rattle.rules.specs.Class.{Role, noRole, magic, streamClassId, streamId, uuid, totalLength, contentLength, clock, endClock}
 use Rattle.rules.specs.Class.{discarded, sequence, eventClassId}
 use Rattle.rules.specs.Class.{Class, Sort, bitArray, boolean, unsignedInt, signedInt, float, kindOf}
@@ -39,6 +39,7 @@ use Rattle.rules.specs.Field.{valueOf, slotOf, otherOrder, turned}
 use Rattle.rules.specs.Field.{readFixed, readLeb, readZero, readText, readBlob}
 use Rattle.rules.specs.Packet.{readRoot}
 use Rattle.laws.proofs.Law.{FieldKind, Any, any-slot, FitRoot, Law, law-root, law-any}
+use Rattle.laws.proofs.Places.{tenthByte}
 
 -- what a step may look at beside the slots and the room
 pub record View : Type 0 where
@@ -62,6 +63,10 @@ pub record Simple (e : Env) (S : ℕ → Type 0) (L R : Step → Type 0) : Type 
   pub refuses : (r : Refusal) → refusalNumber r < 40 → R (refuse r)
   pub checks : (t : View → Bool) (r : Refusal) → refusalNumber r < 40 → L (check (λ s. t (view s)) r)
   pub checksʳ : (t : View → Bool) (r : Refusal) → refusalNumber r < 40 → {m : Step} → R m → R (check (λ s. t (view s)) r ⨾ m)
+  -- 22 is refused at the bound, and 24 at the tenth byte
+  pub refusesPast : R (refuseAt PastBound (e .bound))
+  pub checksPastʳ : (t : View → Bool) {m : Step} → R m → R (checkAt (λ s. t (view s)) PastBound (e .bound) ⨾ m)
+  pub refusesLarge : R (λ s. refuseAt LebTooLarge (tenthByte e s) s)
   pub looks : (f : View → Step) → ((x : View) → L (f x)) → L (λ s. f (view s) s)
   pub looksʳ : (f : View → Step) → ((x : View) → R (f x)) → R (λ s. f (view s) s)
   pub slots : (i : ℕ) (f : Content → Step) → ((x : Content) → R (f x)) → R (fromSlot i f)
@@ -84,8 +89,8 @@ kind-fields float = omega arith
 
 module _ (e : Env) {S : ℕ → Type 0} {L R : Step → Type 0} (h : Simple e S L R) where
   fitting : (a n : ℕ) {m : Step} → R m → R (fit e a n ⨾ m)
-  unfolding fit aligned refusalNumber
-  fitting a n g = h .checksʳ (λ x. ltb (e .bound .0) (alignFrom (e .start .0) a (x .place .0) + n)) PastBound (omega arith) g
+  unfolding fit aligned
+  fitting a n g = h .checksPastʳ (λ x. ltb (e .bound .0) (alignFrom (e .start .0) a (x .place .0) + n)) g
 
   turning : (a : ℕ) (o : Order) {m : Step} → R m → R (check (turned e a o) OrderChanged ⨾ m)
   unfolding turned aligned refusalNumber
@@ -138,11 +143,11 @@ module _ (e : Env) {S : ℕ → Type 0} {L R : Step → Type 0} (h : Simple e S 
       (h .seq (h .orders (Was o)) (h .seq (h .stores i _ w) (simple-role r n _))))))))
 
   simple-leb : (k : ℕ) (c : ℕ → Content) (i : ℕ) (r : Role) (x : Leb) → S i → FieldKind k → R (readLeb e k c i r x)
-  unfolding readLeb refusalNumber
+  unfolding readLeb
   simple-leb k c i r (Value v n) w g =
       h .seqʳ (h .fields k 8 (8 * n .0) v g (omega arith)) (h .seq (h .stores i (c v) w) (simple-role r (7 * n .0) v))
-  simple-leb k c i r Past w g = h .refuses PastBound (omega arith)
-  simple-leb k c i r Large w g = h .refuses LebTooLarge (omega arith)
+  simple-leb k c i r Past w g = h .refusesPast
+  simple-leb k c i r Large w g = h .refusesLarge
 
   simple-zero : (x : Ended) → R (readZero e x)
   unfolding readZero refusalNumber

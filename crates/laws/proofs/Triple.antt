@@ -2,12 +2,13 @@
 use mathlib.Core.Path.{_≡_, refl}
 use mathlib.Core.List.{List}
 use mathlib.Core.Bool.{Bool, true, false}
+use Rattle.rules.specs.declared.BitPlace.{BitPlace}
 use Rattle.rules.specs.declared.Entry.{Entry}
 use Rattle.rules.specs.declared.Refusal.{Refusal}
 use Rattle.rules.specs.declared.Refusal.the-variants.{ListFull}
 use Rattle.rules.specs.declared.Stop.{Stop}
 use Rattle.rules.specs.Verdict.{stopAt}
-use Rattle.rules.specs.Step.{State, Out, stop, go, Step, onto, after, _⨾_, refuse, check, due, change, pass}
+use Rattle.rules.specs.Step.{State, Out, stop, go, Step, onto, after, _⨾_, refuse, refuseAt, check, checkAt, due, change, pass}
 use Rattle.laws.specs.All.{All}
 use Rattle.laws.proofs.All.{all-append}
 
@@ -35,6 +36,13 @@ module _ (Q : Entry → Type 0) (U : Stop → Type 0) (I : Refusal → Type 0) w
     unfolding _⨾_
     then {m} {n} h k = record { at = λ s a. ok-after B C (m s) n (h .at s a) k }
 
+  -- by a test's outcome: refused at a place, or what its failing tells
+  by-test : (A : State → Type 0) (t : State → Bool) (r : Refusal) (p : BitPlace) (s : State) → A s → U (stopAt r p) → (b : Bool) → t s ≡ b
+      → Ok (λ s. A s × (t s ≡ false)) (elim b [ true ↦ refuseAt r p s | false ↦ pass s ])
+  unfolding refuseAt pass
+  by-test A t r p s h u true e = (tt, u)
+  by-test A t r p s h u false e = (tt, (h, e))
+
   module _ {A : State → Type 0} where
     pub passing : Triple A pass A
     unfolding pass
@@ -58,6 +66,23 @@ module _ (Q : Entry → Type 0) (U : Stop → Type 0) (I : Refusal → Type 0) w
     unfolding refuse
     naming r u = record { at = λ s h. (tt, u s h) }
 
+    -- where a refusal at a place of its own will do
+    module _ (r : Refusal) (p : BitPlace) (u : (s : State) → A s → U (stopAt r p)) where
+      pub refusing-at : {B : State → Type 0} → Triple A (refuseAt r p) B
+      unfolding refuseAt
+      refusing-at = record { at = λ s h. (tt, u s h) }
+
+      checking-at : (t : State → Bool) → Triple A (checkAt t r p) (λ s. A s × (t s ≡ false))
+      unfolding checkAt
+      checking-at t = record { at = λ s h. by-test A t r p s h (u s h) (t s) refl }
+
+      pub tested-at : {B : State → Type 0} (t : State → Bool) {m : Step} → Triple (λ s. A s × (t s ≡ false)) m B
+          → Triple A (checkAt t r p ⨾ m) B
+      tested-at {B} t {m} h = then (checking-at t) h
+
+      pub untested-at : {B : State → Type 0} (t : State → Bool) {m : Step} → Triple A m B → Triple A (checkAt t r p ⨾ m) B
+      untested-at {B} t {m} h = then (checking-at t) (record { at = λ s a. h .at s (a .0) })
+
     -- where a refusal at the state's place will do
     module _ (u : (r : Refusal) → I r → (s : State) → A s → U (stopAt r (s .place))) where
       pub refusing : {B : State → Type 0} (r : Refusal) → I r → Triple A (refuse r) B
@@ -65,12 +90,8 @@ module _ (Q : Entry → Type 0) (U : Stop → Type 0) (I : Refusal → Type 0) w
 
       -- a test, and what its failing tells
       pub checking : (t : State → Bool) (r : Refusal) → I r → Triple A (check t r) (λ s. A s × (t s ≡ false))
-      unfolding check
-      checking t r i = record { at = λ s h. by s h (t s) refl }
-        where
-          by : (s : State) → A s → (b : Bool) → t s ≡ b → Ok (λ s. A s × (t s ≡ false)) (elim b [ true ↦ refuse r s | false ↦ pass s ])
-          by s h true e = unfold refuse in (tt, u r i s h)
-          by s h false e = unfold pass in (tt, (h, e))
+      unfolding check refuse refuseAt
+      checking t r i = record { at = λ s h. by-test A t r (s .place) s h (u r i s h) (t s) refl }
 
       pub tested : {B : State → Type 0} (t : State → Bool) (r : Refusal) → I r → {m : Step} → Triple (λ s. A s × (t s ≡ false)) m B
           → Triple A (check t r ⨾ m) B

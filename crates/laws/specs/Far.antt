@@ -4,7 +4,8 @@
 --
 -- The one exception (`Cut`): the first was stopped by its nearer bound, with 22 (past the bound), 25 (no zero byte before it) or 34 (a
 -- total past the stream). The second, whose bound is strictly further, then lists at least the same, moved, and may go on; and where it
--- goes through, it ends behind the first one's bound. So with more bytes behind, nothing changes but an answer of these three numbers.
+-- goes through, it ends behind the first one's bound. It may be stopped with 22 too, and then at its own bound. So with more bytes behind,
+-- nothing changes but an answer of these three numbers.
 use mathlib.Core.Path.{_≡_}
 use mathlib.Core.Logic.{_⊎_}
 use Prim.Native.Nat.{ℕ, _+_, _-_, _*_, _/_, _%_, _≤_, _<_}

@@ -29,10 +29,10 @@ use Rattle.slots.specs.declared.Length.{Length}
 use Rattle.slots.specs.declared.Length.the-variants.{Of}
 use Rattle.leaf_after.specs.Seeing.{Told, Fits, seen, fixedSeen, lebSeen, plainSeen, uuidSeen, blobSeen}
 
-seen-fits : (x : Found) (m : Told) → ((p : BitPlace) (n v : ℕ) → x ≡ At p n v → Fits (m p n v)) → Fits (seen x m)
+seen-fits : (x : Found) (m : Told) → ((p : BitPlace) (n v : ℕ) → x ≡ At n p v → Fits (m p n v)) → Fits (seen x m)
 unfolding seen Fits
-seen-fits (At p n v) m h = h p n v refl
-seen-fits (Refused r) m h = tt
+seen-fits (At n p v) m h = h p n v refl
+seen-fits (Refused p r) m h = tt
 
 -- what has no role, or another than the clock's
 no-stamp : {A : Type 0} → _≡_ {A = ℕ} 0 7 → A

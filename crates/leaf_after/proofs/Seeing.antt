@@ -25,7 +25,8 @@ use Rattle.rules.specs.Faults.{roles, roleOf}
 use Rattle.rules.specs.Slots.{slotAt}
 use Rattle.rules.specs.Place.{further}
 use Rattle.rules.specs.Entry.{entry}
-use Rattle.rules.specs.Step.{State, Step, go, _⨾_, onto, after, pass, refuse, check, listed, change, withOrder, withSlots}
+use Rattle.rules.specs.Step.{State, Step, go, _⨾_, onto, after, pass, refuse, refuseAt, check, checkAt, listed, change}
+use Rattle.rules.specs.Step.{withOrder, withSlots}
 use Rattle.rules.specs.Field.{Env, aligned, fit, ahead, bytesAt, sameBytes, field, store, role, turned, fromSlot, asNumber, asLength, readFixed, readLeb, readZero, readText, blobRole, readBlob, read}
 use Rattle.facts.proofs.Steps.{onto-nil}
 use Rattle.facts.proofs.Numbers.{lt-or-ge}
@@ -37,16 +38,23 @@ use Rattle.frame.specs.Framed.{envOf, alignedAt}
 use Rattle.leaf_find_number.specs.Found.{unless, within, bytesAhead, foundBits, foundLeb, foundUnsigned, foundSigned}
 use Rattle.leaf_find_bytes.specs.Found.{foundZero, foundString, foundText, foundBlob}
 use Rattle.slots.specs.Taken.{lengthOf}
-use Rattle.listing.proofs.Checks.{check-stops, check-goes, room-first}
+use Rattle.listing.proofs.Checks.{check-stops, check-goes, checkAt-stops, checkAt-goes, room-first}
 use Rattle.leaf_after.specs.declared.Seen.{Seen}
 use Rattle.leaf_after.specs.Seeing.{Told, done, doneDue, seen, fixedSeen, lebSeen, plainSeen, uuidSeen, blobSeen, forLength}
 
 -- a test in front of what is found
 check-seen : (t : State → Bool) (r : Refusal) (m : Step) (s : State) (b : Bool) (x : Found) (f : Told) →
-    t s ≡ b → m s ≡ done (seen x f) s → (check t r ⨾ m) s ≡ done (seen (unless b r x) f) s
-unfolding _⨾_ after unless seen done refuse
+    t s ≡ b → m s ≡ done (seen x f) s → (check t r ⨾ m) s ≡ done (seen (unless b r (s .place) x) f) s
+unfolding _⨾_ after unless seen done refuse refuseAt
 check-seen t r m s true x f h e = ap (λ o. after o m) (check-stops t r s h)
 check-seen t r m s false x f h e = ap (λ o. after o m) (check-goes t r s h) ∙ onto-nil (m s) ∙ e
+
+-- one that refuses at a place of its own
+checkAt-seen : (t : State → Bool) (r : Refusal) (p : BitPlace) (m : Step) (s : State) (b : Bool) (x : Found) (f : Told) →
+    t s ≡ b → m s ≡ done (seen x f) s → (checkAt t r p ⨾ m) s ≡ done (seen (unless b r p x) f) s
+unfolding _⨾_ after unless seen done refuseAt
+checkAt-seen t r p m s true x f h e = ap (λ o. after o m) (checkAt-stops t r p s h)
+checkAt-seen t r p m s false x f h e = ap (λ o. after o m) (checkAt-goes t r p s h) ∙ onto-nil (m s) ∙ e
 
 -- the state behind an entry
 abbrev behindEntry : BitPlace → ℕ → State → State
@@ -101,11 +109,11 @@ module _ (b uuid : List ℕ) (f : Frame) (s : State) (h : 4 ≤ s .room) where
       readFixed env k n o a i (roleOf r) s ≡ done (seen (foundBits b f (s .place) (s .order) n o a) (fixedSeen k o i r)) s
   unfolding readFixed _⨾_ fit turned aligned field foundBits within alignedAt seen done doneDue fixedSeen
   fixed-read k n o a i r = room-first _ s h
-      ∙ check-seen _ _ _ s _ _ (fixedSeen k o i r) refl
-      (check-seen _ _ _ s _ _ (fixedSeen k o i r) refl (check-seen _ _ _ s _ _ (fixedSeen k o i r) refl refl))
+      ∙ checkAt-seen _ _ _ _ s _ _ (fixedSeen k o i r) refl
+      (check-seen _ _ _ s _ _ (fixedSeen k o i r) refl (checkAt-seen _ _ _ _ s _ _ (fixedSeen k o i r) refl refl))
 
   leb-read : (k i r : ℕ) (c : ℕ → Content) (x : Leb) →
-      readLeb env k c i (roleOf r) x s ≡ done (seen (foundLeb (alignedAt f 8 (s .place)) x) (lebSeen k c (s .order) i r)) s
+      readLeb env k c i (roleOf r) x s ≡ done (seen (foundLeb f (alignedAt f 8 (s .place)) x) (lebSeen k c (s .order) i r)) s
   unfolding readLeb _⨾_ after listed change withOrder field aligned foundLeb alignedAt seen done doneDue lebSeen
   leb-read k i r c (Value v n) =
       let bytes : 8 * n .0 / 8 ≡ n .0 = omega arith in
@@ -115,11 +123,11 @@ module _ (b uuid : List ℕ) (f : Frame) (s : State) (h : 4 ≤ s .room) where
 
   pub unsigned-read : (i r : ℕ) → read env (leb128 i (roleOf r)) s ≡ done (seen (foundUnsigned b f (s .place)) (lebSeen 21 Unsigned (s .order) i r)) s
   unfolding read fit aligned ahead foundUnsigned bytesAhead within alignedAt
-  unsigned-read i r = room-first _ s h ∙ check-seen _ _ _ s _ _ (lebSeen 21 Unsigned (s .order) i r) refl (leb-read 21 i r Unsigned _)
+  unsigned-read i r = room-first _ s h ∙ checkAt-seen _ _ _ _ s _ _ (lebSeen 21 Unsigned (s .order) i r) refl (leb-read 21 i r Unsigned _)
 
   pub signed-read : (i : ℕ) → read env (signedLeb128 i) s ≡ done (seen (foundSigned b f (s .place)) (lebSeen 22 Signed (s .order) i 0)) s
   unfolding read fit aligned ahead foundSigned bytesAhead within alignedAt roleOf roles
-  signed-read i = room-first _ s h ∙ check-seen _ _ _ s _ _ (lebSeen 22 Signed (s .order) i 0) refl (leb-read 22 i 0 Signed _)
+  signed-read i = room-first _ s h ∙ checkAt-seen _ _ _ _ s _ _ (lebSeen 22 Signed (s .order) i 0) refl (leb-read 22 i 0 Signed _)
 
   module _ (long : length (s .slots) ≡ slotCount) where
     -- What has neither slot nor role
@@ -128,20 +136,20 @@ module _ (b uuid : List ℕ) (f : Frame) (s : State) (h : 4 ≤ s .room) where
     unfolding done doneDue plainSeen _⨾_ after onto listed change withOrder store withSlots role roleOf roles pass
     plain-listed k p n v = rw (no-slot (s .slots) noSlot Unset long (omega arith)) refl
 
-    zero-read : (x : Ended) → readZero env x s ≡ done (seen (foundZero (alignedAt f 8 (s .place)) x) (plainSeen 23 (s .order))) s
-    unfolding readZero field aligned foundZero alignedAt seen done
+    zero-read : (x : Ended) → readZero env x s ≡ done (seen (foundZero (s .place) (alignedAt f 8 (s .place)) x) (plainSeen 23 (s .order))) s
+    unfolding readZero refuse refuseAt field aligned foundZero alignedAt seen done
     zero-read (After n) = plain-listed 23 _ _ _
     zero-read Never = refl
 
     pub string-read : read env string s ≡ done (seen (foundString b f (s .place)) (plainSeen 23 (s .order))) s
     unfolding read fit aligned ahead foundString bytesAhead within alignedAt
-    string-read = room-first _ s h ∙ check-seen _ _ _ s _ _ (plainSeen 23 (s .order)) refl (zero-read _)
+    string-read = room-first _ s h ∙ checkAt-seen _ _ _ _ s _ _ (plainSeen 23 (s .order)) refl (zero-read _)
 
     text-read : (k n : ℕ) → readText env k n s ≡ done (seen (foundText b f (s .place) n) (plainSeen k (s .order))) s
     unfolding readText fit aligned bytesAt field foundText within alignedAt seen
     text-read k n =
         let plain = plainSeen k (s .order) in
-        check-seen _ _ _ s _ _ plain refl (check-seen _ _ _ s _ _ plain refl (plain-listed k _ _ _))
+        checkAt-seen _ _ _ _ s _ _ plain refl (checkAt-seen _ _ _ _ s _ _ plain refl (plain-listed k _ _ _))
 
     pub static-string-read : (n : ℕ) → read env (staticString n) s ≡ done (seen (foundText b f (s .place) n) (plainSeen 24 (s .order))) s
     unfolding read
@@ -157,7 +165,7 @@ module _ (b uuid : List ℕ) (f : Frame) (s : State) (h : 4 ≤ s .room) where
     unfolding readBlob _⨾_ fit aligned bytesAt field foundBlob within alignedAt seen blobRole pass
     blob-read k n =
         let plain = plainSeen k (s .order) in
-        check-seen _ _ _ s _ _ plain refl (check-seen _ _ _ s _ _ plain refl (listing-goes k _ _ _ pass refl))
+        checkAt-seen _ _ _ _ s _ _ plain refl (checkAt-seen _ _ _ _ s _ _ plain refl (listing-goes k _ _ _ pass refl))
 
     -- Static BLOBs
 
@@ -186,28 +194,28 @@ module _ (b uuid : List ℕ) (f : Frame) (s : State) (h : 4 ≤ s .room) where
     unfolding read readBlob _⨾_ fit aligned field foundBlob within alignedAt seen
     static-blob-read n r =
         let blob = blobSeen b uuid r (s .order) in
-        room-first _ s h ∙ check-seen _ _ _ s _ _ blob refl (check-seen _ _ _ s _ _ blob refl (blob-listed _ _ _ r))
+        room-first _ s h ∙ checkAt-seen _ _ _ _ s _ _ blob refl (checkAt-seen _ _ _ _ s _ _ blob refl (blob-listed _ _ _ r))
 
     -- Lengths that a slot gives
 
     length-read : (x : Content) (m : ℕ → Step) (g : ℕ → Seen) → ((n : ℕ) → m n s ≡ done (g n) s)
-        → asLength x m s ≡ done (forLength (lengthOf x) g) s
-    unfolding asLength asNumber lengthOf forLength done _⨾_ after refuse
+        → asLength x m s ≡ done (forLength (s .place) (lengthOf x) g) s
+    unfolding asLength asNumber lengthOf forLength done _⨾_ after refuse refuseAt
     length-read Unset m g e = refl
     length-read (Flag t) m g e = refl
     length-read (Unsigned n) m g e = by (ltb lengthLimit n) refl
       where
-        by : (t : Bool) → ltb lengthLimit n ≡ t → asLength (Unsigned n) m s ≡ done (forLength (lengthOf (Unsigned n)) g) s
+        by : (t : Bool) → ltb lengthLimit n ≡ t → asLength (Unsigned n) m s ≡ done (forLength (s .place) (lengthOf (Unsigned n)) g) s
         by true i = ap (λ o. after o (m n)) (check-stops _ LengthTooLarge s i) ∙ rw (i, lengthOf) refl
         by false i = ap (λ o. after o (m n)) (check-goes _ LengthTooLarge s i) ∙ onto-nil (m n s) ∙ rw (i, lengthOf) (e n)
     length-read (Signed n) m g e = refl
 
     pub dynamic-string-read : (i : ℕ) → read env (dynamicString i) s
-        ≡ done (forLength (lengthOf (slotAt (s .slots) i)) (λ n. seen (foundText b f (s .place) n) (plainSeen 26 (s .order)))) s
+        ≡ done (forLength (s .place) (lengthOf (slotAt (s .slots) i)) (λ n. seen (foundText b f (s .place) n) (plainSeen 26 (s .order)))) s
     unfolding read fromSlot
     dynamic-string-read i = room-first _ s h ∙ length-read _ _ _ (text-read 26)
 
     pub dynamic-blob-read : (i : ℕ) → read env (dynamicBlob i) s
-        ≡ done (forLength (lengthOf (slotAt (s .slots) i)) (λ n. seen (foundBlob f (s .place) n) (plainSeen 27 (s .order)))) s
+        ≡ done (forLength (s .place) (lengthOf (slotAt (s .slots) i)) (λ n. seen (foundBlob f (s .place) n) (plainSeen 27 (s .order)))) s
     unfolding read fromSlot
     dynamic-blob-read i = room-first _ s h ∙ length-read _ _ _ (blob-read 27)

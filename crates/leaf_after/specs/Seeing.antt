@@ -17,7 +17,8 @@ use Rattle.rules.specs.Place.{further}
 use Rattle.rules.specs.Class.{Sort, kindOf}
 use Rattle.rules.specs.Faults.{roleOf}
 use Rattle.rules.specs.Entry.{entry}
-use Rattle.rules.specs.Step.{Step, _⨾_, refuse, listed, change, withOrder}
+use Rattle.rules.specs.Verdict.{stopAt}
+use Rattle.rules.specs.Step.{Step, _⨾_, refuse, refuseAt, listed, change, withOrder}
 use Rattle.rules.specs.Field.{sameBytes, store, role, valueOf, slotOf}
 use Rattle.slots.specs.declared.Length.{Length}
 use Rattle.slots.specs.declared.Length.the-variants.{Of, NotOf}
@@ -45,7 +46,7 @@ doneDue d =
 unfoldable pub done : Seen → Step
 done (Field d) = doneDue d
 done (OtherUuid x) = listing x ⨾ refuse WrongUuid
-done (Stops r) = refuse r
+done (Stops v) = refuseAt (v .why) (v .place)
 
 -- what is due ends below what a place can be, and a number with the clock's role has no more bits than its field
 abbrev pub DueFits : Due → Type 0
@@ -54,7 +55,7 @@ DueFits d = (d .entry .place .0 + d .entry .bits < 2 ^ 64) × Stamp (d .role) (d
 unfoldable pub Fits : Seen → Type 0
 Fits (Field d) = DueFits d
 Fits (OtherUuid x) = x .place .0 + x .bits < 2 ^ 64
-Fits (Stops r) = Unit {0}
+Fits (Stops v) = Unit {0}
 
 -- What is seen
 
@@ -63,8 +64,8 @@ abbrev pub Told : Type 0
 Told = BitPlace → ℕ → ℕ → Seen
 
 unfoldable pub seen : Found → Told → Seen
-seen (At p n v) m = m p n v
-seen (Refused r) m = Stops r
+seen (At n p v) m = m p n v
+seen (Refused p r) m = Stops (stopAt r p)
 
 abbrev fieldSeen : Entry → LastOrder → ℕ → Content → ℕ → ℕ → Seen
 fieldSeen x o i c r w = Field (record { entry = x; order = o; slot = i; content = c; role = r; width = w })
@@ -94,7 +95,7 @@ uuidSeen b u o p n v =
 unfoldable pub blobSeen : List ℕ → List ℕ → ℕ → LastOrder → Told
 blobSeen b u r o p n v = elim (eqb r 4) [ true ↦ uuidSeen b u o p n v | false ↦ plainSeen 25 o p n v ]
 
--- a length that a slot gives, or none
-unfoldable pub forLength : Length → (ℕ → Seen) → Seen
-forLength (Of n) m = m n
-forLength (NotOf r) m = Stops r
+-- a length that a slot gives; or none, for a leaf from a place on
+unfoldable pub forLength : BitPlace → Length → (ℕ → Seen) → Seen
+forLength p (Of n) m = m n
+forLength p (NotOf r) m = Stops (stopAt r p)

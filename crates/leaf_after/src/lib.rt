@@ -6,6 +6,7 @@ use rules::Content;
 use rules::Entry;
 use rules::LastOrder;
 use rules::Refusal;
+use rules::Stop;
 
 // What is due of a leaf: its entry; the order that is the packet's last behind it; which slot becomes what, 255 is none; and the role of
 // its value, which has `width` bits as a timestamp.
@@ -19,16 +20,17 @@ pub struct Due {
 }
 
 // What is seen of a leaf before anything of it is listed: what is due; a BLOB with other bytes than the UUID that it must be; or why it is
-// refused.
+// refused, and at which place.
 pub enum Seen {
     Field(Due),
     OtherUuid(Entry),
-    Stops(Refusal),
+    Stops(Stop),
 }
 
 // What some leaves did: whether it went on, or why not; the class of the last one that was begun, and how many are left behind it, or with
-// it where it stopped; the place and the order behind the last one, or where it stopped; the words that they listed; and what is still due
-// of the last one, its slot and its role. No enum is joined here that holds a stop: numbers alone are cheap to hand back.
+// it where it stopped; the place and the order behind the last one, or the place at which it is refused and the order before it; the words
+// that they listed; and what is still due of the last one, its slot and its role. No enum is joined here that holds a stop: numbers alone
+// are cheap to hand back.
 pub struct Leaves {
     pub on: bool,
     pub why: Refusal,

@@ -18,17 +18,17 @@ use Rattle.leaf_find_number.proofs.Lies.{within-found, ahead-length, below-boun
 use Rattle.leaf_find_bytes.specs.Found.{Ends, foundZero, foundString, foundBlob, foundText}
 
 module _ (f : Frame) (p : BitPlace) (m v : ℕ) where
-  zero-lies : (bs : List ℕ) (q : BitPlace) (x : Ended) → x ≡ zeroAt bs → length bs ≤ (f .bound .0 - q .0) / 8 → q .0 ≤ f .bound .0
-      → foundZero q x ≡ At p m v → p .0 + m ≤ f .bound .0
+  zero-lies : (bs : List ℕ) (from q : BitPlace) (x : Ended) → x ≡ zeroAt bs → length bs ≤ (f .bound .0 - q .0) / 8 → q .0 ≤ f .bound .0
+      → foundZero from q x ≡ At m p v → p .0 + m ≤ f .bound .0
   unfolding foundZero
-  zero-lies bs q (After n) is h l e =
+  zero-lies bs from q (After n) is h l e =
       let place : q ≡ p = cc in
       let width : 8 * (n .0 + 1) ≡ m = cc in
       rw (← place, ← width) (omega (arith, zero-found bs n (sym is) .0))
-  zero-lies bs q Never is h l e = let z : _≡_ {A = ℕ} 0 1 = cc in absurd (omega arith)
+  zero-lies bs from q Never is h l e = let z : _≡_ {A = ℕ} 0 1 = cc in absurd (omega arith)
 
   -- so many bytes from a place on, whatever they say
-  bytes-found : (q : BitPlace) (n w : ℕ) → within f q 0 (within f q (8 * n) (At q (8 * n) w)) ≡ At p m v
+  bytes-found : (q : BitPlace) (n w : ℕ) → within f q 0 (within f q (8 * n) (At (8 * n) q w)) ≡ At m p v
       → (p .0 + m ≤ f .bound .0) × (m ≡ 8 * n) × (v ≡ w)
   bytes-found q n w e =
       let inside = within-found f p m v q (8 * n) _ (within-found f p m v q 0 _ e .1) in
@@ -38,34 +38,34 @@ module _ (f : Frame) (p : BitPlace) (m v : ℕ) where
       let value : w ≡ v = cc in
       rw (← place, ← width, ← value) (inside .0, refl, refl)
 
-  string-found : (b : List ℕ) (from : BitPlace) → foundString b f from ≡ At p m v → p .0 + m ≤ f .bound .0
+  string-found : (b : List ℕ) (from : BitPlace) → foundString b f from ≡ At m p v → p .0 + m ≤ f .bound .0
   unfolding foundString
   string-found b from e =
       let q = alignedAt f 8 from in
       let inside = within-found f p m v q 0 _ e in
-      zero-lies (bytesAhead b f q) q _ refl (ahead-length b f q) (omega (arith, inside .0)) (inside .1)
+      zero-lies (bytesAhead b f q) from q _ refl (ahead-length b f q) (omega (arith, inside .0)) (inside .1)
 
-  blob-found : (from : BitPlace) (n : ℕ) → foundBlob f from n ≡ At p m v → (p .0 + m ≤ f .bound .0) × (m ≡ 8 * n) × (v ≡ n)
+  blob-found : (from : BitPlace) (n : ℕ) → foundBlob f from n ≡ At m p v → (p .0 + m ≤ f .bound .0) × (m ≡ 8 * n) × (v ≡ n)
   unfolding foundBlob
   blob-found from n e = bytes-found (alignedAt f 8 from) n n e
 
-  text-found : (b : List ℕ) (from : BitPlace) (n : ℕ) → foundText b f from n ≡ At p m v → p .0 + m ≤ f .bound .0
+  text-found : (b : List ℕ) (from : BitPlace) (n : ℕ) → foundText b f from n ≡ At m p v → p .0 + m ≤ f .bound .0
   unfolding foundText
   text-found b from n e = bytes-found (alignedAt f 8 from) n _ e .0
 
 -- What the code rests on: x is what was found in a frame
 
 module _ {b : List ℕ} {f : Frame} {from : BitPlace} (framed : Framed b f from) where
-  module _ {x : Found} {p : BitPlace} {m v : ℕ} (at : x ≡ At p m v) where
+  module _ {x : Found} {p : BitPlace} {m v : ℕ} (at : x ≡ At m p v) where
     pub blob-lies : (n : ℕ) → x ≡ foundBlob f from n → (p .0 + m < 2 ^ 64) × (p .0 / 8 + n ≤ length b) × (v ≡ n)
     blob-lies n is =
         let found = blob-found f p m v from n (sym is ∙ at) in
         (below-bound framed _ (found .0), omega (arith, found .0, found .1, framed .ends), found .2)
 
-  ends-of : (x : Found) → ((p : BitPlace) (m v : ℕ) → x ≡ At p m v → p .0 + m ≤ f .bound .0) → Ends x
+  ends-of : (x : Found) → ((p : BitPlace) (m v : ℕ) → x ≡ At m p v → p .0 + m ≤ f .bound .0) → Ends x
   unfolding Ends
-  ends-of (At p m v) h = below-bound framed _ (h p m v refl)
-  ends-of (Refused r) h = tt
+  ends-of (At m p v) h = below-bound framed _ (h p m v refl)
+  ends-of (Refused p r) h = tt
 
   pub string-ends : {x : Found} → x ≡ foundString b f from → Ends x
   string-ends {x} e = ends-of x (λ p m v is. string-found f p m v b from (sym e ∙ is))
@@ -76,6 +76,6 @@ module _ {b : List ℕ} {f : Frame} {from : BitPlace} (framed : Framed b f from)
   pub text-ends : (n : ℕ) {x : Found} → x ≡ foundText b f from n → Ends x
   text-ends n {x} e = ends-of x (λ p m v is. text-found f p m v b from n (sym e ∙ is))
 
-pub ends-at : {x : Found} {p : BitPlace} {m v : ℕ} → x ≡ At p m v → Ends x → p .0 + m < 2 ^ 64
+pub ends-at : {x : Found} {p : BitPlace} {m v : ℕ} → x ≡ At m p v → Ends x → p .0 + m < 2 ^ 64
 unfolding Ends
 ends-at e h = rw (e) at h

@@ -15,23 +15,23 @@ use Rattle.leaf_find_number.specs.Found.{within, bytesAhead}
 
 -- a leaf that ends below what a place can be
 unfoldable pub Ends : Found → Type 0
-Ends (At p n v) = p .0 + n < 2 ^ 64
-Ends (Refused r) = Unit {0}
+Ends (At n p v) = p .0 + n < 2 ^ 64
+Ends (Refused p r) = Unit {0}
 
--- "string 23 counts without its zero (bits include it)"
-unfoldable pub foundZero : BitPlace → Ended → Found
-foundZero p (After n) = At p (8 * (n .0 + 1)) (n .0)
-foundZero p Never = Refused NoZeroByte
+-- from a place on, at the aligned one: "string 23 counts without its zero (bits include it)"
+unfoldable pub foundZero : BitPlace → BitPlace → Ended → Found
+foundZero from p (After n) = At (8 * (n .0 + 1)) p (n .0)
+foundZero from p Never = Refused from NoZeroByte
 
 unfoldable pub foundString : List ℕ → Frame → BitPlace → Found
-foundString b f from = let p = alignedAt f 8 from in within f p 0 (foundZero p (zeroAt (bytesAhead b f p)))
+foundString b f from = let p = alignedAt f 8 from in within f p 0 (foundZero from p (zeroAt (bytesAhead b f p)))
 
 -- "BLOBs their byte count"
 unfoldable pub foundBlob : Frame → BitPlace → ℕ → Found
-foundBlob f from n = let p = alignedAt f 8 from in within f p 0 (within f p (8 * n) (At p (8 * n) n))
+foundBlob f from n = let p = alignedAt f 8 from in within f p 0 (within f p (8 * n) (At (8 * n) p n))
 
 -- "Strings 24 and 26 have bits for all their bytes"
 unfoldable pub foundText : List ℕ → Frame → BitPlace → ℕ → Found
 foundText b f from n =
     let p = alignedAt f 8 from in
-    within f p 0 (within f p (8 * n) (At p (8 * n) (textLength (take n (drop (p .0 / 8) b)))))
+    within f p 0 (within f p (8 * n) (At (8 * n) p (textLength (take n (drop (p .0 / 8) b)))))

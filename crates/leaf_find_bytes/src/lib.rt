@@ -17,19 +17,26 @@ pub fn find_string(stream: &[u8], frame: Frame, from: BitPlace) -> Found
     requires { ⌜ Framed (now stream) frame from ⌝ }
     ensures { λ r. ⌜ r ≡ foundString (now (stream .entry)) frame from ⌝ }
 {
+    let bound = frame.bound;
     let place = places::align(from, frame.start, BYTE);
     if frame.bound.0 < place.0 {
-        return Found::Refused(Refusal::PastBound);
+        return Found::Refused {
+            place: bound,
+            why: Refusal::PastBound,
+        };
     }
     let at = places::bytes_before(place);
     let end = places::bytes_before(frame.bound);
     match text::find_zero(stream, at, end) {
         Ended::After(n) => Found::At {
-            place,
             bits: places::bits_in(ByteLength(n.0 + 1)),
+            place,
             value: n.0 as u64,
         },
-        Ended::Never => Found::Refused(Refusal::NoZeroByte),
+        Ended::Never => Found::Refused {
+            place: from,
+            why: Refusal::NoZeroByte,
+        },
     }
 }
 
@@ -39,17 +46,24 @@ pub fn find_blob(stream: &[u8], frame: Frame, from: BitPlace, bytes: ByteLength)
     requires { ⌜ bytes .0 ≤ 65535 ⌝ }
     ensures { λ r. ⌜ r ≡ foundBlob frame from (bytes .0) ⌝ }
 {
+    let bound = frame.bound;
     let place = places::align(from, frame.start, BYTE);
     if frame.bound.0 < place.0 {
-        return Found::Refused(Refusal::PastBound);
+        return Found::Refused {
+            place: bound,
+            why: Refusal::PastBound,
+        };
     }
     let bits = places::bits_in(bytes);
     if frame.bound.0 < place.0 + bits {
-        return Found::Refused(Refusal::PastBound);
+        return Found::Refused {
+            place: bound,
+            why: Refusal::PastBound,
+        };
     }
     Found::At {
-        place,
         bits,
+        place,
         value: bytes.0 as u64,
     }
 }
@@ -61,12 +75,12 @@ pub fn find_text(stream: &[u8], frame: Frame, from: BitPlace, bytes: ByteLength)
     ensures { λ r. ⌜ r ≡ foundText (now (stream .entry)) frame from (bytes .0) ⌝ }
 {
     match find_blob(stream, frame, from, bytes) {
-        Found::Refused(why) => Found::Refused(why),
+        Found::Refused { place, why } => Found::Refused { place, why },
         Found::At { place, bits, value } => {
             let count = text::count(stream, places::bytes_before(place), bytes);
             Found::At {
-                place,
                 bits,
+                place,
                 value: count.0 as u64,
             }
         }

@@ -13,7 +13,7 @@ use Rattle.rules.specs.declared.Leb.{Leb}
 use Rattle.rules.specs.declared.Leb.the-variants.{Value, Past, Large}
 use Rattle.rules.specs.declared.Order.{Order}
 use Rattle.rules.specs.declared.LastOrder.{LastOrder}
-use Rattle.rules.specs.declared.Refusal.the-variants.{PastBound, OrderChanged}
+use Rattle.rules.specs.declared.Refusal.the-variants.{OrderChanged}
 use Rattle.rules.specs.Place.{bitPlace, alignFrom}
 use Rattle.rules.specs.Bits.{bits}
 use Rattle.rules.specs.Field.{otherOrder}
@@ -24,10 +24,10 @@ use Rattle.frame.specs.declared.Frame.{Frame}
 use Rattle.leaf_find_number.specs.declared.Found.{Found}
 use Rattle.leaf_find_number.specs.declared.Found.the-variants.{At, Refused}
 use Rattle.frame.specs.Framed.{alignedAt}
-use Rattle.leaf_find_number.specs.Found.{unless, within, bytesAhead, foundBits, foundUnsigned, foundSigned, foundLeb}
+use Rattle.leaf_find_number.specs.Found.{unless, within, pastBoundOf, bytesAhead, foundBits, foundUnsigned, foundSigned, foundLeb}
 use Rattle.leaf_find_number.specs.Found.{Short}
 
-pub within-past : (f : Frame) (p : BitPlace) (n : ℕ) (x : Found) → f .bound .0 < p .0 + n → within f p n x ≡ Refused PastBound
+pub within-past : (f : Frame) (p : BitPlace) (n : ℕ) (x : Found) → f .bound .0 < p .0 + n → within f p n x ≡ pastBoundOf f
 unfolding within unless
 within-past f p n x past = rw (lt-ltb _ _ past) refl
 
@@ -35,13 +35,13 @@ pub within-fits : (f : Frame) (p : BitPlace) (n : ℕ) (x : Found) → p .0 + n 
 unfolding within unless
 within-fits f p n x fits = rw (le-ltb _ _ fits) refl
 
-unless-holds : (t : Bool) (x : Found) → t ≡ true → unless t OrderChanged x ≡ Refused OrderChanged
+unless-holds : (t : Bool) (p : BitPlace) (x : Found) → t ≡ true → unless t OrderChanged p x ≡ Refused p OrderChanged
 unfolding unless
-unless-holds t x h = rw (h) refl
+unless-holds t p x h = rw (h) refl
 
-unless-not : (t : Bool) (x : Found) → t ≡ false → unless t OrderChanged x ≡ x
+unless-not : (t : Bool) (p : BitPlace) (x : Found) → t ≡ false → unless t OrderChanged p x ≡ x
 unfolding unless
-unless-not t x h = rw (h) refl
+unless-not t p x h = rw (h) refl
 
 -- no field goes before its packet
 pub aligned-from : (start a place : ℕ) (p : BitPlace) → p ≡ bitPlace (alignFrom start a place) → start ≤ p .0
@@ -57,27 +57,27 @@ module _ (f : Frame) (from p : BitPlace) (e : p ≡ alignedAt f 8 from) where
 -- a field that stands at p once it is aligned
 module _ (b : List ℕ) (f : Frame) (from p : BitPlace) where
   module _ (last : LastOrder) (n : ℕ) (o : Order) (a : ℕ) (e : p ≡ alignedAt f a from) where
-    pub bits-past : f .bound .0 < p .0 → Refused PastBound ≡ foundBits b f from last n o a
+    pub bits-past : f .bound .0 < p .0 → pastBoundOf f ≡ foundBits b f from last n o a
     unfolding foundBits
     bits-past past = rw (← e) (sym (within-past f p 0 _ (omega arith)))
 
     pub bits-turned : p .0 ≤ f .bound .0 → (t : Bool) → t ≡ (not (eqb ((p .0 - f .start .0) % 8) 0) && otherOrder o last) → t ≡ true →
-        Refused OrderChanged ≡ foundBits b f from last n o a
+        Refused from OrderChanged ≡ foundBits b f from last n o a
     unfolding foundBits
     bits-turned in-it t is h =
-        rw (← e) (sym (within-fits f p 0 _ (omega arith) ∙ unless-holds _ _ (sym is ∙ h)))
+        rw (← e) (sym (within-fits f p 0 _ (omega arith) ∙ unless-holds _ _ _ (sym is ∙ h)))
 
     pub bits-short : p .0 ≤ f .bound .0 → (t : Bool) → t ≡ (not (eqb ((p .0 - f .start .0) % 8) 0) && otherOrder o last) → t ≡ false →
-        f .bound .0 < p .0 + n → Refused PastBound ≡ foundBits b f from last n o a
+        f .bound .0 < p .0 + n → pastBoundOf f ≡ foundBits b f from last n o a
     unfolding foundBits
     bits-short in-it t is h past =
-        rw (← e) (sym (within-fits f p 0 _ (omega arith) ∙ unless-not _ _ (sym is ∙ h) ∙ within-past f p n _ past))
+        rw (← e) (sym (within-fits f p 0 _ (omega arith) ∙ unless-not _ _ _ (sym is ∙ h) ∙ within-past f p n _ past))
 
     pub bits-at : (t : Bool) → t ≡ (not (eqb ((p .0 - f .start .0) % 8) 0) && otherOrder o last) → t ≡ false →
-        p .0 + n ≤ f .bound .0 → At p n (bits o b (p .0) n) ≡ foundBits b f from last n o a
+        p .0 + n ≤ f .bound .0 → At n p (bits o b (p .0) n) ≡ foundBits b f from last n o a
     unfolding foundBits
     bits-at t is h fits =
-        rw (← e) (sym (within-fits f p 0 _ (omega arith) ∙ unless-not _ _ (sym is ∙ h) ∙ within-fits f p n _ fits))
+        rw (← e) (sym (within-fits f p 0 _ (omega arith) ∙ unless-not _ _ _ (sym is ∙ h) ∙ within-fits f p n _ fits))
 
   module _ (e : p ≡ alignedAt f 8 from) where
     -- the bytes that the leaves are handed, up to the whole bytes before the bound
@@ -91,19 +91,19 @@ module _ (b : List ℕ) (f : Frame) (from p : BitPlace) where
         let same : f .bound .0 / 8 - p .0 / 8 ≡ (f .bound .0 - p .0) / 8 = omega arith in
         rw (same) refl
 
-    pub unsigned-past : f .bound .0 < p .0 → Refused PastBound ≡ foundUnsigned b f from
+    pub unsigned-past : f .bound .0 < p .0 → pastBoundOf f ≡ foundUnsigned b f from
     unfolding foundUnsigned
     unsigned-past past = rw (← e) (sym (within-past f p 0 _ (omega arith)))
 
-    pub unsigned-at : f .start .0 % 8 ≡ 0 → p .0 ≤ f .bound .0 → foundLeb p (lebUnsigned read) ≡ foundUnsigned b f from
+    pub unsigned-at : f .start .0 % 8 ≡ 0 → p .0 ≤ f .bound .0 → foundLeb f p (lebUnsigned read) ≡ foundUnsigned b f from
     unfolding foundUnsigned
     unsigned-at whole l = rw (bytes-ahead whole l, ← e) (sym (within-fits f p 0 _ (omega arith)))
 
-    pub signed-past : f .bound .0 < p .0 → Refused PastBound ≡ foundSigned b f from
+    pub signed-past : f .bound .0 < p .0 → pastBoundOf f ≡ foundSigned b f from
     unfolding foundSigned
     signed-past past = rw (← e) (sym (within-past f p 0 _ (omega arith)))
 
-    pub signed-at : f .start .0 % 8 ≡ 0 → p .0 ≤ f .bound .0 → foundLeb p (lebSigned read) ≡ foundSigned b f from
+    pub signed-at : f .start .0 % 8 ≡ 0 → p .0 ≤ f .bound .0 → foundLeb f p (lebSigned read) ≡ foundSigned b f from
     unfolding foundSigned
     signed-at whole l = rw (bytes-ahead whole l, ← e) (sym (within-fits f p 0 _ (omega arith)))
 

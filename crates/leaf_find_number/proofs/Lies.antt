@@ -29,12 +29,12 @@ use Rattle.leaf_find_number.proofs.Finds.{within-past, within-fits}
 -- A leaf that was found passed each test
 
 module _ (f : Frame) (p : BitPlace) (m v : ℕ) where
-  unless-found : (t : Bool) (r : Refusal) (x : Found) → unless t r x ≡ At p m v → x ≡ At p m v
+  unless-found : (t : Bool) (r : Refusal) (q : BitPlace) (x : Found) → unless t r q x ≡ At m p v → x ≡ At m p v
   unfolding unless
-  unless-found true r x e = let z : _≡_ {A = ℕ} 0 1 = cc in absurd (omega arith)
-  unless-found false r x e = e
+  unless-found true r q x e = let z : _≡_ {A = ℕ} 0 1 = cc in absurd (omega arith)
+  unless-found false r q x e = e
 
-  pub within-found : (q : BitPlace) (n : ℕ) (x : Found) → within f q n x ≡ At p m v → (q .0 + n ≤ f .bound .0) × (x ≡ At p m v)
+  pub within-found : (q : BitPlace) (n : ℕ) (x : Found) → within f q n x ≡ At m p v → (q .0 + n ≤ f .bound .0) × (x ≡ At m p v)
   within-found q n x e = ⊎-elim
       (λ (past : f .bound .0 < q .0 + n). let z : _≡_ {A = ℕ} 0 1 = cc (within-past f q n x past) in absurd (omega arith))
       (λ (fits : q .0 + n ≤ f .bound .0). (fits, sym (within-fits f q n x fits) ∙ e))
@@ -42,7 +42,7 @@ module _ (f : Frame) (p : BitPlace) (m v : ℕ) where
 
   -- kinds 16 to 20
   module _ (b : List ℕ) (from : BitPlace) (last : LastOrder) (n : ℕ) (o : Order) (a : ℕ) where
-    lies-at : (q : BitPlace) → q .0 + n ≤ f .bound .0 → At q n (bits o b (q .0) n) ≡ At p m v
+    lies-at : (q : BitPlace) → q .0 + n ≤ f .bound .0 → At n q (bits o b (q .0) n) ≡ At m p v
         → (m ≡ n) × (p .0 + m ≤ f .bound .0) × (v < 2 ^ m)
     lies-at q fits e =
         let place : q ≡ p = cc in
@@ -50,17 +50,17 @@ module _ (f : Frame) (p : BitPlace) (m v : ℕ) where
         let value : bits o b (q .0) n ≡ v = cc in
         rw (← place, ← width, ← value) (refl, fits, bits-below o b (q .0) n)
 
-    bits-found : foundBits b f from last n o a ≡ At p m v → (m ≡ n) × (p .0 + m ≤ f .bound .0) × (v < 2 ^ m)
+    bits-found : foundBits b f from last n o a ≡ At m p v → (m ≡ n) × (p .0 + m ≤ f .bound .0) × (v < 2 ^ m)
     unfolding foundBits
     bits-found e =
         let q = alignedAt f a from in
-        let inside = within-found q n _ (unless-found _ _ _ (within-found q 0 _ e .1)) in
+        let inside = within-found q n _ (unless-found _ _ _ _ (within-found q 0 _ e .1)) in
         lies-at q (inside .0) (inside .1)
 
   -- LEB128: what is known of every answer is known of the one that was found
   leb-found : (Says : ℕ → ℕ → Type 0) (q : BitPlace) (x : Leb)
       → ((w : ℕ) (k : ByteLength) → x ≡ Value w k → (q .0 + 8 * k .0 ≤ f .bound .0) × Says w (k .0))
-      → foundLeb q x ≡ At p m v → (p .0 + m ≤ f .bound .0) × Says v (m / 8)
+      → foundLeb f q x ≡ At m p v → (p .0 + m ≤ f .bound .0) × Says v (m / 8)
   unfolding foundLeb
   leb-found Says q (Value w k) says e =
       let place : q ≡ p = cc in
@@ -81,7 +81,7 @@ unfolding bytesAhead
 ahead-bytes b f q h = bytes-take ((f .bound .0 - q .0) / 8) (drop (q .0 / 8) b) (bytes-drop (q .0 / 8) b h)
 
 module _ (b : List ℕ) (f : Frame) (from p : BitPlace) (m v : ℕ) where
-  unsigned-found : Bytes b → foundUnsigned b f from ≡ At p m v → (p .0 + m ≤ f .bound .0) × (v < 2 ^ (7 * (m / 8)))
+  unsigned-found : Bytes b → foundUnsigned b f from ≡ At m p v → (p .0 + m ≤ f .bound .0) × (v < 2 ^ (7 * (m / 8)))
   unfolding foundUnsigned
   unsigned-found h e =
       let q = alignedAt f 8 from in
@@ -91,7 +91,7 @@ module _ (b : List ℕ) (f : Frame) (from p : BitPlace) (m v : ℕ) where
       (omega (arith, inside .0, unsigned-value _ w k is .inside, ahead-length b f q), unsigned-small _ (ahead-bytes b f q h) w k is))
       (inside .1)
 
-  signed-found : foundSigned b f from ≡ At p m v → p .0 + m ≤ f .bound .0
+  signed-found : foundSigned b f from ≡ At m p v → p .0 + m ≤ f .bound .0
   unfolding foundSigned
   signed-found e =
       let q = alignedAt f 8 from in
@@ -107,7 +107,7 @@ module _ {b : List ℕ} {f : Frame} {from : BitPlace} (framed : Framed b f from)
   pub below-bound : (e : ℕ) → e ≤ f .bound .0 → e < 2 ^ 64
   below-bound e h = omega (arith, framed .ends, framed .small)
 
-  module _ {x : Found} {p : BitPlace} {m v : ℕ} (at : x ≡ At p m v) where
+  module _ {x : Found} {p : BitPlace} {m v : ℕ} (at : x ≡ At m p v) where
     pub bits-lie : (last : LastOrder) (n : ℕ) (o : Order) (a : ℕ) → x ≡ foundBits b f from last n o a
         → (p .0 + m < 2 ^ 64) × (v < 2 ^ m) × (m ≡ n)
     bits-lie last n o a is =

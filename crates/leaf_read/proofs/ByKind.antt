@@ -17,6 +17,7 @@ use Rattle.rules.specs.declared.Order.the-variants.{Big}
 use Rattle.rules.specs.declared.Content.{Content}
 use Rattle.rules.specs.declared.Content.the-variants.{Unsigned, Signed}
 use Rattle.rules.specs.Limits.{noSlot, slotCount}
+use Rattle.rules.specs.Verdict.{stopAt}
 use Rattle.rules.specs.Class.{Sort, bitArray, boolean, unsignedInt, signedInt, float, Class}
 use Rattle.rules.specs.Record.{bitField, u8, u16}
 use Rattle.rules.specs.Parse.{orderOf}
@@ -148,11 +149,11 @@ module _ (t : List ℕ) (at : ℕ) where
 -- what names no slot sets none
 pub plain-apart : (k : ℕ) (o : LastOrder) (x : Found) (d : Due) → seen x (plainSeen k o) ≡ Field d → slotCount ≤ d .slot
 unfolding seen plainSeen
-plain-apart k o (At p n v) d e = let same : noSlot ≡ d .slot = cc in omega (arith, same)
-plain-apart k o (Refused r) d e = let z : _≡_ {A = ℕ} 0 1 = cc in absurd (omega arith)
+plain-apart k o (At n p v) d e = let same : noSlot ≡ d .slot = cc in omega (arith, same)
+plain-apart k o (Refused p r) d e = let z : _≡_ {A = ℕ} 0 1 = cc in absurd (omega arith)
 
 pub dynamic-apart : (b : List ℕ) (f : Frame) (p : BitPlace) (o : LastOrder) (k : ℕ) (l : Length) (d : Due)
-    → forLength l (dynamicSeen b f p o k) ≡ Field d → slotCount ≤ d .slot
+    → forLength p l (dynamicSeen b f p o k) ≡ Field d → slotCount ≤ d .slot
 unfolding forLength dynamicSeen
 dynamic-apart b f p o k (Of n) d e = by (eqb k 26) refl e
   where
@@ -167,7 +168,7 @@ SeesAt b u f t at = LeafSeen (read (envOf b u f) (classAt 1 t at)) (leafSlot t a
 
 -- kinds 26 and 27, by what the slot holds
 abbrev dynamically : List ℕ → Frame → Content → ℕ → BitPlace → LastOrder → Seen
-dynamically b f x k p o = forLength (lengthOf x) (dynamicSeen b f p o k)
+dynamically b f x k p o = forLength p (lengthOf x) (dynamicSeen b f p o k)
 
 module _ (t b u : List ℕ) (f : Frame) (at : ℕ) (p : BitPlace) (o : LastOrder) (x : Content) where
   -- what is seen of the leaf at a byte, by its kind
@@ -234,7 +235,7 @@ module _ (b u : List ℕ) (f : Frame) (t : List ℕ) (at : ℕ) (p : BitPlace) (
       by-kind n true e = rw (e, dynamicSeen) (plain-fits k o _ (text-ends framed n refl))
       by-kind n false e = rw (e, dynamicSeen) (plain-fits k o _ (blob-ends framed n refl))
 
-      by : (l : Length) → Fits (forLength l (dynamicSeen b f p o k))
+      by : (l : Length) → Fits (forLength p l (dynamicSeen b f p o k))
       by (Of n) = by-kind n (eqb k 26) refl
       by (NotOf r) = tt
 
@@ -285,35 +286,35 @@ module _ (b u : List ℕ) (f : Frame) (t : List ℕ) (at : ℕ) (p : BitPlace) (
 module _ {b : List ℕ} {f : Frame} {p : BitPlace} (framed : Framed b f p) where
   pub bits-extend : (x : Found) (o : LastOrder) (w : ℕ) (d : Order) (a : ℕ) → x ≡ foundBits b f p o w d a → 1 ≤ w → w ≤ 64 → Extends x
   unfolding Extends
-  bits-extend (At q n v) o w d a is low high =
+  bits-extend (At n q v) o w d a is low high =
       let lies = bits-lie framed refl o w d a is in
       (omega (arith, lies .2), omega (arith, lies .2), lies .1)
-  bits-extend (Refused r) o w d a is low high = tt
+  bits-extend (Refused q r) o w d a is low high = tt
 
   pub blob-within : (x : Found) (n : ℕ) → x ≡ foundBlob f p n → InStream b x
   unfolding InStream
-  blob-within (At q m v) n is = let lies = blob-lies framed refl n is in rw (lies .2) (lies .1)
-  blob-within (Refused r) n is = tt
+  blob-within (At m q v) n is = let lies = blob-lies framed refl n is in rw (lies .2) (lies .1)
+  blob-within (Refused q r) n is = tt
 
 -- A length that a slot gives, or none
 
 module _ (b : List ℕ) (f : Frame) (p : BitPlace) (o : LastOrder) {x y : Length} (is : x ≡ y) where
-  pub no-length-seen : {why : Refusal} → x ≡ NotOf why → (k : ℕ) → Stops why ≡ forLength y (dynamicSeen b f p o k)
+  pub no-length-seen : {why : Refusal} → x ≡ NotOf why → (k : ℕ) → Stops (stopAt why p) ≡ forLength p y (dynamicSeen b f p o k)
   unfolding forLength
   no-length-seen e k = rw (← is, e) refl
 
   module _ {n : ℕ} (e : x ≡ Of n) (k : ℕ) where
-    text-is : k ≡ 26 → seen (foundText b f p n) (plainSeen k o) ≡ forLength y (dynamicSeen b f p o k)
+    text-is : k ≡ 26 → seen (foundText b f p n) (plainSeen k o) ≡ forLength p y (dynamicSeen b f p o k)
     unfolding forLength dynamicSeen
     text-is h = rw (← is, e, eq-eqb k 26 h, dynamicSeen) refl
 
-    blob-is : (k ≡ 26 → ⊥) → seen (foundBlob f p n) (plainSeen k o) ≡ forLength y (dynamicSeen b f p o k)
+    blob-is : (k ≡ 26 → ⊥) → seen (foundBlob f p n) (plainSeen k o) ≡ forLength p y (dynamicSeen b f p o k)
     unfolding forLength dynamicSeen
     blob-is h = rw (← is, e, ne-eqb k 26 h, dynamicSeen) refl
 
     module _ {z : Found} {r : Seen} (sees : r ≡ seen z (plainSeen k o)) where
-      pub text-seen : k ≡ 26 → z ≡ foundText b f p n → r ≡ forLength y (dynamicSeen b f p o k)
+      pub text-seen : k ≡ 26 → z ≡ foundText b f p n → r ≡ forLength p y (dynamicSeen b f p o k)
       text-seen h found = rw (found) at sees ∙ text-is h
 
-      pub blob-seen : (k ≡ 26 → ⊥) → z ≡ foundBlob f p n → r ≡ forLength y (dynamicSeen b f p o k)
+      pub blob-seen : (k ≡ 26 → ⊥) → z ≡ foundBlob f p n → r ≡ forLength p y (dynamicSeen b f p o k)
       blob-seen h found = rw (found) at sees ∙ blob-is h

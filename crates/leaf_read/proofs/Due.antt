@@ -59,8 +59,8 @@ field-content k q h d e =
 
 seen-content : (k : ℕ) (x : Found) (m : Told) → ((p : BitPlace) (n v : ℕ) → ContentDue k (m p n v)) → ContentDue k (seen x m)
 unfolding seen
-seen-content k (Lies p n v) m h = h p n v
-seen-content k (Refused r) m h = λ d e s. let z : _≡_ {A = ℕ} 0 1 = cc in absurd (omega arith)
+seen-content k (Lies n p v) m h = h p n v
+seen-content k (Refused p r) m h = λ d e s. let z : _≡_ {A = ℕ} 0 1 = cc in absurd (omega arith)
 
 -- what names no slot
 apart-content : (k : ℕ) (y : Seen) → ((d : Due) → y ≡ Field d → slotCount ≤ d .slot) → ContentDue k y
@@ -76,7 +76,7 @@ unfolding uuidSeen seen
 uuid-apart b u o p n v d e = by (sameBytes (take v (drop (p .0 / 8) b)) u) refl e
   where
     by : (t : Bool) → sameBytes (take v (drop (p .0 / 8) b)) u ≡ t → uuidSeen b u o p n v ≡ Field d → slotCount ≤ d .slot
-    by true i e = plain-apart 25 o (Lies p n v) d (rw (i, uuidSeen) at e)
+    by true i e = plain-apart 25 o (Lies n p v) d (rw (i, uuidSeen) at e)
     by false i e = let h : OtherUuid _ ≡ Field d = rw (i, uuidSeen) at e in let z : _≡_ {A = ℕ} 0 1 = cc in absurd (omega arith)
 
 blob-apart : (b u : List ℕ) (r : ℕ) (o : LastOrder) (p : BitPlace) (n v : ℕ) (d : Due) → blobSeen b u r o p n v ≡ Field d
@@ -86,7 +86,7 @@ blob-apart b u r o p n v d e = by (eqb r 4) refl e
   where
     by : (t : Bool) → eqb r 4 ≡ t → blobSeen b u r o p n v ≡ Field d → slotCount ≤ d .slot
     by true i e = uuid-apart b u o p n v d (rw (i, blobSeen) at e)
-    by false i e = plain-apart 25 o (Lies p n v) d (rw (i, blobSeen) at e)
+    by false i e = plain-apart 25 o (Lies n p v) d (rw (i, blobSeen) at e)
 
 module _ (t b u : List ℕ) (f : Frame) (at : ℕ) (p : BitPlace) (o : LastOrder) (x : Content) where
   abbrev Says : ℕ → Type 0

@@ -20,7 +20,7 @@ use Rattle.rules.specs.Verdict.{stopAt}
 use Rattle.rules.specs.Record.{u8}
 use Rattle.rules.specs.Faults.{roleOf}
 use Rattle.rules.specs.Slots.{Slots, slotAt, setSlot}
-use Rattle.rules.specs.Step.{State, Step, stop, onto, after, _⨾_, refuse, listed, change, withSlots}
+use Rattle.rules.specs.Step.{State, Step, stop, onto, after, _⨾_, refuse, refuseAt, listed, change, withSlots}
 use Rattle.rules.specs.Field.{Env, read, store, role}
 use Rattle.facts.specs.Bytes.{Bytes}
 use Rattle.facts.proofs.Truth.{clash, or-false}
@@ -318,9 +318,9 @@ module _ (again : Bool) (d : ℕ) (t b u : List ℕ) (f : Frame) (x : Content) (
       → ((q : Due) → OneLeaf again d t b u f x next (n - 1) (behindDue q s)
       → LeavesSay again d t b u f next (n - 1) (behindDue q s) (rest q))
       → LeavesSay again d t b u f at n s
-      (leafThen y at n (s .place) (s .order) (λ q. leavesEnd t next (n - 1) (s .room - wordsPerEntry) (q .slot) (q .role)) rest)
-  unfolding leafThen done refuse listed _⨾_ after onto
-  leaf-says (Stops why) is more say = stops-say why (s .place) (s .order) [] (omega arith) (reads-all is)
+      (leafThen y at n (s .order) (λ q. leavesEnd t next (n - 1) (s .room - wordsPerEntry) (q .slot) (q .role)) rest)
+  unfolding leafThen done refuse refuseAt listed _⨾_ after onto
+  leaf-says (Stops v) is more say = stops-say (v .why) (v .place) (s .order) [] (omega arith) (reads-all is)
   leaf-says (OtherUuid e) is more say = stops-say WrongUuid _ (s .order) (e ∷ []) (omega (arith, h .room)) (reads-all is)
   leaf-says (Field q) is more say = by (leavesEnd t next (n - 1) (s .room - wordsPerEntry) (q .slot) (q .role)) refl
     where

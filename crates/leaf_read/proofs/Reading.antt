@@ -14,7 +14,7 @@ use Rattle.rules.specs.declared.LastOrder.{LastOrder}
 use Rattle.rules.specs.declared.Content.{Content}
 use Rattle.rules.specs.declared.Content.the-variants.{Unset}
 use Rattle.rules.specs.declared.Slot.{Slot}
-use Rattle.rules.specs.declared.Refusal.{Refusal}
+use Rattle.rules.specs.declared.Stop.{Stop}
 use Rattle.rules.specs.declared.Refusal.the-variants.{PastBound, WrongUuid}
 use Rattle.rules.specs.declared.Stated.the-variants.{Missing}
 use Rattle.rules.specs.Limits.{slotCount}
@@ -178,18 +178,18 @@ reading-start w s kind some room framed held =
 unfold-leaves : (again : Bool) (t b u : List ℕ) (f : Frame) (x : Content) (at n : ℕ) (p : BitPlace) (o : LastOrder) (room : ℕ) → 0 < n →
     let next = onward again at (nextAt 1 t at) in
     leavesRead again t b u f x at n p o room
-    ≡ leafThen (seenAt t b u f at p o x) at n p o (λ q. leavesEnd t next (n - 1) (room - 4) (q .slot) (q .role))
+    ≡ leafThen (seenAt t b u f at p o x) at n o (λ q. leavesEnd t next (n - 1) (room - 4) (q .slot) (q .role))
     (λ q. leavesRead again t b u f x next (n - 1) (behindEntry (q .entry)) (q .order) (room - 4))
 unfolding leavesRead
 unfold-leaves again t b u f x at zero p o room h = absurd (omega arith)
 unfold-leaves again t b u f x at (suc n) p o room h = let e : suc n - 1 ≡ n = omega arith in rw (e) refl
 
-module _ (q : Due) (at n : ℕ) (p : BitPlace) (o : LastOrder) (ends : Due → Bool) (others : Due → LeavesListed) where
-  leaf-last : ends q ≡ true → leafThen (Field q) at n p o ends others ≡ lastLeaf q at (n - 1)
+module _ (q : Due) (at n : ℕ) (o : LastOrder) (ends : Due → Bool) (others : Due → LeavesListed) where
+  leaf-last : ends q ≡ true → leafThen (Field q) at n o ends others ≡ lastLeaf q at (n - 1)
   unfolding leafThen
   leaf-last e = rw (e, leafThen) refl
 
-  leaf-more : ends q ≡ false → leafThen (Field q) at n p o ends others ≡ behindEntries (q .entry ∷ []) (others q)
+  leaf-more : ends q ≡ false → leafThen (Field q) at n o ends others ≡ behindEntries (q .entry ∷ []) (others q)
   unfolding leafThen
   leaf-more e = rw (e, leafThen) refl
 
@@ -220,10 +220,10 @@ module _ {w : Asked} {ws : List ℕ} {at n : ℕ} {p : BitPlace} {o : LastOrder}
   reading-length = listed-length (h .list)
 
   -- all of them, by what is seen of this one
-  reading-all : {y : Seen} → y ≡ this → all w ≡ behindEntries (h .listed) (leafThen y at n p o ends others)
+  reading-all : {y : Seen} → y ≡ this → all w ≡ behindEntries (h .listed) (leafThen y at n o ends others)
   reading-all is = h .rest
       ∙ ap (behindEntries (h .listed)) (unfold-leaves (w .again) t (w .stream) (w .uuid) (w .frame) (w .content) at n p o left (h .some))
-      ∙ ap (λ z. behindEntries (h .listed) (leafThen z at n p o ends others)) (sym is)
+      ∙ ap (λ z. behindEntries (h .listed) (leafThen z at n o ends others)) (sym is)
 
   -- the byte that the sizes give for the next class
   pub reading-onward : (s : List ℕ) {m : ℕ} → SizedClasses t s → m ≡ onward (w .again) at (at + getD s at 0) → m ≡ next
@@ -257,10 +257,10 @@ module _ {w : Asked} {ws : List ℕ} {at n : ℕ} {p : BitPlace} {o : LastOrder}
         (lt-or-ge (u8 t at) 26)
 
   -- it stops
-  pub answer-stops : {y : Seen} {why : Refusal} → y ≡ this → y ≡ Stops why → Answered w (stoppedLeaves why at n p o used) ws
+  pub answer-stops : {y : Seen} {v : Stop} → y ≡ this → y ≡ Stops v → Answered w (stoppedLeaves (v .why) at n (v .place) o used) ws
   unfolding leafThen stopsAt stoppedLeaves behindEntries
-  answer-stops {why = why} is e =
-      let d : all w ≡ behindEntries (h .listed) (stopsAt why at n p o []) = reading-all (sym e ∙ is) in
+  answer-stops {v = v} is e =
+      let d : all w ≡ behindEntries (h .listed) (stopsAt (v .why) at n (v .place) o []) = reading-all (sym e ∙ is) in
       let u : used ≡ 4 * length (h .listed) + 4 * 0 = omega (arith, h .list .counted) in
       rw (d, append-nil (h .listed)) (rw (← u) refl, rw (← u) (h .list .list))
 
@@ -288,7 +288,7 @@ module _ {w : Asked} {ws : List ℕ} {at n : ℕ} {p : BitPlace} {o : LastOrder}
       unfolding lastLeaf behindEntries
       answer-last last =
           let d : all w ≡ behindEntries (h .listed) (lastLeaf q at (n - 1))
-          = reading-all (sym e ∙ is) ∙ ap (behindEntries (h .listed)) (leaf-last q at n p o ends others (same-test last)) in
+          = reading-all (sym e ∙ is) ∙ ap (behindEntries (h .listed)) (leaf-last q at n o ends others (same-test last)) in
           let u : used + 4 ≡ 4 * length (h .listed) + 4 = omega (arith, h .list .counted) in
           rw (d) (rw (← u) refl, rw (← u) (list .list))
 
@@ -298,7 +298,7 @@ module _ {w : Asked} {ws : List ℕ} {at n : ℕ} {p : BitPlace} {o : LastOrder}
       reading-next bytes more =
           let on = goes-on t (next) (n - 1) (left - 4) (q .slot) (q .role) (same-test more) in
           let d : all w ≡ behindEntries (h .listed) (behindEntries (q .entry ∷ []) (others q))
-          = reading-all (sym e ∙ is) ∙ ap (behindEntries (h .listed)) (leaf-more q at n p o ends others (same-test more)) in
+          = reading-all (sym e ∙ is) ∙ ap (behindEntries (h .listed)) (leaf-more q at n o ends others (same-test more)) in
           let room : left - 4 ≡ length (w .list) - (used + 4) = omega arith in
           rw (there) record {
             depth = h .depth;

@@ -107,18 +107,18 @@ behindEntries es y = record {
 unfoldable pub leavesEnd : List ℕ → ℕ → ℕ → ℕ → ℕ → ℕ → Bool
 leavesEnd t next n room slot role = eqb n 0 || ltb room wordsPerEntry || leb 26 (u8 t next) || ltb slot slotCount || not (eqb role 0)
 
--- by what is seen of the leaf at a byte, n being left with it, from a place and an order on; `rest` is what the others do behind it
-unfoldable pub leafThen : Seen → ℕ → ℕ → BitPlace → LastOrder → (Due → Bool) → (Due → LeavesListed) → LeavesListed
-leafThen (Stops why) at n p o ends rest = stopsAt why at n p o []
-leafThen (OtherUuid e) at n p o ends rest = stopsAt WrongUuid at n (behindEntry e) o (e ∷ [])
-leafThen (Field d) at n p o ends rest = elim (ends d) [ true ↦ lastLeaf d at (n - 1) | false ↦ behindEntries (d .entry ∷ []) (rest d) ]
+-- by what is seen of the leaf at a byte, n being left with it, with an order; `rest` is what the others do behind it
+unfoldable pub leafThen : Seen → ℕ → ℕ → LastOrder → (Due → Bool) → (Due → LeavesListed) → LeavesListed
+leafThen (Stops v) at n o ends rest = stopsAt (v .why) at n (v .place) o []
+leafThen (OtherUuid e) at n o ends rest = stopsAt WrongUuid at n (behindEntry e) o (e ∷ [])
+leafThen (Field d) at n o ends rest = elim (ends d) [ true ↦ lastLeaf d at (n - 1) | false ↦ behindEntries (d .entry ∷ []) (rest d) ]
 
 -- of n leaves from a byte on, one behind the other or one `again`, those that are read with room for so many words; of none, none
 unfoldable pub leavesRead : Bool → List ℕ → List ℕ → List ℕ → Frame → Content → ℕ → ℕ → BitPlace → LastOrder → ℕ → LeavesListed
 leavesRead again t b u f x at zero p o room = stopsAt PastBound at zero p o []
 leavesRead again t b u f x at (suc n) p o room =
     let next = onward again at (nextAt 1 t at) in
-    leafThen (seenAt t b u f at p o x) at (suc n) p o
+    leafThen (seenAt t b u f at p o x) at (suc n) o
     (λ d. leavesEnd t next n (room - wordsPerEntry) (d .slot) (d .role))
     (λ d. leavesRead again t b u f x next n (behindEntry (d .entry)) (d .order) (room - wordsPerEntry))
 

@@ -11,6 +11,7 @@ use Rattle.rules.specs.declared.Content.{Content}
 use Rattle.rules.specs.declared.Content.the-variants.{Unsigned, Signed}
 use Rattle.rules.specs.declared.Refusal.the-variants.{PastBound}
 use Rattle.rules.specs.Limits.{slotCount, noSlot}
+use Rattle.rules.specs.Verdict.{stopAt}
 use Rattle.rules.specs.Class.{Sort, bitArray, boolean, unsignedInt, signedInt, float}
 use Rattle.rules.specs.Record.{Shape, bitField, lebField, signedLebField, zeroString, text, blob, textOf, blobOf, u8, u16}
 use Rattle.rules.specs.Record.{members, elements, elementsOf, option?, options}
@@ -57,13 +58,13 @@ seenIn t b u f at p o x signedLebField = seen (foundSigned b f p) (lebSeen 22 Si
 seenIn t b u f at p o x zeroString = seen (foundString b f p) (plainSeen 23 o)
 seenIn t b u f at p o x text = seen (foundText b f p (u16 t (at + 1))) (plainSeen 24 o)
 seenIn t b u f at p o x blob = seen (foundBlob f p (u16 t (at + 1))) (blobSeen b u (u8 t (at + 3)) o)
-seenIn t b u f at p o x textOf = forLength (lengthOf x) (dynamicSeen b f p o 26)
-seenIn t b u f at p o x blobOf = forLength (lengthOf x) (dynamicSeen b f p o 27)
-seenIn t b u f at p o x members = Stops PastBound
-seenIn t b u f at p o x elements = Stops PastBound
-seenIn t b u f at p o x elementsOf = Stops PastBound
-seenIn t b u f at p o x option? = Stops PastBound
-seenIn t b u f at p o x options = Stops PastBound
+seenIn t b u f at p o x textOf = forLength p (lengthOf x) (dynamicSeen b f p o 26)
+seenIn t b u f at p o x blobOf = forLength p (lengthOf x) (dynamicSeen b f p o 27)
+seenIn t b u f at p o x members = Stops (stopAt PastBound p)
+seenIn t b u f at p o x elements = Stops (stopAt PastBound p)
+seenIn t b u f at p o x elementsOf = Stops (stopAt PastBound p)
+seenIn t b u f at p o x option? = Stops (stopAt PastBound p)
+seenIn t b u f at p o x options = Stops (stopAt PastBound p)
 
 -- the leaf at a byte
 unfoldable pub seenAt : List ℕ → List ℕ → List ℕ → Frame → ℕ → BitPlace → LastOrder → Content → Seen

@@ -27,6 +27,7 @@ use rules::Content;
 use rules::LastOrder;
 use rules::Order;
 use rules::Refusal;
+use rules::Stop;
 use slots::Length;
 use slots::length_of;
 use table_bytes::size_at;
@@ -98,8 +99,9 @@ pub fn read_leaves(
     let mut used: usize = 0;
     loop {
         match see_leaf(table, at, uuid, stream, frame, place, order, content) {
-            Seen::Stops(why) => {
-                return stopped(why, at, todo, place, order, used);
+            Seen::Stops(stop) => {
+                let why = stop.why;
+                return stopped(why, at, todo, stop.place, order, used);
             }
             Seen::OtherUuid(entry) => {
                 write(&mut list[used..], entry);
@@ -274,10 +276,10 @@ fn see_dynamic(
     last: LastOrder,
 ) -> Seen
     requires { ⌜ Framed (now stream) frame from ⌝ }
-    ensures { λ r. ⌜ r ≡ forLength (lengthOf content) (dynamicSeen (now (stream .entry)) frame from last kind) ⌝ }
+    ensures { λ r. ⌜ r ≡ forLength from (lengthOf content) (dynamicSeen (now (stream .entry)) frame from last kind) ⌝ }
 {
     match length_of(content) {
-        Length::NotOf(why) => Seen::Stops(why),
+        Length::NotOf(why) => Seen::Stops(Stop { why, place: from }),
         Length::Of(bytes) => {
             if kind == kinds::DYNAMIC_STRING {
                 return plain(

@@ -67,7 +67,7 @@ module _ (stream uuid : List ℕ) (at count : ℕ) (h : at + count ≤ length st
 
 -- A BLOB that was found lies in the stream
 
-module _ (b : List ℕ) {x : Found} {p : BitPlace} {n v : ℕ} (found : x ≡ At p n v) {q : ByteLength} (byte : q ≡ byteLength (p .0 / 8)) where
+module _ (b : List ℕ) {x : Found} {p : BitPlace} {n v : ℕ} (found : x ≡ At n p v) {q : ByteLength} (byte : q ≡ byteLength (p .0 / 8)) where
   pub found-within : InStream b x → q .0 + v ≤ length b
   unfolding InStream
   found-within w = rw (byte) (rw (found) at w)
@@ -76,12 +76,12 @@ module _ (b : List ℕ) {x : Found} {p : BitPlace} {n v : ℕ} (found : x ≡ At
 
 module _ (b u : List ℕ) (o : LastOrder) where
   -- x is what was found, and t what the code says of its bytes, from q on
-  module _ {x : Found} (p : BitPlace) (n v : ℕ) (found : x ≡ At p n v) {q : ByteLength} (byte : q ≡ byteLength (p .0 / 8)) {t : Bool}
+  module _ {x : Found} (p : BitPlace) (n v : ℕ) (found : x ≡ At n p v) {q : ByteLength} (byte : q ≡ byteLength (p .0 / 8)) {t : Bool}
       (told : t ≡ sameBytes (take v (drop (q .0) b)) u) where
     is : (y : Bool) → t ≡ y → sameBytes (take v (drop (p .0 / 8) b)) u ≡ y
     is y e = sym (rw (byte) at told) ∙ e
 
-    pub uuid-seen : t ≡ true → seen (At p n v) (plainSeen 25 o) ≡ seen x (uuidSeen b u o)
+    pub uuid-seen : t ≡ true → seen (At n p v) (plainSeen 25 o) ≡ seen x (uuidSeen b u o)
     unfolding seen uuidSeen
     uuid-seen e = rw (found, is true e, uuidSeen) refl
 
@@ -92,10 +92,10 @@ module _ (b u : List ℕ) (o : LastOrder) where
   -- by the role
   pub role-seen : (r : ℕ) (x : Found) → r ≡ 4 → seen x (uuidSeen b u o) ≡ seen x (blobSeen b u r o)
   unfolding seen blobSeen
-  role-seen r (At p n v) e = rw (eq-eqb r 4 e, blobSeen) refl
-  role-seen r (Refused w) e = refl
+  role-seen r (At n p v) e = rw (eq-eqb r 4 e, blobSeen) refl
+  role-seen r (Refused p w) e = refl
 
   pub no-role-seen : (r : ℕ) (x : Found) → (r ≡ 4 → ⊥) → seen x (plainSeen 25 o) ≡ seen x (blobSeen b u r o)
   unfolding seen blobSeen
-  no-role-seen r (At p n v) h = rw (ne-eqb r 4 h, blobSeen) refl
-  no-role-seen r (Refused w) h = refl
+  no-role-seen r (At n p v) h = rw (ne-eqb r 4 h, blobSeen) refl
+  no-role-seen r (Refused p w) h = refl

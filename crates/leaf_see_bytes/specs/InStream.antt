@@ -6,5 +6,5 @@ use Rattle.leaf_find_number.specs.declared.Found.{Found}
 use Rattle.leaf_find_number.specs.declared.Found.the-variants.{At, Refused}
 
 unfoldable pub InStream : List ℕ → Found → Type 0
-InStream b (At p n v) = p .0 / 8 + v ≤ length b
-InStream b (Refused r) = Unit {0}
+InStream b (At n p v) = p .0 / 8 + v ≤ length b
+InStream b (Refused p r) = Unit {0}

@@ -8,6 +8,7 @@ use numbers::roles;
 use rules::Content;
 use rules::Entry;
 use rules::LastOrder;
+use rules::Stop;
 ghost use mathlib.Core.Path.{_≡_};
 ghost use Prim.Native.Nat.{_+_, _≤_};
 ghost use lib.ListN.{length, take, drop};
@@ -20,7 +21,7 @@ pub fn plain(kind: u8, found: Found, last: LastOrder) -> Seen
     ensures { λ r. ⌜ r ≡ seen found (plainSeen kind last) ⌝ }
 {
     match found {
-        Found::Refused(why) => Seen::Stops(why),
+        Found::Refused { place, why } => Seen::Stops(Stop { why, place }),
         Found::At { place, bits, value } => Seen::Field(Due {
             entry: Entry {
                 kind: kind as u64,
@@ -54,7 +55,7 @@ fn uuid_blob(found: Found, last: LastOrder, uuid: &[u8], stream: &[u8]) -> Seen
     ensures { λ r. ⌜ r ≡ seen found (uuidSeen (now (stream .entry)) (now (uuid .entry)) last) ⌝ }
 {
     match found {
-        Found::Refused(why) => Seen::Stops(why),
+        Found::Refused { place, why } => Seen::Stops(Stop { why, place }),
         Found::At { place, bits, value } => {
             let at = places::bytes_before(place);
             if same(stream, at.0, value as usize, uuid) {

@@ -9,6 +9,7 @@ use rules::Content;
 use rules::Entry;
 use rules::LastOrder;
 use rules::Order;
+use rules::Stop;
 ghost use mathlib.Core.Path.{_≡_};
 ghost use Rattle.rules.specs.Limits.{noSlot};
 ghost use Rattle.rules.specs.Class.{bitArray, boolean, unsignedInt, signedInt, float};
@@ -35,7 +36,7 @@ fn see_bits(kind: u64, found: Found, order: Order) -> Seen
     ensures { λ r. ⌜ r ≡ seen found (bitsSeen kind order) ⌝ }
 {
     match found {
-        Found::Refused(why) => Seen::Stops(why),
+        Found::Refused { place, why } => Seen::Stops(Stop { why, place }),
         Found::At { place, bits, value } => {
             let entry = Entry {
                 kind,
@@ -60,7 +61,7 @@ pub fn boolean(found: Found, order: Order, slot: u8) -> Seen
     ensures { λ r. ⌜ r ≡ seen found (fixedSeen boolean order slot 0) ⌝ }
 {
     match found {
-        Found::Refused(why) => Seen::Stops(why),
+        Found::Refused { place, why } => Seen::Stops(Stop { why, place }),
         Found::At { place, bits, value } => {
             let entry = Entry {
                 kind: entries::BOOLEAN,
@@ -97,7 +98,7 @@ pub fn unsigned(found: Found, order: Order, slot: u8, role: u8) -> Seen
     ensures { λ r. ⌜ r ≡ seen found (fixedSeen unsignedInt order slot role) ⌝ }
 {
     match found {
-        Found::Refused(why) => Seen::Stops(why),
+        Found::Refused { place, why } => Seen::Stops(Stop { why, place }),
         Found::At { place, bits, value } => {
             let entry = Entry {
                 kind: entries::UNSIGNED,
@@ -123,7 +124,7 @@ pub fn signed(found: Found, order: Order, slot: u8) -> Seen
     ensures { λ r. ⌜ r ≡ seen found (fixedSeen signedInt order slot 0) ⌝ }
 {
     match found {
-        Found::Refused(why) => Seen::Stops(why),
+        Found::Refused { place, why } => Seen::Stops(Stop { why, place }),
         Found::At {
             place,
             bits,

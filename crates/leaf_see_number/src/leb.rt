@@ -7,6 +7,7 @@ use numbers::roles::NO_ROLE;
 use rules::Content;
 use rules::Entry;
 use rules::LastOrder;
+use rules::Stop;
 ghost use mathlib.Core.Path.{_≡_};
 ghost use Rattle.rules.specs.declared.Content.the-variants.{Unsigned, Signed};
 ghost use Rattle.leaf_after.specs.Seeing.{seen, lebSeen};
@@ -16,7 +17,7 @@ pub fn unsigned_leb(found: Found, last: LastOrder, slot: u8, role: u8) -> Seen
     ensures { λ r. ⌜ r ≡ seen found (lebSeen 21 Unsigned last slot role) ⌝ }
 {
     match found {
-        Found::Refused(why) => Seen::Stops(why),
+        Found::Refused { place, why } => Seen::Stops(Stop { why, place }),
         Found::At { place, bits, value } => {
             let entry = Entry {
                 kind: entries::LEB128_UNSIGNED,
@@ -41,7 +42,7 @@ pub fn signed_leb(found: Found, last: LastOrder, slot: u8) -> Seen
     ensures { λ r. ⌜ r ≡ seen found (lebSeen 22 Signed last slot 0) ⌝ }
 {
     match found {
-        Found::Refused(why) => Seen::Stops(why),
+        Found::Refused { place, why } => Seen::Stops(Stop { why, place }),
         Found::At { place, bits, value } => {
             let entry = Entry {
                 kind: entries::LEB128_SIGNED,

@@ -25,7 +25,7 @@ pub sevens-end : (m b : ℕ) (bs : List ℕ) → b < 128 → sevens (suc m) (b �
 unfolding sevens
 sevens-end m b bs h = simp (sevens, lt-ltb b 128 h)
 
-pub sevens-on : (m b : ℕ) (bs : List ℕ) → 128 ≤ b → sevens (suc m) (b ∷ bs) ≡ below (b - 128) (sevens m bs)
+pub sevens-on : (m b : ℕ) (bs : List ℕ) → 128 ≤ b → sevens (suc m) (b ∷ bs) ≡ below (b % 128) (sevens m bs)
 unfolding sevens
 sevens-on m b bs h = simp (sevens, le-ltb b 128 h)
 
@@ -76,8 +76,8 @@ module _ {bs : List ℕ} {v n : ℕ} (p : Passed bs v n) where
     next-ends h = next-byte ∙ rw (sevens-end _ b (drop (n + 1) bs) h)
 
     pub next-on : 128 ≤ b
-        → sevens lebLimit bs ≡ under (v + (b - 128) * 2 ^ (7 * n)) (n + 1) (sevens (lebLimit - (n + 1)) (drop (n + 1) bs))
-    next-on h = next-byte ∙ rw (sevens-on _ b (drop (n + 1) bs) h) (under-below v n (b - 128) _)
+        → sevens lebLimit bs ≡ under (v + b % 128 * 2 ^ (7 * n)) (n + 1) (sevens (lebLimit - (n + 1)) (drop (n + 1) bs))
+    next-on h = next-byte ∙ rw (sevens-on _ b (drop (n + 1) bs) h) (under-below v n (b % 128) _)
 
   module _ (b : ℕ) (h : n < 9) where
     more-exact : more v n b ≡ v + b % 128 * 2 ^ (7 * n)
@@ -95,9 +95,8 @@ module _ {bs : List ℕ} {v n : ℕ} (p : Passed bs v n) where
           let whole : sevens lebLimit bs ≡ Value (more v n b) (byteLength (n + 1)) = rw (more-exact, mod-eq-of-lt l) (next-ends b i e l) in
           record { whole = whole; small = more-small; some = omega arith; most = omega arith }
 
-      pub passed-on : 128 ≤ b → b < 256 → Passed bs (more v n b) (n + 1)
-      passed-on l u =
-          let digit : b % 128 ≡ b - 128 = omega arith in
+      pub passed-on : 128 ≤ b → Passed bs (more v n b) (n + 1)
+      passed-on l =
           let rest = sevens (lebLimit - (n + 1)) (drop (n + 1) bs) in
-          let whole : sevens lebLimit bs ≡ under (more v n b) (n + 1) rest = rw (more-exact, digit) (next-on b i e l) in
+          let whole : sevens lebLimit bs ≡ under (more v n b) (n + 1) rest = rw more-exact (next-on b i e l) in
           record { whole = whole; small = more-small; most = omega arith; inside = omega arith; on = below-more _ n (p .on) (rw (← e) l) }

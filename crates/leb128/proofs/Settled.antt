@@ -19,7 +19,7 @@ use Rattle.leb128.specs.FirstNine.{Passed, EndsAfter}
 use Rattle.leb128.proofs.FirstNine.{passed-none, passed-short, passed-end, passed-on, more}
 use Rattle.leb128.proofs.Tenth.{unsigned-past, unsigned-ended, unsigned-tenth, unsigned-large, signed-past, signed-ended, signed-zeros, signed-ones, signed-large}
 
-module _ (bs : List ℕ) (byte : Bytes bs) {P : Type 0} where
+module _ (bs : List ℕ) {P : Type 0} where
   -- the number is cut short within nine bytes, ends within them, or goes on
   any-nine : (sevens lebLimit bs ≡ Past → P) → ((v n : ℕ) → EndsAfter bs v n → P) → ((v : ℕ) → Passed bs v 9 → P) → P
   any-nine short ended on = from 9 0 0 refl (passed-none bs)
@@ -29,7 +29,7 @@ module _ (bs : List ℕ) (byte : Bytes bs) {P : Type 0} where
       from (suc left) n v e p = ⊎-elim
           (λ (i : n < length bs). ⊎-elim
           (λ (l : getD bs n 0 < 128). ended _ _ (passed-end p _ (omega arith) i refl l))
-          (λ (l : 128 ≤ getD bs n 0). from left (n + 1) _ (omega arith) (passed-on p _ (omega arith) i refl l (byte n)))
+          (λ (l : 128 ≤ getD bs n 0). from left (n + 1) _ (omega arith) (passed-on p _ (omega arith) i refl l))
           (lt-or-ge (getD bs n 0) 128))
           (λ (i : length bs ≤ n). short (passed-short p i))
           (lt-or-ge n (length bs))
@@ -39,16 +39,16 @@ module _ (bs : List ℕ) (byte : Bytes bs) {P : Type 0} where
   all-nine zero h i on k = k 0 (passed-none bs)
   all-nine (suc n) h i on k = all-nine n (omega arith) (omega arith) (λ j l. on j (omega arith))
       (λ v p.
-      let next = passed-on p (getD bs n 0) (omega arith) i refl (on n (omega arith)) (byte n) in
+      let next = passed-on p (getD bs n 0) (omega arith) i refl (on n (omega arith)) in
       k (more v n (getD bs n 0)) (rw (add-one n) at next))
 
-module _ (bs : List ℕ) (byte : Bytes bs) (answer : Leb) (past : sevens lebLimit bs ≡ Past → Past ≡ answer) where
+module _ (bs : List ℕ) (answer : Leb) (past : sevens lebLimit bs ≡ Past → Past ≡ answer) where
   past-not-large : sevens lebLimit bs ≡ Past → answer ≡ Large → ⊥
   past-not-large s e = let same : Past ≡ Large = past s ∙ e in let z : _≡_ {A = ℕ} 0 1 = cc in omega arith
 
   reaches-tenth : ((v n : ℕ) → EndsAfter bs v n → answer ≡ Large → ⊥) → answer ≡ Large → TenthByte bs
   reaches-tenth ended e =
-      any-nine bs byte
+      any-nine bs
       (λ s. absurd (past-not-large s e))
       (λ v n a. absurd (ended v n a e))
       (λ v p. ⊎-elim
@@ -59,24 +59,31 @@ module _ (bs : List ℕ) (byte : Bytes bs) (answer : Leb) (past : sevens lebLimi
 value-not-large : {v : ℕ} {n : ByteLength} {answer : Leb} → Value v n ≡ answer → answer ≡ Large → ⊥
 value-not-large h e = let z : _≡_ {A = ℕ} 0 1 = cc in omega arith
 
-at-tenth : (bs : List ℕ) → Bytes bs → TenthByte bs → {P : Type 0} → ((v : ℕ) → Passed bs v 9 → P) → P
-at-tenth bs byte t k = all-nine bs byte 9 (omega arith) (omega (arith, t .there)) (t .reached) k
+at-tenth : (bs : List ℕ) → TenthByte bs → {P : Type 0} → ((v : ℕ) → Passed bs v 9 → P) → P
+at-tenth bs t k = all-nine bs 9 (omega arith) (omega (arith, t .there)) (t .reached) k
+
+-- of every list, also of numbers that are no bytes
+pub unsigned-reaches : (bs : List ℕ) → lebUnsigned bs ≡ Large → TenthByte bs
+unsigned-reaches bs = reaches-tenth bs (lebUnsigned bs) (unsigned-past bs) (λ v n a. value-not-large (unsigned-ended bs a))
+
+pub signed-reaches : (bs : List ℕ) → lebSigned bs ≡ Large → TenthByte bs
+signed-reaches bs = reaches-tenth bs (lebSigned bs) (signed-past bs) (λ v n a. value-not-large (signed-ended bs a refl))
 
 pub unsigned-settled : SettledAtTenth lebUnsigned (λ b. b ≤ 1)
 unsigned-settled = record {
-  reached = λ bs byte. reaches-tenth bs byte (lebUnsigned bs) (unsigned-past bs) (λ v n a. value-not-large (unsigned-ended bs a));
-  fits = λ bs byte t h. at-tenth bs byte t (λ v p. value-not-large (unsigned-tenth bs p _ (t .there) refl h));
-  large = λ bs byte t h. at-tenth bs byte t (λ v p. sym (unsigned-large bs p (getD bs 9 0) (t .there) refl (omega arith)));
+  reached = λ bs byte. unsigned-reaches bs;
+  fits = λ bs byte t h. at-tenth bs t (λ v p. value-not-large (unsigned-tenth bs p _ (t .there) refl h));
+  large = λ bs byte t h. at-tenth bs t (λ v p. sym (unsigned-large bs p (getD bs 9 0) (t .there) refl (omega arith)));
 }
 
 pub signed-settled : SettledAtTenth lebSigned (λ b. (b ≡ 0) ⊎ (b ≡ 127))
 signed-settled = record {
-  reached = λ bs byte. reaches-tenth bs byte (lebSigned bs) (signed-past bs) (λ v n a. value-not-large (signed-ended bs a refl));
-  fits = λ bs byte t h. at-tenth bs byte t (λ v p. ⊎-elim
+  reached = λ bs byte. signed-reaches bs;
+  fits = λ bs byte t h. at-tenth bs t (λ v p. ⊎-elim
       (λ z. value-not-large (signed-zeros bs p _ (t .there) refl z))
       (λ z. value-not-large (signed-ones bs p _ (t .there) refl z))
       h);
-  large = λ bs byte t h. at-tenth bs byte t (λ v p. sym (signed-large bs p _ (t .there) refl (λ z. h (inl z)) (λ z. h (inr z))));
+  large = λ bs byte t h. at-tenth bs t (λ v p. sym (signed-large bs p _ (t .there) refl (λ z. h (inl z)) (λ z. h (inr z))));
 }
 
 -- so of fewer than ten bytes, or of bytes that end before the tenth, no number is too large

@@ -3,9 +3,11 @@ use mathlib.Core.Path.{_≡_, refl, _∙_, sym}
 use mathlib.Core.Logic.{⊎-elim}
 use mathlib.Core.List.{List, [], _∷_}
 use mathlib.Core.Bool.{Bool, true, false}
-use Prim.Native.Nat.{ℕ, zero, suc, _+_, _-_, _*_, _^_, _<_, _≤_}
+use Prim.Native.Nat.{ℕ, zero, suc, _+_, _*_, _%_, _^_, _<_, _≤_}
+use native.Mathlib.Nat.{mod-lt}
 use native.Mathlib.Omega.{arith}
 use borrow.Author.Tests.{ltb-true}
+use lib.Dec.{lit<}
 use lib.IntN.{ℤ, pos, negsuc}
 use lib.Pow.{pow-add}
 use lib.ListN.{length}
@@ -39,7 +41,7 @@ took zero bs = tt
 took (suc m) [] = tt
 took (suc m) (b ∷ bs) = ⊎-elim
     (λ (l : b < 128). rw (sevens-end m b bs l) (omega arith))
-    (λ (l : 128 ≤ b). rw (sevens-on m b bs l) (took-below m b (b - 128) bs _ (took m bs)))
+    (λ (l : 128 ≤ b). rw (sevens-on m b bs l) (took-below m b (b % 128) bs _ (took m bs)))
     (lt-or-ge b 128)
 
 word-fits : (z : ℤ) → fits64 z ≡ true → word z < 2 ^ 64
@@ -84,7 +86,7 @@ module _ (bs : List ℕ) (v : ℕ) (n : ByteLength) where
   unfolding lebSigned
   signed-value = of-signed _ (took lebLimit bs)
 
--- of bytes, a value has seven bits a byte
+-- a value has seven bits a byte
 abbrev Small : Leb → Type 0
 Small (Value v n) = v < 2 ^ (7 * n .0)
 Small Past = Unit {0}
@@ -98,13 +100,13 @@ small-below d h (Value v n) l =
 small-below d h Past l = tt
 small-below d h Large l = tt
 
-sevens-small : (m : ℕ) (bs : List ℕ) → Bytes bs → Small (sevens m bs)
+sevens-small : (m : ℕ) (bs : List ℕ) → Small (sevens m bs)
 unfolding sevens
-sevens-small zero bs h = tt
-sevens-small (suc m) [] h = tt
-sevens-small (suc m) (b ∷ bs) h = ⊎-elim
+sevens-small zero bs = tt
+sevens-small (suc m) [] = tt
+sevens-small (suc m) (b ∷ bs) = ⊎-elim
     (λ (l : b < 128). rw (sevens-end m b bs l) (omega arith))
-    (λ (l : 128 ≤ b). rw (sevens-on m b bs l) (small-below (b - 128) (omega (arith, h 0)) _ (sevens-small m bs (λ i. h (suc i)))))
+    (λ (l : 128 ≤ b). rw (sevens-on m b bs l) (small-below (b % 128) (mod-lt b (lit< tt)) _ (sevens-small m bs)))
     (lt-or-ge b 128)
 
 fit-small : (x : Leb) → Small x → Small (fitUnsigned x)
@@ -118,4 +120,4 @@ fit-small Large h = tt
 
 pub unsigned-small : (bs : List ℕ) → Bytes bs → (v : ℕ) (n : ByteLength) → lebUnsigned bs ≡ Value v n → v < 2 ^ (7 * n .0)
 unfolding lebUnsigned
-unsigned-small bs h v n e = rw (e) at (fit-small (sevens lebLimit bs) (sevens-small lebLimit bs h))
+unsigned-small bs h v n e = rw (e) at (fit-small (sevens lebLimit bs) (sevens-small lebLimit bs))

@@ -4,9 +4,10 @@ use mathlib.Core.Path.{_≡_, refl, ap, _∙_}
 use mathlib.Core.List.{[]}
 use mathlib.Core.Bool.{Bool, true, false}
 use borrow.Author.Tests.{lt-ltb, le-ltb}
+use Rattle.rules.specs.declared.BitPlace.{BitPlace}
 use Rattle.rules.specs.declared.Refusal.{Refusal}
 use Rattle.rules.specs.declared.Refusal.the-variants.{ListFull}
-use Rattle.rules.specs.Step.{State, Step, go, _⨾_, after, pass, refuse, check, due}
+use Rattle.rules.specs.Step.{State, Step, go, _⨾_, after, pass, refuse, refuseAt, check, checkAt, due}
 use Rattle.facts.proofs.Steps.{onto-nil}
 
 -- a test that holds stops the reading, one that does not goes by
@@ -17,6 +18,15 @@ check-stops t r s h = rw (h, check) refl
 pub check-goes : (t : State → Bool) (r : Refusal) (s : State) → t s ≡ false → check t r s ≡ go [] s
 unfolding check pass
 check-goes t r s h = rw (h, check) refl
+
+-- and so one that refuses at a place of its own
+pub checkAt-stops : (t : State → Bool) (r : Refusal) (p : BitPlace) (s : State) → t s ≡ true → checkAt t r p s ≡ refuseAt r p s
+unfolding checkAt
+checkAt-stops t r p s h = rw (h, checkAt) refl
+
+pub checkAt-goes : (t : State → Bool) (r : Refusal) (p : BitPlace) (s : State) → t s ≡ false → checkAt t r p s ≡ go [] s
+unfolding checkAt pass
+checkAt-goes t r p s h = rw (h, checkAt) refl
 
 -- 40 is tested first, and goes by where there is room
 pub room-first : (m : Step) (s : State) → 4 ≤ s .room → (due ⨾ m) s ≡ m s

@@ -21,7 +21,7 @@ use Rattle.rules.specs.declared.Stop.{Stop}
 use Rattle.rules.specs.Verdict.{stopAt}
 use Rattle.rules.specs.Slots.{slotAt}
 use Rattle.rules.specs.Entry.{eventStarts, eventClassFound}
-use Rattle.rules.specs.Step.{State, Out, stop, go, Step, _⨾_, check, due, listed, change, withSlots, withOrder, withClock}
+use Rattle.rules.specs.Step.{State, Out, stop, go, Step, _⨾_, refuseAt, check, due, listed, change, withSlots, withOrder, withClock}
 use Rattle.rules.specs.Step.{withLast, withSaid}
 use Rattle.rules.specs.Class.{Class}
 use Rattle.rules.specs.Table.{StreamClass, EventClass, Asked}
@@ -29,7 +29,7 @@ use Rattle.rules.specs.Field.{Env, field, store, say, fromSlot}
 use Rattle.rules.specs.Packet.{mark, readRoot, withEvent, startEvent, readEvent, endPacket, readEvents, orElse, differs, startPacket}
 use Rattle.laws.proofs.Law.{Any}
 use Rattle.laws.proofs.Simple.{view, Simple, simple-root}
-use Rattle.laws.proofs.Triple.{Ok, Triple, then, passing, changing, refusing, checks, tested, untested, dued}
+use Rattle.laws.proofs.Triple.{Ok, Triple, then, passing, changing, refusing, refusing-at, checks, tested, untested, untested-at, dued}
 use Rattle.packet_alone.specs.Behind.{toEnd, upTo, less, totalOf, contentOf}
 use Rattle.packet_alone.proofs.Beside.{events-end}
 use Rattle.packet_alone.proofs.Roles.{OtherRoot, HeaderOnly, keeps-root}
@@ -69,7 +69,7 @@ module _ (A : ℕ → Type 0) where
   stops-last r i s h = tt
 
   last-simple : (e : Env) → Simple e Any (Stays OfLast) (Stays OfLast)
-  unfolding fromSlot field listed store say withSlots withOrder withClock withSaid
+  unfolding refuseAt fromSlot field listed store say withSlots withOrder withClock withSaid
   last-simple e = record {
     seq = λ a b. then AnyEntry AnyStop AnyRefusal a b;
     seqʳ = λ a b. then AnyEntry AnyStop AnyRefusal a b;
@@ -79,6 +79,9 @@ module _ (A : ℕ → Type 0) where
     refuses = λ r small. refusing AnyEntry AnyStop AnyRefusal stops-last r tt;
     checks = λ t r small. checks AnyEntry AnyStop AnyRefusal stops-last _ r tt;
     checksʳ = λ t r small a. untested AnyEntry AnyStop AnyRefusal stops-last _ r tt a;
+    refusesPast = refusing-at AnyEntry AnyStop AnyRefusal _ _ (λ s h. tt);
+    checksPastʳ = λ t a. untested-at AnyEntry AnyStop AnyRefusal _ _ (λ s h. tt) _ a;
+    refusesLarge = record { at = λ s h. (tt, tt) };
     looks = λ f a. record { at = λ s h. a (view s) .at s h };
     looksʳ = λ f a. record { at = λ s h. a (view s) .at s h };
     slots = λ i f a. record { at = λ s h. a (slotAt (s .slots) i) .at s h };

@@ -21,7 +21,7 @@ use Rattle.rules.specs.declared.Ended.{Ended}
 use Rattle.rules.specs.declared.Ended.the-variants.{After, Never}
 use Rattle.rules.specs.declared.Entry.{Entry}
 use Rattle.rules.specs.declared.Refusal.{Refusal}
-use Rattle.rules.specs.declared.Refusal.the-variants.{PastBound, OrderChanged, LebTooLarge, NoZeroByte, SlotUnset, SlotOfWrongSort}
+use Rattle.rules.specs.declared.Refusal.the-variants.{OrderChanged, NoZeroByte, SlotUnset, SlotOfWrongSort}
 use Rattle.rules.specs.declared.Refusal.the-variants.{LengthTooLarge, SelectorInNoOption, WrongMagic, WrongUuid, ClockTooLarge}
 use Rattle.rules.specs.declared.Stop.{Stop}
 use Rattle.rules.specs.Verdict.{stopAt}
@@ -31,7 +31,8 @@ use Rattle.rules.specs.Text.{textLength, zeroAt}
 use Rattle.rules.specs.Clock.{clockAfter}
 use Rattle.rules.specs.Slots.{slotAt}
 use Rattle.rules.specs.Entry.{entry, clockAdvanced}
-use Rattle.rules.specs.Step.{State, Step, _⨾_, refuse, check, due, listed, change, pass, withSlots, withOrder, withClock, withSaid}
+use Rattle.rules.specs.Step.{State, Step, _⨾_, refuse, refuseAt, check, due, listed, change, pass, withSlots, withOrder, withClock}
+use Rattle.rules.specs.Step.{withSaid}
 use Rattle.rules.specs.Class.{Role, noRole, magic, streamClassId, streamId, uuid, totalLength, contentLength, clock, endClock, discarded}
 use Rattle.rules.specs.Class.{sequence, eventClassId}
 use Rattle.rules.specs.Class.{Sort, kindOf, Sign, plain, signed as withSign, anyHolds, Class, fixed, leb128, signedLeb128}
@@ -55,7 +56,7 @@ use Rattle.facts.proofs.Truth.{and-left}
 use Rattle.facts.proofs.Faults.{pick-zero, pick-false}
 use Rattle.facts.proofs.Parsed.{parse-table}
 use Rattle.laws.proofs.Sound.{no-fault}
-use Rattle.laws.proofs.Triple.{Triple, then as thenᵗ, passing, changing, refusing, checks, untested, dued}
+use Rattle.laws.proofs.Triple.{Triple, then as thenᵗ, passing, changing, refusing, refusing-at, checks, untested, untested-at, dued}
 
 -- Classes whose numbers have no role of the stream class id
 
@@ -429,7 +430,7 @@ module _ (j : ℕ) where
 
   fitted : (e : Env) (a n : ℕ) {m : Step} → Keeps m → Keeps (fit e a n ⨾ m)
   unfolding fit
-  fitted e a n h = tested _ PastBound h
+  fitted e a n h = untested-at AnyEntry AnyStop AnyRefusal _ _ (λ s x. tt) _ h
 
   keeps-store : (i : ℕ) (x : Content) → Keeps (store i x)
   unfolding store withSlots
@@ -488,10 +489,10 @@ module _ (j : ℕ) where
     }))))
 
     keeps-leb : (k : ℕ) (c : ℕ → Content) (i : ℕ) (r : Role) → Other r → (x : Leb) → Keeps (readLeb e k c i r x)
-    unfolding readLeb
+    unfolding readLeb refuseAt
     keeps-leb k c i r w (Value v n) = keeps-field e k 8 (8 * n .0) v ⨾ᵏ keeps-store i (c v) ⨾ᵏ keeps-role r w (lebWidth n) v
-    keeps-leb k c i r w Past = keeps-refuse PastBound
-    keeps-leb k c i r w Large = keeps-refuse LebTooLarge
+    keeps-leb k c i r w Past = refusing-at AnyEntry AnyStop AnyRefusal _ _ (λ s x. tt)
+    keeps-leb k c i r w Large = record { at = λ s h. (tt, tt) }
 
     keeps-zero : (x : Ended) → Keeps (readZero e x)
     unfolding readZero

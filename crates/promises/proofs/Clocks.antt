@@ -38,7 +38,7 @@ use Rattle.rules.specs.Place.{bitPlace, further}
 use Rattle.rules.specs.Slots.{slotAt}
 use Rattle.rules.specs.Verdict.{stopAt, refusalNumber, numberOf, placeOf}
 use Rattle.rules.specs.Entry.{entry, packetStarts, streamClassFound, lengthsSettled, eventStarts, eventClassFound, clockAdvanced}
-use Rattle.rules.specs.Step.{State, Out, stop, go, Step, onto, after, _⨾_, refuse, check, due, listed}
+use Rattle.rules.specs.Step.{State, Out, stop, go, Step, onto, after, _⨾_, refuse, refuseAt, check, checkAt, due, listed}
 use Rattle.rules.specs.Step.{change, pass, withSlots, withOrder, withClock, withLast, withSaid}
 use Rattle.rules.specs.Class.{Role, noRole, magic, streamClassId, streamId, uuid, totalLength}
 use Rattle.rules.specs.Class.{contentLength, clock, endClock, discarded, sequence, eventClassId}
@@ -54,6 +54,7 @@ use Rattle.facts.proofs.Steps.{onto-nil}
 use Rattle.clock.specs.Least.{Least}
 use Rattle.clock.proofs.Least.{new-clock}
 use Rattle.laws.proofs.Law.{FieldKind, Any, any-slot, Law, law-any}
+use Rattle.laws.proofs.Places.{tenthByte}
 use Rattle.promises.specs.Clocks.{clockBehind, clocksBehind, stampBits, Ticking, NeedsMore}
 
 -- The new clock
@@ -185,6 +186,10 @@ tick-refuse : (r : Refusal) → Other r → Tick (refuse r)
 unfolding refuse
 tick-refuse r h = record { at = λ v s. (tt, λ q. absurd (h q)) }
 
+tick-refuseAt : (r : Refusal) (p : BitPlace) → Other r → Tick (refuseAt r p)
+unfolding refuseAt
+tick-refuseAt r p h = record { at = λ v s. (tt, λ q. absurd (h q)) }
+
 tick-if : (c : ℕ) (v : Entry) (b : Bool) (x y : Out) → TickOut c v x → TickOut c v y → TickOut c v (elim b [ true ↦ x | false ↦ y ])
 tick-if c v true x y h k = h
 tick-if c v false x y h k = k
@@ -192,6 +197,10 @@ tick-if c v false x y h k = k
 tick-check : (t : State → Bool) (r : Refusal) → Other r → Tick (check t r)
 unfolding check
 tick-check t r h = record { at = λ v s. tick-if (s .clock) v (t s) _ _ (tick-refuse r h .at v s) (tick-pass .at v s) }
+
+tick-checkAt : (t : State → Bool) (r : Refusal) (p : BitPlace) → Other r → Tick (checkAt t r p)
+unfolding checkAt
+tick-checkAt t r p h = record { at = λ v s. tick-if (s .clock) v (t s) _ _ (tick-refuseAt r p h .at v s) (tick-pass .at v s) }
 
 tick-due : Tick due
 unfolding due refusalNumber
@@ -329,7 +338,7 @@ no-clock h = let z : _≡_ {A = ℕ} 0 1 = cc in absurd (omega arith)
 module _ (e : Env) where
   tick-fit : (a n : ℕ) → Tick (fit e a n)
   unfolding fit refusalNumber
-  tick-fit a n = tick-check _ PastBound (λ q. omega arith)
+  tick-fit a n = tick-checkAt _ PastBound (e .bound) (λ q. omega arith)
 
   tick-fixed : (k : Sort) (n : ℕ) (o : Order) (a i : ℕ) (r : Role) → Tick (readFixed e k n o a i r)
   unfolding readFixed store withOrder withSlots refusalNumber
@@ -351,8 +360,8 @@ module _ (e : Env) where
   tick-leb k c i r (Value v n) h l =
       tick-valued e k 8 (8 * n .0) v h
       (λ q. at-change _ _ (λ s. refl) (λ s. refl) (at-role r (lebWidth n) (entry k q (8 * n .0) v) h (l q (n .0) v)))
-  tick-leb k c i r Past h l = tick-refuse PastBound (λ q. omega arith)
-  tick-leb k c i r Large h l = tick-refuse LebTooLarge (λ q. omega arith)
+  tick-leb k c i r Past h l = tick-refuseAt PastBound (e .bound) (λ q. omega arith)
+  tick-leb k c i r Large h l = record { at = λ u s. tick-refuseAt LebTooLarge (tenthByte e s) (λ q. omega arith) .at u s }
 
   tick-zero : (x : Ended) → Tick (readZero e x)
   unfolding readZero refusalNumber

@@ -1,16 +1,17 @@
 -- Entries that are all of a kind, and steps that list only such. The entries of fields have kinds 16 to 32, and those of clocks kind 6.
 use mathlib.Core.Path.{_≡_, refl}
 use mathlib.Core.Logic.{_⊎_, inl, inr}
-use mathlib.Core.List.{List}
+use mathlib.Core.List.{List, []}
 use mathlib.Core.Bool.{Bool, true, false}
 use mathlib.Core.Option.{Option}
 use Rattle.rules.specs.declared.BitPlace.{BitPlace}
 use Rattle.rules.specs.declared.Entry.{Entry}
 use Rattle.rules.specs.declared.Refusal.{Refusal}
-use Rattle.rules.specs.declared.Refusal.the-variants.{ListFull}
+use Rattle.rules.specs.declared.Refusal.the-variants.{PastBound, LebTooLarge, ListFull}
+use Rattle.rules.specs.declared.Stop.{Stop}
 use Rattle.rules.specs.Entry.{entry, clockAdvanced}
 use Rattle.rules.specs.Slots.{slotAt}
-use Rattle.rules.specs.Step.{State, Out, stop, go, Step, onto, after, _⨾_, refuse, check, due, listed, change, pass}
+use Rattle.rules.specs.Step.{State, Out, stop, go, Step, onto, after, _⨾_, refuse, refuseAt, check, checkAt, due, listed, change, pass}
 use Rattle.rules.specs.Class.{Class}
 use Rattle.rules.specs.Field.{Env, aligned, field, store, say, fromSlot}
 use Rattle.rules.specs.Packet.{readRoot}
@@ -18,6 +19,7 @@ use Rattle.facts.proofs.Steps.{listOf}
 use Rattle.laws.specs.All.{All}
 use Rattle.laws.proofs.All.{all-append}
 use Rattle.laws.proofs.Law.{FieldKind, Any}
+use Rattle.laws.proofs.Places.{tenthByte}
 use Rattle.laws.proofs.Simple.{Simple, view, simple-root}
 
 module _ (P : Entry → Type 0) where
@@ -50,13 +52,22 @@ module _ (P : Entry → Type 0) where
   unfolding refuse listOf
   each-refuse r = record { at = λ s. tt }
 
+  each-refuseAt : (r : Refusal) (p : BitPlace) → Each (refuseAt r p)
+  unfolding refuseAt listOf
+  each-refuseAt r p = record { at = λ s. tt }
+
+  each-test : (v : Stop) (s : State) (b : Bool) → All P (listOf (elim b [ true ↦ stop [] v | false ↦ pass s ]))
+  unfolding listOf
+  each-test v s true = tt
+  each-test v s false = each-pass .at s
+
   pub each-check : (t : State → Bool) (r : Refusal) → Each (check t r)
-  unfolding check
-  each-check t r = record { at = λ s. by s (t s) }
-    where
-      by : (s : State) (b : Bool) → All P (listOf (elim b [ true ↦ refuse r s | false ↦ pass s ]))
-      by s true = each-refuse r .at s
-      by s false = each-pass .at s
+  unfolding check refuse
+  each-check t r = record { at = λ s. each-test _ s (t s) }
+
+  each-checkAt : (t : State → Bool) (r : Refusal) (p : BitPlace) → Each (checkAt t r p)
+  unfolding checkAt refuseAt
+  each-checkAt t r p = record { at = λ s. each-test _ s (t s) }
 
   pub each-due : Each due
   unfolding due
@@ -86,6 +97,9 @@ fields-simple e = record {
   refuses = λ r small. each-refuse FieldEntry r;
   checks = λ t r small. each-check FieldEntry _ r;
   checksʳ = λ t r small a. _⨾ᵉ_ FieldEntry (each-check FieldEntry _ r) a;
+  refusesPast = each-refuseAt FieldEntry PastBound (e .bound);
+  checksPastʳ = λ t a. _⨾ᵉ_ FieldEntry (each-checkAt FieldEntry _ PastBound (e .bound)) a;
+  refusesLarge = each-λ FieldEntry (λ s. each-refuseAt FieldEntry LebTooLarge (tenthByte e s));
   looks = λ f a. each-λ FieldEntry {f = λ s. f (view s)} (λ s. a (view s));
   looksʳ = λ f a. each-λ FieldEntry {f = λ s. f (view s)} (λ s. a (view s));
   slots = λ i f a. record { at = λ s. a (slotAt (s .slots) i) .at s };

@@ -37,6 +37,8 @@ mod Rejected
 mod Standard
 mod Numbers
 mod Parts
+mod PlacedFields
+mod Placed
 mod Whole
 mod Onwards
 mod Cut

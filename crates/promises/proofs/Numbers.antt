@@ -9,6 +9,7 @@ use mathlib.Core.Bool.{Bool, true, false, not, _&&_, _||_}
 use mathlib.Core.Option.{Option, none, some}
 use lib.ListN.{getD}
 use borrow.Author.Tests.{le-ltb}
+use Rattle.rules.specs.declared.BitPlace.{BitPlace}
 use Rattle.rules.specs.declared.Entry.{Entry}
 use Rattle.rules.specs.declared.Content.{Content}
 use Rattle.rules.specs.declared.Content.the-variants.{Unsigned, Signed}
@@ -25,7 +26,7 @@ use Rattle.rules.specs.Clock.{clockAfter}
 use Rattle.rules.specs.Text.{zeroAt}
 use Rattle.rules.specs.Class.{Role, noRole}
 use Rattle.rules.specs.Verdict.{refusalNumber}
-use Rattle.rules.specs.Step.{State, Out, stop, go, Step, onto, after, _⨾_, refuse, check, due, listed, pass}
+use Rattle.rules.specs.Step.{State, Out, stop, go, Step, onto, after, _⨾_, refuse, refuseAt, check, checkAt, due, listed, pass}
 use Rattle.rules.specs.Field.{Env, aligned, fit, ahead, field, newClock, role, readLeb, readZero, read}
 use Rattle.facts.proofs.Truth.{clash, and-left, and-right}
 use Rattle.facts.proofs.Steps.{onto-nil}
@@ -36,7 +37,8 @@ use Rattle.clock.proofs.Least.{new-clock}
 use Rattle.text.specs.Number.{endedNumber}
 use Rattle.table_offsets.specs.declared.Body.the-variants.{Bytes, Unknown}
 use Rattle.table_offsets.specs.Bodies.{known, bodyIn, bodyOf, bodyNumber}
-use Rattle.promises.specs.Numbers.{Lists, ByNumber, AtBytes, Numbers}
+use Rattle.laws.proofs.Places.{tenthByte}
+use Rattle.promises.specs.Numbers.{Lists, ByNumber, AtBytes, lebPlace, Numbers}
 use Rattle.promises.proofs.Clocks.{after-least, after-none}
 
 -- Fields
@@ -45,11 +47,13 @@ check-passed : (t : State → Bool) (r : Refusal) (m : Step) (s : State) → t s
 unfolding check _⨾_ pass after
 check-passed t r m s h = rw (h, check) (onto-nil (m s))
 
+fit-passed : (e : Env) (a n : ℕ) (m : Step) (s : State) → (aligned e a s) .0 + n ≤ e .bound .0 → (fit e a n ⨾ m) s ≡ m s
+unfolding fit checkAt _⨾_ pass after
+fit-passed e a n m s h = rw (le-ltb (e .bound .0) ((aligned e a s) .0 + n) h, checkAt) (onto-nil (m s))
+
 at-bytes : (e : Env) (m : Step) (s : State) → AtBytes e s → (due ⨾ fit e 8 0 ⨾ m) s ≡ m s
-unfolding due fit
-at-bytes e m s h =
-    check-passed _ _ _ s (le-ltb (s .room) 4 (h .room))
-    ∙ check-passed _ _ m s (le-ltb (e .bound .0) ((aligned e 8 s) .0 + 0) (omega (arith, h .within)))
+unfolding due
+at-bytes e m s h = check-passed _ _ _ s (le-ltb (s .room) 4 (h .room)) ∙ fit-passed e 8 0 m s (omega (arith, h .within))
 
 -- an entry is listed, whatever comes behind it
 lists-onto : (x : Entry) (o : Out) → Lists (onto (x ∷ []) o)
@@ -60,16 +64,20 @@ lists-onto x (go es s) = tt
 by-zero : (s : State) (o : Out) → Lists o → ByNumber 0 (s .place) o
 by-zero s o h = record { lists = λ e. h; refuses = λ n. absurd (n refl) }
 
+by-refuseAt : (r : Refusal) (p : BitPlace) (s : State) → (refusalNumber r ≡ 0 → ⊥) → ByNumber (refusalNumber r) p (refuseAt r p s)
+unfolding refuseAt
+by-refuseAt r p s h = record { lists = λ e. absurd (h e); refuses = λ n. record { why = r; number = refl; stopped = refl } }
+
 by-refuse : (r : Refusal) (s : State) → (refusalNumber r ≡ 0 → ⊥) → ByNumber (refusalNumber r) (s .place) (refuse r s)
-unfolding refuse
-by-refuse r s h = record { lists = λ e. absurd (h e); refuses = λ n. record { why = r; number = refl; stopped = refl } }
+unfolding refuse refuseAt
+by-refuse r s h = by-refuseAt r (s .place) s h
 
 by-leb : (e : Env) (k : ℕ) (c : ℕ → Content) (i : ℕ) (r : Role) (x : Leb) (s : State)
-    → ByNumber (lebNumber x) (s .place) (readLeb e k c i r x s)
-unfolding readLeb lebNumber field _⨾_ listed after
+    → ByNumber (lebNumber x) (lebPlace e s x) (readLeb e k c i r x s)
+unfolding readLeb lebNumber lebPlace field _⨾_ listed after
 by-leb e k c i r (Value v n) s = by-zero s _ (lists-onto _ _)
-by-leb e k c i r Past s = by-refuse PastBound s (unfold refusalNumber in λ q. omega arith)
-by-leb e k c i r Large s = by-refuse LebTooLarge s (unfold refusalNumber in λ q. omega arith)
+by-leb e k c i r Past s = by-refuseAt PastBound (e .bound) s (unfold refusalNumber in λ q. omega arith)
+by-leb e k c i r Large s = by-refuseAt LebTooLarge (tenthByte e s) s (unfold refusalNumber in λ q. omega arith)
 
 by-zeroByte : (e : Env) (x : Ended) (s : State) → ByNumber (endedNumber x) (s .place) (readZero e x s)
 unfolding readZero endedNumber field listed

@@ -31,8 +31,8 @@ use Rattle.promises.specs.Laws.{Inside}
 use Rattle.laws.proofs.Law.{Any}
 use Rattle.laws.proofs.Accepted.{Fitting}
 use Rattle.laws.proofs.Triple.{Ok, then, changing, naming, checks, dued}
-use Rattle.promises.proofs.Rising.{RiseOut, Rise, Onward, rise-after, _⨾ᵘ_, rise-refuse}
-use Rattle.promises.proofs.Rising.{rise-check, rise-due, rise-change, rise-mark, rise-root}
+use Rattle.promises.proofs.Rising.{RiseOut, Rise, Onward, rise-after, _⨾ᵘ_, rise-refuse, rise-check, rise-due, rise-change}
+use Rattle.promises.proofs.Rising.{rise-mark, rise-root, rise-within}
 use Rattle.laws.proofs.Between.{In, At, NoMore}
 use Rattle.promises.proofs.Bounds.{Bounded, place-of, bound-root}
 
@@ -51,12 +51,13 @@ unfolding withEvent
 bound-with e i j none f h = naming (In e) (At e) (NoMore e) (EventClassUnknown i j) (place-of e (EventClassUnknown i j) tt)
 bound-with e i j (some d) f h = h d refl
 
-rise-with : (i j : ℕ) (x : Option EventClass) (f : EventClass → Step) → ((d : EventClass) → Rise (f d)) → Rise (withEvent i j x f)
+rise-with : {e : Env} (i j : ℕ) (x : Option EventClass) (f : EventClass → Step) → ((d : EventClass) → Rise e (f d))
+    → Rise e (withEvent i j x f)
 unfolding withEvent
 rise-with i j none f h = rise-refuse (EventClassUnknown i j)
 rise-with i j (some d) f h = h d
 
-rise-event : (t : Asked) (c : StreamClass) (e : Env) (n : ℕ) → Rise (readEvent t c e n)
+rise-event : (t : Asked) (c : StreamClass) (e : Env) (n : ℕ) → Rise e (readEvent t c e n)
 unfolding readEvent startEvent withLast
 rise-event t c e n = record {
   at = λ s₀.
@@ -131,8 +132,12 @@ ok-stops : (last : ℕ) (e : Env) → e .bound .0 ≤ last → (o : Out) → Ok 
 ok-stops last e l (stop es v) h = omega (arith, h .1 .1)
 ok-stops last e l (go es s) h = tt
 
-inside : {last : ℕ} (e : Env) → e .bound .0 ≤ last → {m : Step} → Rise m → Bounded e m → Go last (Inside e) m (Inside e)
-inside {last} e l {m} h k = record { at = λ s a. (h .at s, ok-onward e (m s) (k .at s a), ok-stops last e l (m s) (k .at s a)) }
+inside : {last : ℕ} (e : Env) → e .bound .0 ≤ last → {m : Step} → Rise e m → Bounded e m → Go last (Inside e) m (Inside e)
+inside {last} e l {m} h k = record {
+  at = λ s a.
+      let ok = k .at s a in
+      (rise-within e (Inside e) (s .place .0) (m s) (a .to) ok (h .at s), ok-onward e (m s) ok, ok-stops last e l (m s) ok);
+}
 
 inside-le : (last : ℕ) (e : Env) → e .bound .0 ≤ last → Not-behind last (Inside e)
 inside-le last e l s a = omega (arith, a .to)
@@ -141,13 +146,12 @@ inside-le last e l s a = omega (arith, a .to)
 go-check : {last : ℕ} {A : State → Type 0} → Not-behind last A → (q : State → Bool) (r : Refusal)
     → Go last A (check q r) (λ s. A s × (q s ≡ false))
 unfolding check
-go-check {last} {A} l q r = record { at = λ s a. let g = by s a (q s) refl in (rise-check q r .at s, g .0, g .1) }
+go-check {last} {A} l q r = record { at = λ s a. by s a (q s) refl }
   where
     by : (s : State) → A s → (b : Bool) → q s ≡ b
-        → Onward (λ s. A s × (q s ≡ false)) (elim b [ true ↦ refuse r s | false ↦ pass s ])
-        × Stops last (elim b [ true ↦ refuse r s | false ↦ pass s ])
-    by s a true h = unfold refuse in (tt, l s a)
-    by s a false h = unfold pass in ((a, h), tt)
+        → Goes last (λ s. A s × (q s ≡ false)) (s .place .0) (elim b [ true ↦ refuse r s | false ↦ pass s ])
+    by s a true h = unfold refuse in (le-refl (s .place .0), tt, l s a)
+    by s a false h = unfold pass in (le-refl (s .place .0), (a, h), tt)
 
 go-same : {last : ℕ} {A : State → Type 0} → Not-behind last A → (q : State → Bool) (r : Refusal) → Go last A (check q r) A
 go-same {last} {A} l q r = record {
@@ -165,7 +169,7 @@ go-refuse l r = record { at = λ s a. (le-refl (s .place .0), tt, l s a) }
 go-change : {last : ℕ} {A B : State → Type 0} (f : State → State) → ((s : State) → (f s) .place ≡ s .place) → ((s : State) → A s → B (f s))
     → Go last A (change f) B
 unfolding change
-go-change f h k = record { at = λ s a. (rise-change f h .at s, k s a, tt) }
+go-change f h k = record { at = λ s a. (rw (h s) (le-refl (s .place .0)), k s a, tt) }
 
 -- the state behind an entry at the place
 abbrev less : State → State
@@ -181,7 +185,7 @@ less s = record {
 
 go-mark : {last : ℕ} {A B : State → Type 0} (k n v : ℕ) → ((s : State) → A s → B (less s)) → Go last A (mark k n v) B
 unfolding mark listed
-go-mark k n v f = record { at = λ s a. (rise-mark k n v .at s, f s a, tt) }
+go-mark k n v f = record { at = λ s a. ((le-refl (s .place .0), le-refl (s .place .0)), f s a, tt) }
 
 go-end : {last : ℕ} (to : BitPlace) (n : ℕ) → to .0 ≤ last → {A : State → Type 0} → Not-behind (to .0) A
     → Go last A (endPacket to n) (λ s. s .place ≡ to)

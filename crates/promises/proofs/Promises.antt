@@ -8,6 +8,7 @@ use Rattle.promises.proofs.Finds.{demand-3-figures}
 use Rattle.promises.proofs.Laws.{the-laws}
 use Rattle.promises.proofs.Elements.{elements}
 use Rattle.promises.proofs.SlotHomes.{slot-homes}
+use Rattle.promises.proofs.Placed.{placed}
 use Rattle.promises.proofs.Promised.{demands}
 use Rattle.promises.proofs.Only.{no-slack}
 use Rattle.promises.proofs.OnlyRan.{no-slack-ran}
@@ -36,6 +37,7 @@ all-promises = record {
   the-laws = the-laws;
   elements = elements;
   slot-homes = slot-homes;
+  places = placed;
   bits-cut = bits-cut;
   leb-settled = leb-settled;
   apart = apart;

@@ -13,13 +13,14 @@ use Rattle.rules.specs.declared.Entry.{Entry}
 use Rattle.rules.specs.declared.Stated.{Stated}
 use Rattle.rules.specs.declared.Stated.the-variants.{Missing}
 use Rattle.rules.specs.declared.Refusal.{Refusal}
-use Rattle.rules.specs.declared.Refusal.the-variants.{StreamSize, ListFull}
+use Rattle.rules.specs.declared.Refusal.the-variants.{StreamSize, PastBound, LebTooLarge, ListFull}
 use Rattle.rules.specs.declared.Verdict.the-variants.{Refused}
 use Rattle.rules.specs.Limits.{wordsPerEntry, streamLimit}
 use Rattle.rules.specs.Verdict.{stopAt, refusalNumber, numberOf}
 use Rattle.rules.specs.Place.{bitPlace}
 use Rattle.rules.specs.Slots.{slotAt}
-use Rattle.rules.specs.Step.{State, Out, stop, go, Step, onto, after, _⨾_, refuse, check, due, listed, change, pass, withSlots, withOrder, withClock, withLast, withSaid}
+use Rattle.rules.specs.Step.{State, Out, stop, go, Step, onto, after, _⨾_, refuse, refuseAt, check, checkAt, due, listed, change, pass}
+use Rattle.rules.specs.Step.{withSlots, withOrder, withClock, withLast, withSaid}
 use Rattle.rules.specs.Table.{Asked, asked}
 use Rattle.rules.specs.Field.{Env, aligned, field, store, say, fromSlot}
 use Rattle.rules.specs.Packet.{readPacket, readPackets, mark, startEvent, startPacket, endPacket}
@@ -28,6 +29,7 @@ use Rattle.rules.specs.Read.{Reading, ended, begin, readStream, readAll, readPa
 use Rattle.facts.proofs.Steps.{onto-nil, onto-onto, after-onto}
 use Rattle.promises.specs.Laws.{RanOut}
 use Rattle.laws.proofs.Law.{Any}
+use Rattle.laws.proofs.Places.{tenthByte}
 use Rattle.laws.proofs.Simple.{Simple, View, view}
 use Rattle.promises.proofs.Simple.{SimplePackets, simple-packet, simple-packets}
 
@@ -97,6 +99,10 @@ wide-refuse : (r : Refusal) → Wide (refuse r)
 unfolding refuse wide more
 wide-refuse r = record { at = λ d s. inl refl }
 
+wide-refuseAt : (r : Refusal) (p : BitPlace) → Wide (refuseAt r p)
+unfolding refuseAt wide
+wide-refuseAt r p = record { at = λ d s. inl refl }
+
 wider-if : (d : ℕ) (b : Bool) (x x′ y y′ : Out) → Wider d x x′ → Wider d y y′ → Wider d (elim b [ true ↦ x | false ↦ y ]) (elim b [ true ↦ x′ | false ↦ y′ ])
 wider-if d true x x′ y y′ h k = h
 wider-if d false x x′ y y′ h k = k
@@ -106,14 +112,21 @@ wide-check : (t : View → Bool) (r : Refusal) → Wide (check (λ s. t (view s)
 unfolding check more
 wide-check t r = record { at = λ d s. wider-if d (t (view s)) _ _ _ _ (wide-refuse r .at d s) (wide-pass .at d s) }
 
-check-narrow : (t : View → Bool) (r : Refusal) {m : Step} → WideR m → WideR (check (λ s. t (view s)) r ⨾ m)
-unfolding check _⨾_ more
-check-narrow t r {m} k = record { at = λ d s q. by d s q (t (view s)) }
-  where
-    by : (d : ℕ) (s : State) → wordsPerEntry ≤ s .room → (b : Bool)
-        → Wider d (after (elim b [ true ↦ refuse r s | false ↦ pass s ]) m) (after (elim b [ true ↦ refuse r (more d s) | false ↦ pass (more d s) ]) m)
-    by d s q true = unfold wide refuse after in inl refl
-    by d s q false = unfold pass after in rw (onto-nil (m s), onto-nil (m (more d s))) (k .at d s q)
+module _ (t : View → Bool) (r : Refusal) {m : Step} (k : WideR m) where
+  test-narrow : (p : BitPlace) (d : ℕ) (s : State) → wordsPerEntry ≤ s .room → (b : Bool)
+      → Wider d (after (elim b [ true ↦ stop [] (stopAt r p) | false ↦ pass s ]) m)
+      (after (elim b [ true ↦ stop [] (stopAt r p) | false ↦ pass (more d s) ]) m)
+  unfolding wide pass after
+  test-narrow p d s q true = inl refl
+  test-narrow p d s q false = rw (onto-nil (m s), onto-nil (m (more d s))) (k .at d s q)
+
+  check-narrow : WideR (check (λ s. t (view s)) r ⨾ m)
+  unfolding check refuse _⨾_ more
+  check-narrow = record { at = λ d s q. test-narrow (s .place) d s q (t (view s)) }
+
+  checkAt-narrow : (p : BitPlace) → WideR (checkAt (λ s. t (view s)) r p ⨾ m)
+  unfolding checkAt refuseAt _⨾_ more
+  checkAt-narrow p = record { at = λ d s q. test-narrow p d s q (t (view s)) }
 
 due-wide : {m : Step} → WideR m → Wide (due ⨾ m)
 unfolding due check _⨾_ pass refuse after
@@ -145,6 +158,9 @@ wide-simple e = record {
   refuses = λ r small. record { at = λ d s q. wide-refuse r .at d s };
   checks = λ t r small. wide-check t r;
   checksʳ = λ t r small h. check-narrow t r h;
+  refusesPast = record { at = λ d s q. wide-refuseAt PastBound (e .bound) .at d s };
+  checksPastʳ = λ t h. checkAt-narrow t PastBound h (e .bound);
+  refusesLarge = record { at = λ d s q. wide-refuseAt LebTooLarge (tenthByte e s) .at d s };
   looks = λ f h. record { at = λ d s. h (view s) .at d s };
   looksʳ = λ f h. record { at = λ d s r. h (view s) .at d s r };
   slots = λ i f h. record { at = λ d s r. h (slotAt (s .slots) i) .at d s r };

@@ -17,7 +17,7 @@ use Rattle.rules.specs.Table.{StreamClass, EventClass, Asked}
 use Rattle.rules.specs.Field.{Env}
 use Rattle.rules.specs.Packet.{readEvent, readEvents, withEvent, readRoot, startEvent, endPacket}
 use Rattle.facts.proofs.Truth.{if-agree}
-use Rattle.promises.proofs.Rising.{RiseOut, Rise, rising-le, rise-check, rise-due, rise-change, rise-mark, rise-root}
+use Rattle.promises.proofs.Rising.{RiseIn, Rise, rising-le, rise-check, rise-due, rise-change, rise-mark, rise-root}
 
 -- a step that goes on, goes on from a place p or behind it
 abbrev From : ℕ → Out → Type 0
@@ -37,12 +37,12 @@ unfolding after
 from-after p q (stop es v) n h k = tt
 from-after p q (go es s) n h k = from-onto q es (n s) (k s h)
 
-rise-from : (p : ℕ) (s : State) (o : Out) → RiseOut (s .place .0) o → p ≤ s .place .0 → From p o
-rise-from p s (stop es v) h k = tt
-rise-from p s (go es s′) h k = omega (arith, rising-le es (s .place .0) (s′ .place .0) h)
+rise-from : (e : Env) (p : ℕ) (s : State) (o : Out) → RiseIn e (s .place .0) o → p ≤ s .place .0 → From p o
+rise-from e p s (stop es v) h k = tt
+rise-from e p s (go es s′) h k = omega (arith, rising-le es (s .place .0) (s′ .place .0) h)
 
-rising : {m : Step} → Rise m → Onward m
-rising {m} h = record { at = λ p s k. rise-from p s (m s) (h .at s) k }
+rising : (e : Env) {m : Step} → Rise e m → Onward m
+rising e {m} h = record { at = λ p s k. rise-from e p s (m s) (h .at s) k }
 
 event-onward : (i j : ℕ) (x : Option EventClass) (f : EventClass → Step) → ((d : EventClass) → Onward (f d)) → Onward (withEvent i j x f)
 unfolding withEvent refuse
@@ -74,16 +74,16 @@ above-moved p = record { at = λ s l. by s l (eqb (s .place .0) p) refl }
 event-moves : (t : Asked) (c : StreamClass) (e : Env) (n : ℕ) (s : State) → From (suc (s .place .0)) (readEvent t c e n s)
 unfolding readEvent startEvent withLast
 event-moves t c e n s₀ =
-    (rising rise-due ⨾ᵃ rising (rise-mark 4 0 n) ⨾ᵃ rising (rise-change _ (λ s. refl)) ⨾ᵃ root (c .header) ⨾ᵃ rising (rise-check _ ClockWentBack)
-    ⨾ᵃ rising (rise-change _ (λ s. refl)) ⨾ᵃ rising rise-due
+    (rising e rise-due ⨾ᵃ rising e (rise-mark 4 0 n) ⨾ᵃ rising e (rise-change _ (λ s. refl)) ⨾ᵃ root (c .header)
+    ⨾ᵃ rising e (rise-check _ ClockWentBack) ⨾ᵃ rising e (rise-change _ (λ s. refl)) ⨾ᵃ rising e rise-due
     ⨾ᵃ record {
       at = λ p s l. event-onward (c .id) (s .said .event) _ _
-          (λ d. rising (rise-mark 5 0 (s .said .event)) ⨾ᵒ root (c .common) ⨾ᵒ root (d .specific) ⨾ᵒ root (d .payload)) .at p s l;
+          (λ d. rising e (rise-mark 5 0 (s .said .event)) ⨾ᵒ root (c .common) ⨾ᵒ root (d .specific) ⨾ᵒ root (d .payload)) .at p s l;
     }
     ⨾ᵃ above-moved (s₀ .place .0)) .at s₀ (le-refl (s₀ .place .0))
   where
     root : (x : Option Class) → Onward (readRoot e x)
-    root x = rising (rise-root e x)
+    root x = rising e (rise-root e x)
 
 -- steps that agree wherever an outcome goes on
 after-agree : (p : ℕ) (o : Out) (n n′ : Step) → From p o → ((s : State) → p ≤ s .place .0 → n s ≡ n′ s) → after o n ≡ after o n′

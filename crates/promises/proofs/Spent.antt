@@ -12,14 +12,14 @@ use Rattle.rules.specs.declared.Entry.{Entry}
 use Rattle.rules.specs.declared.Stated.{Stated}
 use Rattle.rules.specs.declared.Stated.the-variants.{Missing}
 use Rattle.rules.specs.declared.Refusal.{Refusal}
-use Rattle.rules.specs.declared.Refusal.the-variants.{StreamSize, ListFull}
+use Rattle.rules.specs.declared.Refusal.the-variants.{StreamSize, PastBound, LebTooLarge, ListFull}
 use Rattle.rules.specs.declared.Stop.{Stop}
 use Rattle.rules.specs.declared.Verdict.the-variants.{Refused}
 use Rattle.rules.specs.Limits.{wordsPerEntry, streamLimit}
 use Rattle.rules.specs.Verdict.{stopAt, refusalNumber, numberOf}
 use Rattle.rules.specs.Place.{bitPlace}
 use Rattle.rules.specs.Slots.{slotAt}
-use Rattle.rules.specs.Step.{State, Out, stop, go, Step, onto, after, _⨾_, refuse, check, due, listed}
+use Rattle.rules.specs.Step.{State, Out, stop, go, Step, onto, after, _⨾_, refuse, refuseAt, check, checkAt, due, listed}
 use Rattle.rules.specs.Step.{change, pass, withSlots, withOrder, withClock, withLast, withSaid}
 use Rattle.rules.specs.Table.{Asked, asked}
 use Rattle.rules.specs.Field.{Env, field, store, say, fromSlot}
@@ -29,6 +29,7 @@ use Rattle.rules.specs.Read.{ended, begin, readStream, readAll, readParsed}
 use Rattle.facts.proofs.Steps.{onto-nil}
 use Rattle.promises.specs.Laws.{SpentReading}
 use Rattle.laws.proofs.Law.{Any}
+use Rattle.laws.proofs.Places.{tenthByte}
 use Rattle.laws.proofs.Simple.{Simple, view}
 use Rattle.promises.proofs.Simple.{SimplePackets, simple-packet, simple-packets}
 
@@ -70,9 +71,13 @@ spent-pass : Spent pass
 unfolding pass
 spent-pass = record { at = λ s. omega arith }
 
+spent-refuseAt : (r : Refusal) (p : BitPlace) → refusalNumber r < 40 → Spent (refuseAt r p)
+unfolding refuseAt
+spent-refuseAt r p h = record { at = λ s. record { within = omega arith; full = λ e. absurd (omega arith) } }
+
 spent-refuse : (r : Refusal) → refusalNumber r < 40 → Spent (refuse r)
-unfolding refuse
-spent-refuse r h = record { at = λ s. record { within = omega arith; full = λ e. absurd (omega arith) } }
+unfolding refuse refuseAt
+spent-refuse r h = record { at = λ s. spent-refuseAt r (s .place) h .at s }
 
 spent-if : (s : State) (b : Bool) (x y : Out) → SpentOut s x → SpentOut s y → SpentOut s (elim b [ true ↦ x | false ↦ y ])
 spent-if s true x y h k = h
@@ -82,13 +87,21 @@ spent-check : (t : State → Bool) (r : Refusal) → refusalNumber r < 40 → Sp
 unfolding check
 spent-check t r h = record { at = λ s. spent-if s (t s) _ _ (spent-refuse r h .at s) (spent-pass .at s) }
 
-check-narrow : (t : State → Bool) (r : Refusal) {m : Step} → refusalNumber r < 40 → SpentR m → SpentR (check t r ⨾ m)
-unfolding check _⨾_ pass refuse after
-check-narrow t r {m} h k = record { at = λ s q. by s q (t s) }
-  where
-    by : (s : State) → wordsPerEntry ≤ s .room → (b : Bool) → SpentOut s (after (elim b [ true ↦ refuse r s | false ↦ pass s ]) m)
-    by s q true = spent-refuse r h .at s
-    by s q false = rw (onto-nil (m s)) (k .at s q)
+-- behind a test
+module _ (r : Refusal) (h : refusalNumber r < 40) {m : Step} (k : SpentR m) where
+  test-narrow : (p : BitPlace) (s : State) → wordsPerEntry ≤ s .room → (b : Bool)
+      → SpentOut s (after (elim b [ true ↦ refuseAt r p s | false ↦ pass s ]) m)
+  unfolding pass refuseAt after
+  test-narrow p s q true = spent-refuseAt r p h .at s
+  test-narrow p s q false = rw (onto-nil (m s)) (k .at s q)
+
+  check-narrow : (t : State → Bool) → SpentR (check t r ⨾ m)
+  unfolding check _⨾_ refuse refuseAt
+  check-narrow t = record { at = λ s q. test-narrow (s .place) s q (t s) }
+
+  checkAt-narrow : (t : State → Bool) (p : BitPlace) → SpentR (checkAt t r p ⨾ m)
+  unfolding checkAt _⨾_
+  checkAt-narrow t p = record { at = λ s q. test-narrow p s q (t s) }
 
 due-spent : {m : Step} → SpentR m → Spent (due ⨾ m)
 unfolding due check _⨾_ pass refuse after
@@ -105,7 +118,7 @@ unfolding listed
 spent-listed e p s r = omega arith
 
 spent-simple : (e : Env) → Simple e Any Spent SpentR
-unfolding _⨾_ field store say fromSlot withSlots withOrder withClock withSaid
+unfolding _⨾_ refusalNumber field store say fromSlot withSlots withOrder withClock withSaid
 spent-simple e = record {
   seq = λ {m} {n} h k. record { at = λ s. spent-after s (m s) n (h .at s) k };
   seqʳ = λ {m} {n} h k. record { at = λ s r. spent-after s (m s) n (h .at s r) k };
@@ -114,7 +127,10 @@ spent-simple e = record {
   passes = spent-pass;
   refuses = λ r small. record { at = λ s q. spent-refuse r small .at s };
   checks = λ t r small. spent-check _ r small;
-  checksʳ = λ t r small h. check-narrow _ r small h;
+  checksʳ = λ t r small h. check-narrow r small h _;
+  refusesPast = record { at = λ s q. spent-refuseAt PastBound (e .bound) (omega arith) .at s };
+  checksPastʳ = λ t h. checkAt-narrow PastBound (omega arith) h _ (e .bound);
+  refusesLarge = record { at = λ s q. spent-refuseAt LebTooLarge (tenthByte e s) (omega arith) .at s };
   looks = λ f h. record { at = λ s. h (view s) .at s };
   looksʳ = λ f h. record { at = λ s r. h (view s) .at s r };
   slots = λ i f h. record { at = λ s r. h (slotAt (s .slots) i) .at s r };

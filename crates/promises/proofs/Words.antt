@@ -23,7 +23,7 @@ use Rattle.rules.specs.declared.Ended.{Ended}
 use Rattle.rules.specs.declared.Ended.the-variants.{After, Never}
 use Rattle.rules.specs.declared.Entry.{Entry}
 use Rattle.rules.specs.declared.Refusal.{Refusal}
-use Rattle.rules.specs.declared.Refusal.the-variants.{PastBound, OrderChanged, LebTooLarge, NoZeroByte, SlotUnset, SlotOfWrongSort}
+use Rattle.rules.specs.declared.Refusal.the-variants.{PastBound, OrderChanged, NoZeroByte, SlotUnset, SlotOfWrongSort}
 use Rattle.rules.specs.declared.Refusal.the-variants.{LengthTooLarge, SelectorInNoOption, WrongMagic, WrongUuid, ClockTooLarge}
 use Rattle.rules.specs.Verdict.{stopAt}
 use Rattle.rules.specs.Bits.{bits}
@@ -33,7 +33,8 @@ use Rattle.rules.specs.Text.{textLength, zeroAt}
 use Rattle.rules.specs.Place.{alignFrom, roundUp}
 use Rattle.rules.specs.Slots.{slotAt}
 use Rattle.rules.specs.Entry.{entry, clockAdvanced}
-use Rattle.rules.specs.Step.{State, Out, Step, _⨾_, refuse, check, due, listed, change, pass, withSlots, withOrder, withClock, withSaid}
+use Rattle.rules.specs.Step.{State, Out, Step, _⨾_, refuse, refuseAt, check, due, listed, change, pass}
+use Rattle.rules.specs.Step.{withSlots, withOrder, withClock, withSaid}
 use Rattle.rules.specs.Class.{Role, noRole, magic, streamClassId, streamId, uuid, totalLength}
 use Rattle.rules.specs.Class.{contentLength, clock, endClock, discarded, sequence, eventClassId}
 use Rattle.rules.specs.Class.{Class, Sort, bitArray, boolean, unsignedInt, signedInt, float, kindOf}
@@ -41,11 +42,12 @@ use Rattle.rules.specs.Field.{Env, aligned, fit, field, store, newClock, say, r
 use Rattle.rules.specs.Field.{slotOf, ahead, bytesAt, readFixed, readLeb, readZero, readText, readBlob}
 use Rattle.rules.specs.Packet.{readRoot}
 use Rattle.leb128.proofs.ValueSays.{unsigned-value, signed-value}
+use Rattle.leb128.proofs.Settled.{unsigned-reaches, signed-reaches}
 use Rattle.text.proofs.Laws.{text-le, zero-found}
-use Rattle.laws.proofs.Places.{LebFits, ahead-fits}
+use Rattle.laws.proofs.Places.{LebFits, LebReaches, ahead-fits, tenth-fits}
 use Rattle.promises.specs.Words.{Word, WordEntry, WordIds, WordStop}
 use Rattle.laws.proofs.Law.{Any, SlotOf, Law, FitRoot, law-root}
-use Rattle.laws.proofs.Triple.{Ok, Triple, then, passing, changing, refusing, checks, tested, untested, dued}
+use Rattle.laws.proofs.Triple.{Ok, Triple, then, passing, changing, refusing, refusing-at, checks, tested-at, untested, untested-at, dued}
 use Rattle.promises.proofs.Values.{value-word, clock-word, WordSlots, slot-word, set-word, slotOf-word}
 
 abbrev pub StatedWord : Stated → Type 0
@@ -179,13 +181,16 @@ module _ (e : Env) (g : Env64 e) where
   abbrev Room : ℕ → ℕ → State → Type 0
   Room a n s = Wordy s × ((aligned e a s) .0 + n ≤ e .bound .0)
 
+  at-bound : (s : State) → Wordy s → WordStop (stopAt PastBound (e .bound))
+  at-bound s h = (g .bound, tt)
+
   fitting : (a n : ℕ) {m : Step} → Fine (Room a n) m → Worded (fit e a n ⨾ m)
   unfolding fit
-  fitting a n h = tested WordEntry WordStop WordIds place-of _ PastBound tt (record { at = λ s x. h .at s (x .0, ltb-false _ _ (x .1)) })
+  fitting a n h = tested-at WordEntry WordStop WordIds _ _ at-bound _ (record { at = λ s x. h .at s (x .0, ltb-false _ _ (x .1)) })
 
   plain-fit : (a n : ℕ) {m : Step} → Worded m → Worded (fit e a n ⨾ m)
   unfolding fit
-  plain-fit a n h = untested WordEntry WordStop WordIds place-of _ PastBound tt h
+  plain-fit a n h = untested-at WordEntry WordStop WordIds _ _ at-bound _ h
 
   a-field : (k a n v : ℕ) → k ≤ 32 → Word v → Fine (Room a n) (field e k a n v)
   unfolding field
@@ -219,11 +224,14 @@ module _ (e : Env) (g : Env64 e) where
       }))))
 
   word-leb : (k : ℕ) (sl : ℕ → Content) (i : ℕ) (r : Role) (x : Leb) (s : State) → k ≤ 32 → ((v : ℕ) → Word v → SlotOf Word (sl v))
-      → Wordy s → (aligned e 8 s) .0 ≤ e .bound .0 → LebFits (ahead e (aligned e 8 s)) x → WordedOut (readLeb e k sl i r x s)
+      → Wordy s → (aligned e 8 s) .0 ≤ e .bound .0 → LebFits (ahead e (aligned e 8 s)) x → LebReaches (ahead e (aligned e 8 s)) x
+      → WordedOut (readLeb e k sl i r x s)
   unfolding readLeb
-  word-leb k sl i r Past s q f h b p = word-refuse PastBound tt .at s h
-  word-leb k sl i r Large s q f h b p = word-refuse LebTooLarge tt .at s h
-  word-leb k sl i r (Value v n) s q f h b p =
+  word-leb k sl i r Past s q f h b p t = refusing-at WordEntry WordStop WordIds _ _ at-bound .at s h
+  word-leb k sl i r Large s q f h b p t =
+      let bound : Word (e .bound .0) = g .bound in
+      unfold refuseAt in (tt, (omega (arith, tenth-fits e s b (t refl)), tt))
+  word-leb k sl i r (Value v n) s q f h b p t =
       let y = p v n refl in
       let u : Word v = y .fits in
       (a-field k 8 (8 * n .0) v q u ⨾ʷ word-store i (sl v) (f v u) ⨾ʷ word-role r (7 * n .0) v (omega (arith, y .most)) u) .at s
@@ -264,12 +272,12 @@ module _ (e : Env) (g : Env64 e) where
     lebs = λ i r z. at-zero (record {
       at = λ s x.
           let l = lebUnsigned (ahead e (aligned e 8 s)) in
-          word-leb 21 Unsigned i r l s (omega arith) (λ v w. w) (x .0) (x .1) (unsigned-value _);
+          word-leb 21 Unsigned i r l s (omega arith) (λ v w. w) (x .0) (x .1) (unsigned-value _) (unsigned-reaches _);
     });
     signedLebs = λ i z. at-zero (record {
       at = λ s x.
           let l = lebSigned (ahead e (aligned e 8 s)) in
-          word-leb 22 Signed i noRole l s (omega arith) (λ v w. w) (x .0) (x .1) (signed-value _);
+          word-leb 22 Signed i noRole l s (omega arith) (λ v w. w) (x .0) (x .1) (signed-value _) (signed-reaches _);
     });
     zeros = at-zero (record { at = λ s x. word-zero (zeroAt (ahead e (aligned e 8 s))) s (x .0) (x .1) (λ n z. zero-found _ n z .0) });
     texts = λ k n h. unfold readText in

@@ -66,6 +66,12 @@ signedLebIn slot = 22 ∷ slot ∷ []
 abbrev pub string : List ℕ
 string = 23 ∷ []
 
+abbrev pub staticString : ℕ → List ℕ
+staticString n = 24 ∷ n ∷ 0 ∷ []
+
+abbrev pub staticBlob : ℕ → List ℕ
+staticBlob n = 25 ∷ n ∷ 0 ∷ 0 ∷ []
+
 abbrev pub dynamicBlob : ℕ → List ℕ
 dynamicBlob slot = 27 ∷ slot ∷ []
 
@@ -119,6 +125,13 @@ stamped =
 -- a packet context of total and content lengths
 abbrev pub measured : List ℕ
 measured = preamble ++ streamClass 0 255 ++ root 1 ++ structure 2 ++ plain 255 5 ++ plain 255 6
+
+-- the same, and events of one field; a packet of 24 bits whose content has 20, of which the context takes 16
+abbrev pub content20 : List ℕ → List ℕ
+content20 c = measured ++ eventClass 0 0 ++ root 5 ++ structure 1 ++ c
+
+abbrev pub inContent20 : List ℕ
+inContent20 = 24 ∷ 20 ∷ 0 ∷ 0 ∷ []
 
 -- the first event sets slot 16, and the second one only reads it
 abbrev pub remembered : List ℕ
@@ -205,10 +218,25 @@ pub record Cases : Type 0 where
   pub no-option : answer (chosen 2 (option 1 ++ range 0 3 ++ string ++ option 1 ++ range 5 9 ++ plain 255 0)) (4 ∷ 1 ∷ []) ≡ result 29 7 8 0 0
   -- a string with no zero byte
   pub endless : answer (payload (structure 1 ++ string)) (97 ∷ 98 ∷ []) ≡ result 25 6 0 0 0
-  -- nine bytes that go on and no tenth; ten that go on; ten whose number needs 65 bits
-  pub leb-cut : answer (payload (structure 1 ++ leb128)) (replicate 9 128) ≡ result 22 6 0 0 0
-  pub leb-long : answer (payload (structure 1 ++ leb128)) (replicate 10 128) ≡ result 24 6 0 0 0
-  pub leb-large : answer (payload (structure 1 ++ leb128)) (replicate 9 128 ++ (2 ∷ [])) ≡ result 24 6 0 0 0
+  -- nine bytes that go on and no tenth; ten that go on; ten whose number needs 65 bits; and the same behind a field
+  pub leb-cut : answer (payload (structure 1 ++ leb128)) (replicate 9 128) ≡ result 22 6 72 0 0
+  pub leb-long : answer (payload (structure 1 ++ leb128)) (replicate 10 128) ≡ result 24 6 72 0 0
+  pub leb-large : answer (payload (structure 1 ++ leb128)) (replicate 9 128 ++ (2 ∷ [])) ≡ result 24 6 72 0 0
+  pub leb-behind : answer (payload (structure 2 ++ unsigned 4 0 0 255 0 ++ leb128)) (0 ∷ (replicate 9 128 ++ (2 ∷ []))) ≡ result 24 7 80 0 0
+  pub signed-leb-behind : answer (payload (structure 2 ++ unsigned 4 0 0 255 0 ++ signedLebIn 16)) (0 ∷ (replicate 9 128 ++ (1 ∷ []))) ≡ result 24 7 80 0 0
+  -- "For 22 the place becomes the bound that would be crossed." (02, 8): the stream's end in a context; the content's end, in bits, behind it. A
+  -- field's bits and its alignment; a structure that cannot be entered; whole bytes: of a BLOB, of a text, of a number in LEB128
+  pub bound-stream : answer (preamble ++ streamClass 0 255 ++ root 1 ++ structure 1 ++ unsigned 16 0 0 255 5) (16 ∷ []) ≡ result 22 3 8 0 0
+  pub bound-bits : answer (content20 (unsigned 5 0 0 255 0)) inContent20 ≡ result 22 9 20 0 0
+  pub bound-align : answer (content20 (structure 2 ++ unsigned 1 0 0 255 0 ++ unsigned 1 0 3 255 0)) inContent20 ≡ result 22 11 20 0 0
+  pub bound-structure : answer (content20 (unsigned 1 0 5 255 0)) inContent20 ≡ result 22 8 20 0 0
+  pub bound-array : answer (content20 (structure 2 ++ unsigned 1 0 0 255 0 ++ staticArray 1 ++ unsigned 1 0 3 255 0)) inContent20 ≡ result 22 11 20 0 0
+  pub bound-blob : answer (content20 (staticBlob 1)) inContent20 ≡ result 22 9 20 0 0
+  pub bound-text : answer (content20 (staticString 1)) inContent20 ≡ result 22 9 20 0 0
+  pub bound-leb : answer (content20 leb128) inContent20 ≡ result 22 9 20 0 0
+  pub bound-string : answer (content20 (structure 2 ++ unsigned 1 0 0 255 0 ++ string)) inContent20 ≡ result 22 11 20 0 0
+  -- no zero byte is 25 at the field, before its alignment
+  pub endless-behind : answer (payload (structure 2 ++ unsigned 4 0 0 255 0 ++ string)) (0 ∷ 97 ∷ []) ≡ result 25 7 4 0 0
   -- content above total; a total that is no multiple of 8; a total past the stream; a content that ends before the context does
   pub content-above : answer measured (16 ∷ 24 ∷ 0 ∷ []) ≡ result 34 5 16 0 0
   pub total-odd : answer measured (20 ∷ 16 ∷ 0 ∷ []) ≡ result 34 5 16 0 0

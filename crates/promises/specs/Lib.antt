@@ -16,4 +16,5 @@ pub mod Rejected
 pub mod Standard
 pub mod Numbers
 pub mod Parts
+pub mod Places
 pub mod Promises

@@ -2,14 +2,16 @@
 -- where they are 0; and a record of no kind. In order: what a number says of an outcome; when a field gets so far; the numbers.
 use mathlib.Core.Path.{_≡_}
 use mathlib.Core.Logic.{_↔_}
-use Prim.Native.Nat.{ℕ, _%_, _^_, _≤_}
+use Prim.Native.Nat.{ℕ, _-_, _*_, _%_, _^_, _≤_}
 use mathlib.Core.List.{List, [], _∷_}
 use mathlib.Core.Bool.{Bool}
 use Rattle.rules.specs.declared.BitPlace.{BitPlace}
 use Rattle.rules.specs.declared.Refusal.{Refusal}
-use Rattle.rules.specs.declared.Leb.the-variants.{Past, Large}
+use Rattle.rules.specs.declared.Leb.{Leb}
+use Rattle.rules.specs.declared.Leb.the-variants.{Value, Past, Large}
 use Rattle.rules.specs.declared.Ended.the-variants.{Never}
-use Rattle.rules.specs.Limits.{wordsPerEntry}
+use Rattle.rules.specs.Limits.{wordsPerEntry, lebLimit}
+use Rattle.rules.specs.Place.{further}
 use Rattle.rules.specs.Record.{u8, recordOf}
 use Rattle.rules.specs.Faults.{Ids, firstFault, recordFault}
 use Rattle.rules.specs.Leb128.{lebUnsigned, lebSigned}
@@ -40,8 +42,8 @@ pub record RefusedBy (n : ℕ) (p : BitPlace) (o : Out) : Type 0 where
   pub number : refusalNumber why ≡ n
   pub stopped : o ≡ stop [] (stopAt why p)
 
--- what a number says of the outcome of a field, or of a role, that began at a place: 0, that its entry is listed; any other, that it is
--- refused there by this number
+-- what a number says of the outcome of a field or of a role: 0, that its entry is listed; any other, that it is refused at a place by
+-- this number
 pub record ByNumber (n : ℕ) (p : BitPlace) (o : Out) : Type 0 where
   pub lists : n ≡ 0 → Lists o
   pub refuses : (n ≡ 0 → ⊥) → RefusedBy n p o
@@ -51,6 +53,12 @@ pub record AtBytes (e : Env) (s : State) : Type 0 where
   pub room : wordsPerEntry ≤ s .room
   pub within : (aligned e 8 s) .0 ≤ e .bound .0
 
+-- where a LEB128 number is refused: at the bound for 22, at the first bit of its tenth byte for 24 (02, 8)
+unfoldable pub lebPlace : Env → State → Leb → BitPlace
+lebPlace e s (Value v n) = s .place
+lebPlace e s Past = e .bound
+lebPlace e s Large = further (aligned e 8 s) (8 * (lebLimit - 1))
+
 pub record Numbers : Type 0 where
   -- the numbers themselves (Refusing a stream)
   pub leb-past : lebNumber Past ≡ 22
@@ -59,9 +67,11 @@ pub record Numbers : Type 0 where
   pub clock-large : tickedNumber TooLarge ≡ 36
   -- a LEB128 number, kinds 21 and 22
   pub leb : (e : Env) (i : ℕ) (r : Role) (s : State) → AtBytes e s
-      → ByNumber (lebNumber (lebUnsigned (ahead e (aligned e 8 s)))) (s .place) (read e (leb128 i r) s)
+      → let x = lebUnsigned (ahead e (aligned e 8 s)) in
+      ByNumber (lebNumber x) (lebPlace e s x) (read e (leb128 i r) s)
   pub signed-leb : (e : Env) (i : ℕ) (s : State) → AtBytes e s
-      → ByNumber (lebNumber (lebSigned (ahead e (aligned e 8 s)))) (s .place) (read e (signedLeb128 i) s)
+      → let x = lebSigned (ahead e (aligned e 8 s)) in
+      ByNumber (lebNumber x) (lebPlace e s x) (read e (signedLeb128 i) s)
   -- a string that a zero byte ends, kind 23
   pub zero-byte : (e : Env) (s : State) → AtBytes e s
       → ByNumber (endedNumber (zeroAt (ahead e (aligned e 8 s)))) (s .place) (read e string s)

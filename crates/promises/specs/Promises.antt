@@ -14,6 +14,7 @@ use Rattle.promises.specs.Cases.{Cases}
 use Rattle.promises.specs.Laws.{TheLaws}
 use Rattle.promises.specs.Elements.{Elements}
 use Rattle.promises.specs.SlotHomes.{SlotHomes}
+use Rattle.promises.specs.Places.{Places}
 use Rattle.promises.specs.Parts.{BitsCut, LebSettled, CheckTied, TableStands}
 use Rattle.promises.specs.Apart.{Apart, ApartFigures, ApartOfCalls}
 
@@ -38,6 +39,7 @@ pub record Promises : Type 0 where
   pub the-laws : TheLaws
   pub elements : Elements
   pub slot-homes : SlotHomes
+  pub places : Places
   -- packets stand on their own: of the rules alone, and of every two calls that meet the contract of `read`
   pub apart : Apart
   pub apart-figures : ApartFigures

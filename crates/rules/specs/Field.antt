@@ -21,7 +21,7 @@ use Rattle.rules.specs.declared.Ended.{Ended}
 use Rattle.rules.specs.declared.Ended.the-variants.{After, Never}
 use Rattle.rules.specs.declared.Refusal.the-variants.{PastBound, OrderChanged, LebTooLarge, NoZeroByte, SlotUnset, SlotOfWrongSort}
 use Rattle.rules.specs.declared.Refusal.the-variants.{LengthTooLarge, SelectorInNoOption, WrongMagic, WrongUuid, ClockTooLarge}
-use Rattle.rules.specs.Limits.{lengthLimit, magicNumber}
+use Rattle.rules.specs.Limits.{lengthLimit, lebLimit, magicNumber}
 use Rattle.rules.specs.Bits.{bits, signed, word}
 use Rattle.rules.specs.Leb128.{lebWidth, lebUnsigned, lebSigned}
 use Rattle.rules.specs.Clock.{clockAfter}
@@ -37,7 +37,8 @@ use Rattle.rules.specs.Class.{structure, staticArray, dynamicArray, flag
 use Rattle.rules.specs.Class.{noOption, option}
 use Rattle.rules.specs.Class.{count, alignOf, sets}
 use Rattle.rules.specs.Entry.{entry, clockAdvanced}
-use Rattle.rules.specs.Step.{State, Step, _⨾_, pass, refuse, check, due, listed, change, withSlots, withOrder, withClock, withSaid}
+use Rattle.rules.specs.Step.{State, Step, _⨾_, pass, refuse, refuseAt, check, checkAt, due, listed, change}
+use Rattle.rules.specs.Step.{withSlots, withOrder, withClock, withSaid}
 
 -- what a reading of fields rests on: the stream's bytes; the packet's place P; the bound; the trace class's UUID
 pub record Env : Type 0 where
@@ -50,9 +51,10 @@ pub record Env : Type 0 where
 unfoldable pub aligned : Env → ℕ → State → BitPlace
 aligned e a s = bitPlace (alignFrom (e .start .0) a (s .place .0))
 
--- "alignment, bits or bytes past the bound" (22): n bits from the aligned place on
+-- "alignment, bits or bytes past the bound" (22): n bits from the aligned place on. "For 22 the place becomes the bound that would be
+-- crossed." (02, 8)
 unfoldable pub fit : Env → ℕ → ℕ → Step
-fit e a n = check (λ s. ltb (e .bound .0) ((aligned e a s) .0 + n)) PastBound
+fit e a n = checkAt (λ s. ltb (e .bound .0) ((aligned e a s) .0 + n)) PastBound (e .bound)
 
 -- the whole bytes from a place to the bound; n bytes from a place on
 unfoldable pub ahead : Env → BitPlace → List ℕ
@@ -186,11 +188,12 @@ readFixed e k n o a i r =
 
 -- Kinds 21 to 27 stand at whole bytes (000 6.3.8 to 6.3.15)
 
+-- "For 24 it becomes the first bit of the byte at which the number became too long or too large" (02, 8): the tenth, and no other
 -- "LEB128 bits count 8 a byte"; "L the field's bits (7 times its bytes for LEB128)"
 unfoldable pub readLeb : Env → ℕ → (ℕ → Content) → ℕ → Role → Leb → Step
 readLeb e k c i r (Value v n) = field e k 8 (8 * n .0) v ⨾ store i (c v) ⨾ role r (lebWidth n) v
-readLeb e k c i r Past = refuse PastBound
-readLeb e k c i r Large = refuse LebTooLarge
+readLeb e k c i r Past = refuseAt PastBound (e .bound)
+readLeb e k c i r Large = λ s. refuseAt LebTooLarge (further (aligned e 8 s) (8 * (lebLimit - 1))) s
 
 -- "string 23 counts without its zero (bits include it)"
 unfoldable pub readZero : Env → Ended → Step

@@ -1,6 +1,6 @@
 -- LEB128, as in the DWARF standard: seven bits a byte, the least significant first; the last byte is below 128.
 -- "LEB128 takes at most 10 bytes and must fit 64 bits; padded forms are accepted." (Reading; 000 6.3.8 to 6.3.10)
-use Prim.Native.Nat.{ℕ, zero, suc, _+_, _-_, _*_, _^_}
+use Prim.Native.Nat.{ℕ, zero, suc, _+_, _*_, _%_, _^_}
 use mathlib.Core.List.{List, [], _∷_}
 use mathlib.Core.Bool.{Bool, true, false}
 use lib.Dec.{ltb}
@@ -22,7 +22,7 @@ below b Large = Large
 unfoldable pub sevens : ℕ → List ℕ → Leb
 sevens zero bs = Large
 sevens (suc n) [] = Past
-sevens (suc n) (b ∷ bs) = elim (ltb b 128) [ true ↦ Value b (byteLength 1) | false ↦ below (b - 128) (sevens n bs) ]
+sevens (suc n) (b ∷ bs) = elim (ltb b 128) [ true ↦ Value b (byteLength 1) | false ↦ below (b % 128) (sevens n bs) ]
 
 unfoldable pub fitUnsigned : Leb → Leb
 fitUnsigned (Value v n) = elim (ltb v (2 ^ 64)) [ true ↦ Value v n | false ↦ Large ]

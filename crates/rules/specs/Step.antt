@@ -54,9 +54,16 @@ pass s = go [] s
 unfoldable pub refuse : Refusal → Step
 refuse r s = stop [] (stopAt r (s .place))
 
+-- refused at a place of its own
+unfoldable pub refuseAt : Refusal → BitPlace → Step
+refuseAt r p s = stop [] (stopAt r p)
+
 -- refused where a test holds
 unfoldable pub check : (State → Bool) → Refusal → Step
 check t r s = elim (t s) [ true ↦ refuse r s | false ↦ pass s ]
+
+unfoldable pub checkAt : (State → Bool) → Refusal → BitPlace → Step
+checkAt t r p s = elim (t s) [ true ↦ refuseAt r p s | false ↦ pass s ]
 
 -- "40 is tested only where an entry is due, and there before all else": "under four words left" (Refusing a stream)
 unfoldable pub due : Step

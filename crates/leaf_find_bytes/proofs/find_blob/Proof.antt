@@ -10,10 +10,14 @@ use native.Mathlib.Omega.{arith}
 use Rattle.leaf_find_bytes.proofs.Found.{blob-past, blob-short, blob-at}
 use Rattle.frame.specs.Framed.{alignedAt}
 
--- Places of the code, in its order: the place is aligned; it is inside the bound; the bits of so many bytes are known
+-- Places of the code, in its order: the place is aligned; it is past the bound; it is inside; the bits of so many bytes are known; they do
+-- not fit
 
 abbrev AtAligned : Type 0
 AtAligned = tie.After-align
+
+abbrev AtPast : Type 0
+AtPast = tie.Then1
 
 abbrev AtInside : Type 0
 AtInside = tie.Else1
@@ -21,13 +25,22 @@ AtInside = tie.Else1
 abbrev AtBits : Type 0
 AtBits = tie.After-bits-in
 
+abbrev AtShort : Type 0
+AtShort = tie.Then2
+
 -- The way back from each to the one before
+
+abbrev past-aligned : AtPast → AtAligned
+past-aligned c = c .before .before .before
 
 abbrev to-aligned : AtInside → AtAligned
 to-aligned c = c .before .before .before
 
 abbrev to-inside : AtBits → AtInside
 to-inside c = c .before
+
+abbrev short-bits : AtShort → AtBits
+short-bits c = c .before .before .before
 
 -- The needs: alignment and the bound
 
@@ -36,7 +49,7 @@ align-requires c κs = search needs
 
 returns : tie.Need-returns
 unfolding alignedAt
-returns c = blob-past _ _ _ (c .before .before .before .align .ensures) _ (c .if1 .taken)
+returns c = blob-past _ _ _ (past-aligned c .align .ensures) _ (c .if1 .taken)
 
 -- The bytes
 
@@ -49,7 +62,7 @@ add-if2 c = search needs
 returns-2 : tie.Need-returns-2
 unfolding alignedAt
 returns-2 c =
-    let bits = c .before .before .before in
+    let bits = short-bits c in
     let inside = to-inside bits in
     blob-short _ _ _ (to-aligned inside .align .ensures) _ (omega (arith, inside .if1 .left))
     (omega (arith, c .if2 .taken, bits .bits-in .ensures))
@@ -64,4 +77,11 @@ returns-3 c =
 
 pub find-blob-spec : {M : Type 1} → statement M
 find-blob-spec =
-    tie.close (tie.spec align-requires returns bits-in-requires add-if2 returns-2 returns-3)
+    tie.close
+    (tie.spec
+    align-requires
+    returns
+    bits-in-requires
+    add-if2
+    returns-2
+    returns-3)

@@ -14,14 +14,17 @@ use lib.ListN.{length}
 use Rattle.leaf_find_bytes.proofs.Found.{string-past, short-zero, string-ends, string-endless}
 use Rattle.frame.specs.Framed.{alignedAt}
 
--- Places of the code, in its order: all is given; the place is aligned; it is inside the bound; the bytes from it to the bound are known; a
--- zero byte was searched; the string ends
+-- Places of the code, in its order: all is given; the place is aligned; it is past the bound; it is inside; the bytes from it to the bound
+-- are known; a zero byte was searched; the string ends
 
 abbrev AtStart : Type 0
 AtStart = tie.Start
 
 abbrev AtAligned : Type 0
 AtAligned = tie.After-align
+
+abbrev AtPast : Type 0
+AtPast = tie.Then1
 
 abbrev AtInside : Type 0
 AtInside = tie.Else1
@@ -38,7 +41,10 @@ AtEnded = tie.After-n
 -- The way back from each to the one before
 
 abbrev to-start : AtAligned → AtStart
-to-start c = c .before .before
+to-start c = c .before .before .before
+
+abbrev past-aligned : AtPast → AtAligned
+past-aligned c = c .before .before .before
 
 abbrev to-aligned : AtInside → AtAligned
 to-aligned c = c .before .before .before
@@ -71,7 +77,7 @@ align-requires c κs = search needs
 
 returns : tie.Need-returns
 unfolding alignedAt
-returns c = string-past _ _ _ _ (c .before .before .before .align .ensures) (c .if1 .taken)
+returns c = string-past _ _ _ _ (past-aligned c .align .ensures) (c .if1 .taken)
 
 -- The bytes
 
@@ -89,8 +95,8 @@ find-zero-requires c κs = rw (c .bytes-before2 .ensures) (omega (arith, given c
 enum-known-n : tie.Need-enum-known-n
 enum-known-n c = search needs
 
-add-t13 : tie.Need-add-t13
-add-t13 c =
+add-t14 : tie.Need-add-t14
+add-t14 c =
     let ended = c .before .before in
     omega (arith, given (to-bytes (to-searched ended)) .pre .small, fewer ended)
 
@@ -138,7 +144,7 @@ find-string-spec =
     bytes-before-requires-2
     find-zero-requires
     enum-known-n
-    add-t13
+    add-t14
     bits-in-requires
     enum-told
     returns-2

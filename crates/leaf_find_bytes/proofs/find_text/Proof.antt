@@ -19,7 +19,7 @@ abbrev AtSearched : Type 0
 AtSearched = tie.After-find-blob
 
 abbrev AtPlace : Type 0
-AtPlace = tie.After-place
+AtPlace = tie.After-bits
 
 -- The way back from each to the one before
 
@@ -34,11 +34,11 @@ to-searched c = c .before .before
 find-blob-requires : tie.Need-find-blob-requires
 find-blob-requires c κs = search needs
 
-enum-known-why : tie.Need-enum-known-why
-enum-known-why c = search needs
-
 enum-known-place : tie.Need-enum-known-place
 enum-known-place c = search needs
+
+enum-known-bits : tie.Need-enum-known-bits
+enum-known-bits c = search needs
 
 -- The text
 
@@ -50,24 +50,24 @@ count-requires c κs =
     let place = c .before .before in
     let searched = to-searched place in
     rw (c .bytes-before .ensures)
-    (blob-lies (to-start searched .pre .0) (place .place .given .1) _ (searched .find-blob .ensures) .1)
+    (blob-lies (to-start searched .pre .0) (place .bits .given .1) _ (searched .find-blob .ensures) .1)
 
 returns : tie.Need-returns
-returns c = text-refused _ _ _ _ (c .before .before .before .find-blob .ensures) (c .before .why .given .1)
+returns c = text-refused _ _ _ _ (c .before .before .before .find-blob .ensures) (c .before .place .given .1)
 
 returns-2 : tie.Need-returns-2
 returns-2 c =
     let place = c .before .before .before in
     rw (c .count .ensures, c .before .bytes-before .ensures)
-    (text-at _ _ _ _ (to-searched place .find-blob .ensures) (place .place .given .1))
+    (text-at _ _ _ _ (to-searched place .find-blob .ensures) (place .bits .given .1))
 
 pub find-text-spec : {M : Type 1} → statement M
 find-text-spec =
     tie.close
     (tie.spec
     find-blob-requires
-    enum-known-why
     enum-known-place
+    enum-known-bits
     bytes-before-requires
     count-requires
     returns

@@ -11,11 +11,14 @@ use native.Mathlib.Omega.{arith}
 use Rattle.leaf_find_number.proofs.Finds.{bits-past, bits-turned, bits-short, bits-at, aligned-from}
 use Rattle.frame.specs.Framed.{alignedAt}
 
--- Places of the code, in its order: the place is aligned; it is inside the bound; whether the order turns there was asked; it does not; the
--- bits fit
+-- Places of the code, in its order: the place is aligned; it is past the bound; it is inside; whether the order turns there was asked; it
+-- does not; the bits do not fit; they do
 
 abbrev AtAligned : Type 0
 AtAligned = tie.After-align
+
+abbrev AtPast : Type 0
+AtPast = tie.Then1
 
 abbrev AtInside : Type 0
 AtInside = tie.Else1
@@ -26,10 +29,16 @@ AtTurns = tie.After-turns
 abbrev AtOrdered : Type 0
 AtOrdered = tie.Else2
 
+abbrev AtShort : Type 0
+AtShort = tie.Then3
+
 abbrev AtFits : Type 0
 AtFits = tie.Else3
 
 -- The way back from each to the one before
+
+abbrev past-aligned : AtPast → AtAligned
+past-aligned c = c .before .before .before
 
 abbrev to-aligned : AtInside → AtAligned
 to-aligned c = c .before .before .before
@@ -39,6 +48,9 @@ to-inside c = c .before .before .before
 
 abbrev to-turns : AtOrdered → AtTurns
 to-turns c = c .before
+
+abbrev short-ordered : AtShort → AtOrdered
+short-ordered c = c .before .before .before
 
 abbrev to-ordered : AtFits → AtOrdered
 to-ordered c = c .before .before .before
@@ -50,7 +62,7 @@ align-requires c κs = search needs
 
 returns : tie.Need-returns
 unfolding alignedAt
-returns c = bits-past _ _ _ _ _ _ _ _ (c .before .before .before .align .ensures) (c .if1 .taken)
+returns c = bits-past _ _ _ _ _ _ _ _ (past-aligned c .align .ensures) (c .if1 .taken)
 
 -- The order
 
@@ -78,7 +90,7 @@ add-if3 c = search needs
 returns-3 : tie.Need-returns-3
 unfolding alignedAt
 returns-3 c =
-    let ordered = c .before .before .before in
+    let ordered = short-ordered c in
     let turns = to-turns ordered in
     let inside = to-inside turns in
     let aligned = to-aligned inside in

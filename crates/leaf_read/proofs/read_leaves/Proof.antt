@@ -48,7 +48,7 @@ abbrev AtSeen : Type 0
 AtSeen = tie.After-see-leaf Inv-loop μ-loop
 
 abbrev AtStops : Type 0
-AtStops = tie.After-why Inv-loop μ-loop
+AtStops = tie.After-stop Inv-loop μ-loop
 
 abbrev AtOther : Type 0
 AtOther = tie.After-entry Inv-loop μ-loop
@@ -152,8 +152,8 @@ loop-holds c =
 see-leaf-requires : tie.Need-see-leaf-requires Inv-loop μ-loop
 see-leaf-requires c κs = let h = c .loop .inv in (reading-first h .leaf, (h .kind, h .framed))
 
-enum-known-why : tie.Need-enum-known-why Inv-loop μ-loop
-enum-known-why c = search needs
+enum-known-stop : tie.Need-enum-known-stop Inv-loop μ-loop
+enum-known-stop c = search needs
 
 stopped-requires : tie.Need-stopped-requires Inv-loop μ-loop
 stopped-requires c κs = search needs
@@ -165,7 +165,7 @@ returns : tie.Need-returns Inv-loop μ-loop
 returns c =
     let told = c .before .before in
     let seen = stops told in
-    rw (c .stopped .ensures) (answer-stops (leaf seen .loop .inv) (seen .see-leaf .ensures) (told .why .given .1))
+    rw (c .stopped .ensures) (answer-stops (leaf seen .loop .inv) (seen .see-leaf .ensures) (told .stop .given .1))
 
 enum-known-entry : tie.Need-enum-known-entry Inv-loop μ-loop
 enum-known-entry c = search needs
@@ -288,7 +288,7 @@ read-leaves-spec =
     μ-loop
     loop-holds
     see-leaf-requires
-    enum-known-why
+    enum-known-stop
     stopped-requires
     same-length
     returns

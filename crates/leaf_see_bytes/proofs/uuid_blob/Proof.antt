@@ -66,8 +66,8 @@ returns c =
     rw (c .plain .ensures)
     (uuid-seen _ _ _ _ _ _ (to-found byte .found2 .given .1) (byte .bytes-before .ensures) (asked .same .ensures) (c .before .if1 .taken))
 
-cast-t13 : tie.Need-cast-t13
-cast-t13 c = search needs
+cast-t15 : tie.Need-cast-t15
+cast-t15 c = search needs
 
 returns-2 : tie.Need-returns-2
 unfolding seen
@@ -89,6 +89,6 @@ uuid-blob-spec =
     same-requires
     plain-requires
     returns
-    cast-t13
+    cast-t15
     returns-2
     returns-3)

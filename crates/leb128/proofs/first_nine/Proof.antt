@@ -51,8 +51,7 @@ loop-less c = omega arith
 loop-again : tie.Need-loop-again Inv-loop μ-loop
 loop-again c =
     let head = c .before .before .before .before .before in
-    let byte = head .before .shared-slice-known .given (head .loop .count) in
-    passed-on (head .loop .inv) _ (omega arith) (c .before .before .before .if1 .left) (c .before .wide .ensures) (c .if2 .left) (omega arith)
+    passed-on (head .loop .inv) _ (omega arith) (c .before .before .before .if1 .left) (c .before .wide .ensures) (c .if2 .left)
 
 returns-3 : tie.Need-returns-3 Inv-loop μ-loop
 unfolding NineSay

@@ -10,8 +10,8 @@ use Rattle.field_inside.proofs.Entering.{entered-past, entered-fits}
 use Rattle.field_inside.proofs.opening.enter_structure.Statement.{statement}
 use Rattle.field_inside.proofs.opening.enter_structure.Tie as tie
 
--- Places of the code, in its order: all is given; the alignment can be read; it was; the place is aligned; it is not past the bound; the
--- count was read; the entry is written
+-- Places of the code, in its order: all is given; the alignment can be read; it was; the place is aligned; the bound is known; the place is
+-- not past it; the count was read; the entry is written
 
 abbrev AtStart : Type 0
 AtStart = tie.Start
@@ -24,6 +24,9 @@ AtAlignment = tie.After-align-of
 
 abbrev AtAligned : Type 0
 AtAligned = tie.After-align
+
+abbrev AtBound : Type 0
+AtBound = tie.After-struct-known2
 
 abbrev AtWithin : Type 0
 AtWithin = tie.Else1
@@ -45,8 +48,11 @@ to-noted c = c .before
 abbrev to-alignment : AtAligned → AtAlignment
 to-alignment c = c .before
 
-abbrev to-aligned : AtWithin → AtAligned
+abbrev to-aligned : AtBound → AtAligned
 to-aligned c = c .before .before .before
+
+abbrev to-bound : AtWithin → AtBound
+to-bound c = c .before
 
 abbrev to-within : AtCount → AtWithin
 to-within c = c .before .before
@@ -58,7 +64,7 @@ abbrev aligned-start : AtAligned → AtStart
 aligned-start c = to-start (to-noted (to-alignment c))
 
 abbrev within-start : AtWithin → AtStart
-within-start c = aligned-start (to-aligned c)
+within-start c = aligned-start (to-aligned (to-bound c))
 
 -- What is known at them
 
@@ -91,7 +97,7 @@ align-requires c κs =
 
 returns : tie.Need-returns
 returns c =
-    let d = c .before .before .before in
+    let d = to-aligned (c .before) in
     let a = aligned-start d .args in
     entered-past (a .frame) (bits (aligned-start d)) (a .from) _ (a .list .now) (placed d) (c .if1 .taken)
 
@@ -118,7 +124,7 @@ returns-2 c =
     let l = c .before .before in
     let w = to-within (to-count l) in
     let a = within-start w .args in
-    entered-fits (a .frame) (bits (within-start w)) (a .from) _ (a .list .now) (placed (to-aligned w)) (w .if1 .left)
+    entered-fits (a .frame) (bits (within-start w)) (a .from) _ (a .list .now) (placed (to-aligned (to-bound w))) (w .if1 .left)
     (rw (to-count l .wide64 .ensures .0) at (l .list-holder .ensures))
 
 pub enter-structure-spec : {M : Type 1} → statement M

@@ -9,8 +9,8 @@ use Rattle.field_inside.proofs.Entering.{opened-by}
 use Rattle.field_inside.proofs.opening.open_field.Statement.{statement}
 use Rattle.field_inside.proofs.opening.open_field.Tie as tie
 
--- Places of the code, in its order: all is given; the kind can be read; the field was looked at; it holds members, and its entry is
--- written; or elements, its entry is written, and what is forgotten around each is told
+-- Places of the code, in its order: all is given; the kind can be read; the field was looked at; it is refused; it holds members, and its
+-- entry is written; or elements, its entry is written, and what is forgotten around each is told
 
 abbrev AtStart : Type 0
 AtStart = tie.Start
@@ -20,6 +20,9 @@ AtKind = tie.After-shared-slice-known4
 
 abbrev AtTold : Type 0
 AtTold = tie.After-look
+
+abbrev AtRefused : Type 0
+AtRefused = tie.After-stop
 
 abbrev AtMembers : Type 0
 AtMembers = tie.After-there
@@ -44,6 +47,9 @@ to-start c = c .before .before .before .before .before
 abbrev told-start : AtTold → AtStart
 told-start c = to-start (c .before)
 
+abbrev refused-told : AtRefused → AtTold
+refused-told c = c .before .before
+
 abbrev members-told : AtMembers → AtTold
 members-told c = c .before .before
 
@@ -67,8 +73,8 @@ shared-slice-read-kind c = omega (arith, record-there (to-start c .pre .0))
 look-requires : tie.Need-look-requires
 look-requires c κs = (to-start c .pre .0, to-start c .pre .1 .0)
 
-enum-known-why : tie.Need-enum-known-why
-enum-known-why c = search needs
+enum-known-stop : tie.Need-enum-known-stop
+enum-known-stop c = search needs
 
 -- It holds members
 
@@ -99,7 +105,9 @@ went-in-requires-2 c κs = search needs
 
 returns : tie.Need-returns
 unfolding openedAs listOpened
-returns c = opened-by _ _ _ _ _ (c .before .before .before .look .ensures) (c .before .why .given .1)
+returns c =
+    let d = c .before .before in
+    opened-by _ _ _ _ (refused-told d .look .ensures) (d .stop .given .1)
 
 same-length : tie.Need-same-length
 same-length c = c .before .before .before .list-holder .kept .1 .1 .1 .0
@@ -109,7 +117,7 @@ unfolding openedAs listOpened u8
 returns-2 c =
     let l = c .before .before .before in
     let m = to-members l in
-    let q = opened-by _ _ _ _ _ (members-told m .look .ensures) (m .there .given .1) in
+    let q = opened-by _ _ _ _ (members-told m .look .ensures) (m .there .given .1) in
     (c .went-in .ensures ∙ q .0, l .list-holder .ensures ∙ q .1)
 
 same-length-2 : tie.Need-same-length-2
@@ -120,10 +128,10 @@ unfolding openedAs listOpened u8
 returns-3 c =
     let l = to-listed (c .before) in
     let m = to-elements l in
-    let q = opened-by _ _ _ _ _ (elements-told m .look .ensures) (m .there2 .given .1) in
+    let q = opened-by _ _ _ _ (elements-told m .look .ensures) (m .there2 .given .1) in
     (rw (c .before .forgotten-around .ensures) at (c .went-in2 .ensures) ∙ q .0, l .list-holder2 .ensures ∙ q .1)
 
 pub open-field-spec : {M : Type 1} → statement M
 open-field-spec = tie.close
-    (tie.spec shared-slice-read-kind look-requires enum-known-why enum-known-there list-holder-requires went-in-requires enum-known-there-2
+    (tie.spec shared-slice-read-kind look-requires enum-known-stop enum-known-there list-holder-requires went-in-requires enum-known-there-2
     list-holder-requires-2 forgotten-around-requires went-in-requires-2 returns same-length returns-2 same-length-2 returns-3)

@@ -292,8 +292,10 @@ module _ (t : ℕ) where
       let i = c .before .before in
       let h = field-holder (inside-met i) in
       let o = inside-entry i .open-field .ensures in
-      let inside = open-elements h (o .0) (o .1) (was-opened i) (c .before .if3 .taken) in
-      (omega (arith, inside-given i .pre .0, one-depth i), (inside .0 .class, (inside .0 .forgets, (h .noted, rw (c .before .before .at-place .ensures) (inside .1)))))
+      let inside = open-elements h (o .0) (o .1) (was-opened i) (c .before .if3 .taken) in (
+        omega (arith, inside-given i .pre .0, one-depth i),
+        (inside .0 .class, (inside .0 .forgets, (h .noted, rw (c .before .before .at-place .ensures) (inside .1)))),
+      )
 
   read-field-sub-walk-members : In-read-field t read-field-lts.Need-sub-walk-members
   read-field-sub-walk-members c = omega (arith, one-depth (c .before))
@@ -410,8 +412,8 @@ In-walk t N = N (walk-calls t) (walk-at t) walk.Post walk-Inv-loop walk-μ-loop
 
 module _ (t : ℕ) where
   -- Places of the code: the stream's bytes are known; in front of the loop; a round's start, its run forward; a field left, room for it,
-  -- its class; leaves read, what is due of the last, its role done; a field that holds others, entered, told its slot, opened, or read
-  -- by itself
+  -- its class; leaves read, what is due of the last, its role done; a field that holds others, entered and its place taken, its members
+  -- the run; told its slot, opened and its place taken, what it holds the run; or read by itself
 
   abbrev AtStart : Type 0
   AtStart = In-walk t walk-lts.Start
@@ -461,11 +463,20 @@ module _ (t : ℕ) where
   abbrev AtEntered : Type 0
   AtEntered = In-walk t walk-lts.After-enter-structure
 
+  abbrev AtStood : Type 0
+  AtStood = In-walk t walk-lts.After-struct-known7
+
+  abbrev AtMembers : Type 0
+  AtMembers = In-walk t walk-lts.After-opened
+
   abbrev AtTold : Type 0
   AtTold = In-walk t walk-lts.Joined12
 
   abbrev AtOpened : Type 0
   AtOpened = In-walk t walk-lts.After-open-field
+
+  abbrev AtPlaced : Type 0
+  AtPlaced = In-walk t walk-lts.After-struct-known8
 
   abbrev AtInto : Type 0
   AtInto = In-walk t walk-lts.After-into
@@ -622,6 +633,15 @@ module _ (t : ℕ) where
   abbrev entered-loop : AtEntered → AtLoop
   entered-loop c = holder-loop (entered-holder c)
 
+  abbrev stood-entered : AtStood → AtEntered
+  stood-entered c = c .before .before .before .before
+
+  abbrev members-stood : AtMembers → AtStood
+  members-stood c = c .before .before .before .before
+
+  abbrev members-entered : AtMembers → AtEntered
+  members-entered c = stood-entered (members-stood c)
+
   abbrev told-holder : AtTold → AtHolder
   told-holder c = c .before .before .before
 
@@ -655,8 +675,11 @@ module _ (t : ℕ) where
   abbrev opened-loop : AtOpened → AtLoop
   opened-loop c = told-loop (opened-told c)
 
+  abbrev placed-opened : AtPlaced → AtOpened
+  placed-opened c = c .before .before .before .before
+
   abbrev into-opened : AtInto → AtOpened
-  into-opened c = c .before .before .before .before .before .before
+  into-opened c = placed-opened (c .before .before)
 
   abbrev read-told : AtRead → AtTold
   read-told c = c .before .before .before .before .before
@@ -873,7 +896,10 @@ module _ (t : ℕ) where
             omega (arith, some-left k .some, count),
             omega (arith, lent-room (l .used) (l .list), leaf-room past .if4 .left),
           ),
-          ((noted .sized .room, λ d p v. noted .classes d p v .size), (h .framed, past-unset (leaf-border past .if1 .slots) _ (h .many) (leaf-told past))),
+          (
+            (noted .sized .room, λ d p v. noted .classes d p v .size),
+            (h .framed, past-unset (leaf-border past .if1 .slots) _ (h .many) (leaf-told past)),
+          ),
         ),
       )
 
@@ -956,7 +982,9 @@ module _ (t : ℕ) where
       Kept w (role (roleOf (q .role)) (q .width) (q .value) ⨾ left w r) r
       (merged (l .used) (l .list) (y .last .1 .1 .1 .1 .1 .1 .1 .1 .1 .1 .1 .0)) (l .used + q .used)
       (stateAt (q .place) (q .order) (l .state)) (c .if8 .slots)
-  due c = leaves-due (leaves (due-leaves c)) (leaves-on c) (here (leaves-field (due-leaves c)) .many) (due-behind c .behind .ensures) (slot-told c)
+  due c =
+      leaves-due (leaves (due-leaves c)) (leaves-on c) (here (leaves-field (due-leaves c)) .many) (due-behind c .behind .ensures)
+      (slot-told c)
 
   -- a round with leaves lists an entry at least
   leaves-fall : (c : AtDue) →
@@ -1109,7 +1137,8 @@ module _ (t : ℕ) where
   structure : (c : AtEntered) →
       let l = entered-loop c .loop in
       EnterRound (walk-of (entered-loop c)) (entered-holder c .taken .result) (l .list) (l .used)
-      (stateAt (l .place) (l .order) (l .state)) (entered-border c .if1 .slots) (c .enter-structure .result) (c .enter-structure .last .1 .1 .1 .1 .1 .0)
+      (stateAt (l .place) (l .order) (l .state)) (entered-border c .if1 .slots) (c .enter-structure .result)
+      (c .enter-structure .last .1 .1 .1 .1 .1 .0)
   unfolding u8
   structure c =
       let k = entered-holder c in
@@ -1121,27 +1150,27 @@ module _ (t : ℕ) where
 
   walk-same-length-5 : In-walk t walk-lts.Need-same-length-5
   walk-same-length-5 c =
-      let past = c .before .before .before .before .before in
+      let past = stood-entered (c .before .before) in
       structure past .same
 
   walk-returns-5 : In-walk t walk-lts.Need-returns-5
   walk-returns-5 c =
-      let past = c .before .before .before .before .before in
+      let past = stood-entered (c .before .before) in
       rw (c .refused3 .ensures) (stopped (entered-loop past) (structure past .stops (not-true _ (c .before .if11 .taken))))
 
   walk-add-opened : In-walk t walk-lts.Need-add-opened
   walk-add-opened c =
-      let past = c .before .before .before .before .before in
+      let past = stood-entered (c .before) in
       omega (arith, slot-there (entered-holder past), table-fits (entered-loop past))
 
   walk-add-wide : In-walk t walk-lts.Need-add-wide
   walk-add-wide c =
-      let past = c .before .before .before .before .before in
+      let past = stood-entered (c .before) in
       omega (arith, slot-there (entered-holder past), table-fits (entered-loop past))
 
   walk-shared-slice-read-wide : In-walk t walk-lts.Need-shared-slice-read-wide
   walk-shared-slice-read-wide c =
-      let past = c .before .before .before .before .before .before in
+      let past = stood-entered (c .before .before) in
       omega (arith, slot-there (entered-holder past))
 
   walk-wide-requires : In-walk t walk-lts.Need-wide-requires
@@ -1149,19 +1178,19 @@ module _ (t : ℕ) where
 
   walk-opened-requires : In-walk t walk-lts.Need-opened-requires
   walk-opened-requires c κs =
-      let past = c .before .before .before .before .before .before .before in
+      let past = stood-entered (c .before .before .before) in
       let k = entered-holder past in
       let few = members-few _ _ _ _ (holder-round k .stands .members) in
       (holder-next k .0, omega (arith, few, c .wide .ensures .1, table-fits (entered-loop past)))
 
   walk-add-used-3 : In-walk t walk-lts.Need-add-used-3
   walk-add-used-3 c =
-      let past = c .before .before .before .before .before .before .before .before in
+      let past = members-entered c in
       omega (arith, within (entered-loop past), entered-room past .if4 .left)
 
   walk-loop-less-3 : In-walk t walk-lts.Need-loop-less-3
   walk-loop-less-3 c =
-      let past = c .before .before .before .before .before .before .before .before in
+      let past = members-entered c in
       let l = entered-loop past .loop in
       round-falls (length (l .list)) _ (l .used) (l .used + 4) 0 0 (structure past .same ∙ sym (within (entered-loop past) .1))
       (omega (arith, entered-room past .if4 .left)) (omega arith)
@@ -1169,9 +1198,9 @@ module _ (t : ℕ) where
   walk-loop-again-3 : In-walk t walk-lts.Need-loop-again-3
   unfolding u8
   walk-loop-again-3 c =
-      let past = c .before .before .before .before .before .before .before .before in
+      let past = members-entered c in
       let k = entered-holder past in
-      let on = not-false _ (c .before .before .before .before .if11 .left) in (
+      let on = not-false _ (c .before .before .before .if11 .left) in (
         entered-loop past .loop .inv .0,
         entered-run (holder k _ refl) (holder-next k) (structure past) (c .opened .ensures) (c .before .wide .ensures .0) on,
       )
@@ -1244,7 +1273,8 @@ module _ (t : ℕ) where
   opening : (c : AtOpened) →
       let l = opened-loop c .loop in
       CodeRound (walk-of (opened-loop c)) (opened-holder c .taken .result) (l .list) (l .used)
-      (stateAt (l .place) (l .order) (l .state)) (opened-border c .if1 .slots) (c .open-field .result) (c .open-field .last .1 .1 .1 .1 .1 .1 .1 .0)
+      (stateAt (l .place) (l .order) (l .state)) (opened-border c .if1 .slots) (c .open-field .result)
+      (c .open-field .last .1 .1 .1 .1 .1 .1 .1 .0)
   unfolding u8
   opening c =
       let can = sym (c .before .before .before .is-open .ensures) ∙ c .before .before .if13 .taken in
@@ -1255,17 +1285,17 @@ module _ (t : ℕ) where
 
   walk-same-length-6 : In-walk t walk-lts.Need-same-length-6
   walk-same-length-6 c =
-      let past = c .before .before .before .before .before in
+      let past = placed-opened (c .before .before) in
       opening past .same
 
   walk-returns-6 : In-walk t walk-lts.Need-returns-6
   walk-returns-6 c =
-      let past = c .before .before .before .before .before in
+      let past = placed-opened (c .before .before) in
       rw (c .refused4 .ensures) (stopped (opened-loop past) (opening past .stops (not-true _ (c .before .if14 .taken))))
 
   walk-into-requires : In-walk t walk-lts.Need-into-requires
   walk-into-requires c κs =
-      let past = c .before .before .before .before .before in
+      let past = placed-opened (c .before) in
       let k = opened-holder past in
       let h = holder-round k in
       let next = holder-next k in
@@ -1288,7 +1318,7 @@ module _ (t : ℕ) where
   into-round c =
       let past = into-opened c in
       inside-run (holds (opened-told past)) (holder-next (opened-holder past)) (opening past) (c .into .ensures)
-      (not-false _ (c .before .before .if14 .left))
+      (not-false _ (c .before .if14 .left))
 
   walk-add-used-4 : In-walk t walk-lts.Need-add-used-4
   walk-add-used-4 c =
