@@ -104,6 +104,7 @@ static const struct {
     {TREVOSKEL_EVENT_TOOK_NO_BITS, BYTES(UNTIMED, EVENT_CLASS(0, 0)), BYTES(0)},
     {TREVOSKEL_CLOCK_WENT_BACK,
      BYTES(TIMED, CONTEXT(1), WITH_ROLE(8, TOTAL), EVENT_HEADER(1), WITH_ROLE(8, STAMP), EVENT_CLASS(0, 0)), BYTES(16, 2, 16, 1)},
+    {TREVOSKEL_NOT_TEXT, BYTES(UNTIMED, CONTEXT(1), STRING), BYTES('a', 0xED, 0xA0, 0x80, 0)},
 };
 
 /* A table whose last record is the event class of a stream with one event and a byte of padding. */

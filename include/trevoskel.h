@@ -75,7 +75,8 @@ enum trevoskel_number {
     TREVOSKEL_EVENT_CLASS_UNKNOWN = 37,   /* first id: the stream class's; second id: the event class's */
     TREVOSKEL_EVENT_TOOK_NO_BITS = 38,
     TREVOSKEL_CLOCK_WENT_BACK = 39,
-    TREVOSKEL_LIST_FULL = 40              /* under four words left where an entry is due */
+    TREVOSKEL_LIST_FULL = 40,             /* under four words left where an entry is due */
+    TREVOSKEL_NOT_TEXT = 41               /* bytes of a string before its first zero byte that are no UTF-8 (RFC 3629) */
 };
 
 /* The words of trevoskel_check's result, and how many there are. */
@@ -120,7 +121,7 @@ enum trevoskel_entry_kind {
  * words. */
 uint32_t trevoskel_check(const uint8_t *table, size_t table_bytes, uint64_t *result, size_t result_words);
 
-/* Reads a stream by a class table, which it checks itself: TREVOSKEL_ACCEPTED, or the number 20 to 40 that refuses table or stream. The
+/* Reads a stream by a class table, which it checks itself: TREVOSKEL_ACCEPTED, or the number 20 to 41 that refuses table or stream. The
  * list gets the entries, TREVOSKEL_ENTRY_WORDS words each, those before a refusal too. The result gets TREVOSKEL_RESULT_WORDS words. */
 uint32_t trevoskel_read(const uint8_t *table, size_t table_bytes, const uint8_t *stream, size_t stream_bytes, uint64_t *list,
                         size_t list_words, uint64_t *result, size_t result_words);

@@ -24,8 +24,9 @@ fn noise(random: &mut Random, count: usize) -> Vec<u8> {
 
 /// An edge case of a few bytes.
 pub fn small_edge(random: &mut Random) -> Case {
-    match random.below(9) {
+    match random.below(11) {
         0 | 8 => leb_edge(random),
+        9 | 10 => text_edge(random),
         1 => clock_edge(random),
         2 => depth_edge(random),
         3 => count_edge(random),
@@ -34,6 +35,34 @@ pub fn small_edge(random: &mut Random) -> Case {
         6 => bound_edge(random),
         _ => many_fragments(random),
     }
+}
+
+/// Bytes at the borders of RFC 3629's rows, as text or cut, behind a field that may leave the byte.
+fn text_edge(random: &mut Random) -> Case {
+    const FIRST: [u8; 18] = [
+        0x7f, 0x80, 0xbf, 0xc0, 0xc1, 0xc2, 0xdf, 0xe0, 0xe1, 0xec, 0xed, 0xee, 0xef, 0xf0, 0xf1,
+        0xf3, 0xf4, 0xf5,
+    ];
+    const OTHER: [u8; 10] = [0, 0x7f, 0x80, 0x8f, 0x90, 0x9f, 0xa0, 0xbf, 0xc0, 0xff];
+    let mut text = Vec::new();
+    for _ in 0..random.below(3) {
+        text.extend(random.character());
+    }
+    text.push(random.pick(&FIRST));
+    (0..random.below(4)).for_each(|_| text.push(random.pick(&OTHER)));
+    for _ in 0..random.below(3) {
+        text.extend(random.character());
+    }
+    let mut records = payload(2);
+    let mut stream = vec![text.len() as u8];
+    match random.below(3) {
+        0 => records.unsigned(random.between(1, 8) as u8, NO_SLOT, 0).put(&[23]),
+        1 => records.unsigned(8, NO_SLOT, 0).static_string(text.len() as u16),
+        _ => records.unsigned(8, 16, 0).put(&[26, 16]),
+    };
+    stream.extend(text);
+    stream.extend(&[0, 0x80][..random.below(3)]);
+    case(records, stream)
 }
 
 /// LEB128 numbers of nine to eleven bytes.

@@ -312,12 +312,14 @@ impl Encoder<'_> {
                 self.set(*slot, Slot::Number(value, Sign::Signed));
             }
             Class::NullTerminatedString => {
-                (0..self.random.below(5)).for_each(|_| self.text_byte(1));
+                let text =
+                    (0..self.random.below(5)).flat_map(|_| self.random.character()).collect();
+                self.text(text);
                 if !self.faulty(25) {
                     self.bits.write_byte(0);
                 }
             }
-            Class::StaticString { bytes } => (0..*bytes).for_each(|_| self.text_byte(0)),
+            Class::StaticString { bytes } => self.long_text((*bytes).into()),
             Class::StaticBlob { role: Role::Uuid, .. } => {
                 let mut uuid = self.table.trace.uuid.unwrap_or_default();
                 if self.faulty(31) {
@@ -325,9 +327,10 @@ impl Encoder<'_> {
                 }
                 uuid.iter().for_each(|&byte| self.bits.write_byte(byte));
             }
-            Class::StaticBlob { bytes, .. } => (0..*bytes).for_each(|_| self.text_byte(0)),
-            Class::DynamicString { slot } | Class::DynamicBlob { slot } => {
-                (0..self.count(*slot)).for_each(|_| self.text_byte(0));
+            Class::StaticBlob { bytes, .. } => (0..*bytes).for_each(|_| self.any_byte()),
+            Class::DynamicString { slot } => self.long_text(self.count(*slot) as usize),
+            Class::DynamicBlob { slot } => {
+                (0..self.count(*slot)).for_each(|_| self.any_byte());
             }
             Class::Structure(structure) => structure.members.iter().for_each(|m| self.field(m)),
             Class::StaticArray { elements, array } => self.elements((*elements).into(), array),
@@ -349,9 +352,41 @@ impl Encoder<'_> {
         }
     }
 
-    fn text_byte(&mut self, least: u8) {
+    fn any_byte(&mut self) {
         let byte = if self.random.chance(20) { 0 } else { self.random.byte() };
-        self.bits.write_byte(byte.max(least));
+        self.bits.write_byte(byte);
+    }
+
+    /// Text of so many bytes, or a shorter one, a zero byte and anything behind it.
+    fn long_text(&mut self, count: usize) {
+        let wanted = if self.random.chance(40) { self.random.below(count + 1) } else { count };
+        let mut text = Vec::new();
+        while text.len() < wanted {
+            let character = self.random.character();
+            // A last character that is too long becomes plain ones.
+            match text.len() + character.len() <= wanted {
+                true => text.extend(character),
+                false => text.push(b'.'),
+            }
+        }
+        if wanted < count {
+            text.push(0);
+            text.extend((wanted + 1..count).map(|_| self.random.byte()));
+        }
+        self.text(text);
+    }
+
+    /// Text, or bytes that are none: one is another or is gone.
+    fn text(&mut self, mut text: Vec<u8>) {
+        if !text.is_empty() && self.faulty(41) {
+            let at = self.random.below(text.len());
+            match self.random.below(3) {
+                0 => text[at] = self.random.pick(&[0x80, 0xbf, 0xc0, 0xc1, 0xf5, 0xff]),
+                1 => text[at] = self.random.byte().max(1),
+                _ => text[at..].rotate_left(1),
+            }
+        }
+        text.iter().for_each(|&byte| self.bits.write_byte(byte));
     }
 
     fn count(&self, slot: u8) -> u64 {

@@ -18,9 +18,9 @@ const TRIES: usize = 40;
 const LARGE: usize = 300;
 
 /// The numbers a case may come to, besides 0.
-pub const NUMBERS: [u64; 36] = [
+pub const NUMBERS: [u64; 37] = [
     1, 2, 3, 4, 5, 6, 7, 8, 9, 10, 11, 12, 13, 14, 15, 20, 21, 22, 23, 24, 25, 26, 27, 28, 29, 30,
-    31, 32, 33, 34, 35, 36, 37, 38, 39, 40,
+    31, 32, 33, 34, 35, 36, 37, 38, 39, 40, 41,
 ];
 
 pub fn generate(seed: u64, count: usize) -> Vec<Case> {
@@ -114,7 +114,7 @@ fn wished(random: &mut Random, number: u64) -> Case {
         }
     }
     // Now and then the list ends just where the fault is, so that room and fault compete.
-    if (22..40).contains(&number) && random.chance(20) {
+    if (22..=41).contains(&number) && number != 40 && random.chance(20) {
         case.words = 4 * case.answer().reading.entries as usize + random.below(4);
     }
     case

@@ -20,4 +20,5 @@ pub mod reader;
 pub mod records;
 pub mod shrink;
 pub mod table;
+pub mod text;
 pub mod trial;

@@ -50,6 +50,20 @@ impl Random {
         }
     }
 
+    /// The bytes of a character other than zero in UTF-8: plain ones, those at a border, any.
+    pub fn character(&mut self) -> Vec<u8> {
+        const BORDERS: [u32; 14] = [
+            0x1, 0x7f, 0x80, 0x7ff, 0x800, 0xfff, 0x1000, 0xd7ff, 0xe000, 0xfffe, 0xffff, 0x10000,
+            0xfffff, 0x10ffff,
+        ];
+        let number = match self.below(4) {
+            0 | 1 => self.between(0x20, 0x7e) as u32,
+            2 => self.pick(&BORDERS),
+            _ => self.between(1, 0x10ffff) as u32,
+        };
+        char::from_u32(number).unwrap_or('?').to_string().into_bytes()
+    }
+
     pub fn bytes<const N: usize>(&mut self) -> [u8; N] {
         std::array::from_fn(|_| self.byte())
     }

@@ -3,6 +3,7 @@
 use crate::bits::{self, LebFault};
 use crate::class::*;
 use crate::table::{self, Refusal};
+use crate::text::is_text;
 
 pub const MOST_STREAM_BYTES: usize = 16_777_216;
 const MAGIC: u64 = 0xc1fc_1fc1;
@@ -378,6 +379,13 @@ impl<'a> Reader<'a> {
         Ok((value, count))
     }
 
+    fn text(&self, bytes: &[u8]) -> Step {
+        match is_text(bytes) {
+            true => Ok(()),
+            false => stop(41, self.place),
+        }
+    }
+
     fn null_terminated_string(&mut self) -> Step {
         self.room()?;
         let place = self.aligned(8)?;
@@ -385,6 +393,7 @@ impl<'a> Reader<'a> {
         let Some(count) = bytes.iter().position(|&byte| byte == 0) else {
             return stop(25, self.place);
         };
+        self.text(&bytes[..count])?;
         let bits = 8 * (count as u64 + 1);
         self.enter(23, place, bits, count as u64);
         self.place = place + bits;
@@ -404,6 +413,7 @@ impl<'a> Reader<'a> {
     fn string(&mut self, kind: u64, count: u64) -> Step {
         let (place, bytes) = self.bytes(count)?;
         let value = bytes.iter().position(|&byte| byte == 0).map_or(count, |zero| zero as u64);
+        self.text(&bytes[..value as usize])?;
         self.enter(kind, place, 8 * count, value);
         self.place = place + 8 * count;
         Ok(())

@@ -1,6 +1,7 @@
 //! The proved reader against the one in ordinary Rust, on eight shapes of streams with 10 and with 500 event classes.
 //!
 //!     speed-rows [ROUNDS]                      a table of all rows, the least time of so many rounds (7)
+//!     speed-rows text                          both readers on a megabyte of text, and Rust's own test of it
 //!     speed-rows SHAPE CLASSES READER ROUNDS   one reader (proved, rust) on one sample, for a profiler; CLASSES may be 10/500,
 //!                                              the stream of 10 classes read by a table of 500
 
@@ -8,6 +9,7 @@ mod class;
 mod random;
 mod readers;
 mod shapes;
+mod text;
 mod time;
 
 use readers::Reader;
@@ -29,6 +31,7 @@ fn main() {
     let words: Vec<String> = std::env::args().skip(1).collect();
     match &words[..] {
         [] => all_rows(ROUNDS),
+        [word] if word == "text" => text::rows(ROUNDS),
         [rounds] => all_rows(rounds.parse().expect("a number of rounds")),
         [shape, classes, reader, rounds] => {
             let shape = SHAPES.into_iter().find(|known| known.name() == shape).expect("a shape");
@@ -38,7 +41,7 @@ fn main() {
             let sample = shapes::sample(shape, number(met), number(known));
             one_reader(&sample, reader, rounds.parse().expect("a number of rounds"));
         }
-        _ => panic!("[ROUNDS], or SHAPE CLASSES READER ROUNDS"),
+        _ => panic!("[ROUNDS], text, or SHAPE CLASSES READER ROUNDS"),
     }
 }
 

@@ -1,5 +1,5 @@
 pub mod Laws
-mod Bytes
+pub mod Bytes
 mod Parts
 pub mod Signed
 pub mod Cut

@@ -72,7 +72,8 @@ fn four(stream: &[u8], at: usize, order: Order) -> u64
     }
 }
 
-fn eight(stream: &[u8], at: usize, order: Order) -> u64
+// Eight are for other crates too.
+pub fn eight(stream: &[u8], at: usize, order: Order) -> u64
     requires { ⌜ at + 8 ≤ length (now stream) ⌝ }
     ensures { λ r. ⌜ r ≡ bits order (now (stream .entry)) (8 * at) 64 ⌝ }
 {

@@ -107,6 +107,7 @@ fn say_refusal_from_30(number: u8) {
         38 => say(b"the event took no bits"),
         39 => say(b"the clock is below the previous event's"),
         40 => say(b"the list is full"),
+        41 => say(b"the string behind the last entry is not UTF-8 text"),
         _ => say(b"no number of the paper"),
     }
 }

@@ -25,7 +25,7 @@ use Rattle.rules.specs.declared.Ended.the-variants.{After, Never}
 use Rattle.rules.specs.declared.Entry.{Entry}
 use Rattle.rules.specs.declared.Refusal.{Refusal}
 use Rattle.rules.specs.declared.Refusal.the-variants.{PastBound, OrderChanged, NoZeroByte, SlotUnset, SlotOfWrongSort}
-use Rattle.rules.specs.declared.Refusal.the-variants.{LengthTooLarge, SelectorInNoOption, WrongMagic, WrongUuid, ClockTooLarge}
+use Rattle.rules.specs.declared.Refusal.the-variants.{LengthTooLarge, SelectorInNoOption, WrongMagic, WrongUuid, ClockTooLarge, NotText}
 use Rattle.rules.specs.declared.Stop.{Stop}
 use Rattle.rules.specs.Verdict.{stopAt}
 use Rattle.rules.specs.Bits.{bits}
@@ -40,7 +40,7 @@ use Rattle.rules.specs.Class.{Role, noRole, magic, streamClassId, streamId, uui
 use Rattle.rules.specs.Class.{discarded, sequence, eventClassId}
 use Rattle.rules.specs.Class.{Class, Sort, kindOf}
 use Rattle.rules.specs.Field.{Env, aligned, fit, field, store, newClock, say, role, blobRole, fromSlot, valueOf, slotOf, ahead, bytesAt}
-use Rattle.rules.specs.Field.{readFixed, readLeb, readZero, readText, readBlob, read}
+use Rattle.rules.specs.Field.{readFixed, readLeb, asText, readZero, readText, readBlob, read}
 use Rattle.leb128.proofs.ValueSays.{unsigned-value, signed-value}
 use Rattle.leb128.proofs.Settled.{unsigned-reaches, signed-reaches}
 use Rattle.text.proofs.Laws.{zero-found}
@@ -125,6 +125,11 @@ module _ (e : Env) where
 
     a-field : (k a n v : ℕ) → 1 ≤ a → Fine (Fit a n) (field e k a n v) Holds
     a-field k a n v h = looser In At NoMore (λ s x. x .0) (put-field k a n v h)
+
+    -- a field of text that fits
+    text-field : (x : List ℕ) (k n v : ℕ) → Fine (Fit 8 n) (asText x ⨾ field e k 8 n v) Holds
+    unfolding asText
+    text-field x k n v = untested In At NoMore (λ r i s y. stops r i s (y .0)) _ NotText tt (a-field k 8 n v (omega arith))
 
     tagged : (k v : ℕ) → Holding J (field e k 1 0 v)
     unfolding aligned
@@ -223,11 +228,12 @@ module _ (e : Env) where
     held-zero : (x : Ended) (s : State) → Holds s → (aligned e 8 s) .0 ≤ e .bound .0
         → ((n : ByteLength) → x ≡ After n → n .0 < length (ahead e (aligned e 8 s)))
         → Ok In At NoMore Holds (readZero e x s)
-    unfolding readZero
+    unfolding readZero _⨾_
     held-zero Never s h b g = refusing In At NoMore stops NoZeroByte tt .at s h
     held-zero (After n) s h b g =
         let l : n .0 < length (ahead e (aligned e 8 s)) = g n refl in
-        a-field 23 8 (8 * (n .0 + 1)) (n .0) (omega arith) .at s (h, ahead-fits e (aligned e 8 s) (n .0 + 1) b (omega arith))
+        let x = bytesAt e (aligned e 8 s) (n .0) in
+        text-field x 23 (8 * (n .0 + 1)) (n .0) .at s (h, ahead-fits e (aligned e 8 s) (n .0 + 1) b (omega arith))
 
     pub held-law : Law e N Any Any (Holding J) (Holding J)
     unfolding fromSlot
@@ -255,7 +261,7 @@ module _ (e : Env) where
       zeros = at-zero 8 (record { at = λ s x. held-zero (zeroAt (ahead e (aligned e 8 s))) s (x .0) (x .1) (λ n z. zero-found _ n z .0) });
       texts = λ k n h. unfold readText in
           plain-fit 8 0 (fitting 8 (8 * n) (record {
-            at = λ s x. a-field k 8 (8 * n) (textLength (bytesAt e (aligned e 8 s) n)) (omega arith) .at s x;
+            at = λ s x. let b = bytesAt e (aligned e 8 s) n in text-field b k (8 * n) (textLength b) .at s x;
           }));
       blobs = λ k n r h. unfold readBlob in
           plain-fit 8 0 (fitting 8 (8 * n) (record {

@@ -23,7 +23,7 @@ use Rattle.rules.specs.declared.Ended.{Ended}
 use Rattle.rules.specs.declared.Ended.the-variants.{After, Never}
 use Rattle.rules.specs.declared.Entry.{Entry}
 use Rattle.rules.specs.declared.Refusal.{Refusal}
-use Rattle.rules.specs.declared.Refusal.the-variants.{PastBound, OrderChanged, NoZeroByte, SlotUnset, SlotOfWrongSort}
+use Rattle.rules.specs.declared.Refusal.the-variants.{PastBound, OrderChanged, NoZeroByte, SlotUnset, SlotOfWrongSort, NotText}
 use Rattle.rules.specs.declared.Refusal.the-variants.{LengthTooLarge, SelectorInNoOption, WrongMagic, WrongUuid, ClockTooLarge, ListFull}
 use Rattle.rules.specs.declared.Stop.{Stop}
 use Rattle.rules.specs.Bits.{bits}
@@ -39,10 +39,11 @@ use Rattle.rules.specs.Class.{Role, noRole, magic, streamClassId, streamId, uui
 use Rattle.rules.specs.Class.{sequence, eventClassId}
 use Rattle.rules.specs.Class.{Class, Sort, kindOf}
 use Rattle.rules.specs.Field.{Env, aligned, fit, field, store, newClock, say, role, sameBytes, blobRole, fromSlot, valueOf, slotOf}
-use Rattle.rules.specs.Field.{otherOrder, turned, ahead, bytesAt, readFixed, readLeb, readZero, readText, readBlob}
+use Rattle.rules.specs.Field.{otherOrder, turned, ahead, bytesAt, readFixed, readLeb, asText, readZero, readText, readBlob}
 use Rattle.rules.specs.Packet.{readRoot}
 use Rattle.facts.proofs.Steps.{onto-nil, onto-onto, after-onto}
 use Rattle.facts.proofs.Numbers.{lt-or-ge}
+use Rattle.text.proofs.Laws.{zero-found}
 use Rattle.laws.specs.Between.{Between}
 use Rattle.laws.proofs.Law.{Any, Law}
 use Rattle.laws.proofs.Triple.{Ok, Triple, ok-after, then, passing, changing, refusing, checks, dued}
@@ -494,11 +495,10 @@ module _ (e e′ : Env) (y : Like e e′) where
                 let u : length (ahead e (aligned e 8 s)) < n .0 = p .1 v n (sym (ap read (ahead-there l s f)) ∙ q) in
                 omega (arith, ahead-length s f)))
 
-  -- kind 23
-  zero-exact : (x : Ended) → Exact e e′ (readZero e x) (readZero e′ x)
-  unfolding readZero
-  zero-exact (After n) = exact-field e e′ 23 8 (8 * (n .0 + 1)) (n .0)
-  zero-exact Never = exact-refuse e e′ NoZeroByte
+  -- a field of text
+  exact-text : (x : List ℕ) (k n v : ℕ) → Exact e e′ (asText x ⨾ field e k 8 n v) (asText x ⨾ field e′ k 8 n v)
+  unfolding asText
+  exact-text x k n v = exact-seq e e′ (exact-check _ _ NotText (λ l s. refl)) (exact-field e e′ k 8 n v)
 
   reach-only : (x : Env) (k a n v : ℕ) (s : State) (fs : List Entry) (t : State) → field x k a n v s ≡ go fs t
       → (aligned x a s) .0 + n ≤ t .place .0
@@ -508,10 +508,25 @@ module _ (e e′ : Env) (y : Like e e′) where
       let ok : Ok Whatever Wherever Why (λ u. at ≤ u .place .0) (field x k a n v s) = ((tt, tt), le-refl at) in
       subst (Ok Whatever Wherever Why (λ u. at ≤ u .place .0)) q ok .1
 
+  reach-text : (x : List ℕ) (k n v : ℕ) (s : State) (fs : List Entry) (t : State) → (asText x ⨾ field e′ k 8 n v) s ≡ go fs t
+      → (aligned e′ 8 s) .0 + n ≤ t .place .0
+  unfolding asText
+  reach-text x k n v s fs t q = reach-only e′ k 8 n v s fs t (through _ NotText _ s fs t q)
+
+  -- kind 23
+  zero-same : (x : Ended) (l : ℕ → ℕ) (s : State) → ((n : ByteLength) → x ≡ After n → (aligned e 8 s) .0 + 8 * n .0 ≤ e .bound .0)
+      → readZero e′ x (there l s) ≡ farOut e e′ l (readZero e x s)
+  unfolding readZero _⨾_
+  zero-same (After n) l s f =
+      ap (λ b. (asText b ⨾ field e′ 23 8 (8 * (n .0 + 1)) (n .0)) (there l s)) (bytes-there (n .0) l s (f n refl))
+      ∙ exact-text (bytesAt e (aligned e 8 s) (n .0)) 23 (8 * (n .0 + 1)) (n .0) .at l s
+  zero-same Never l s f = exact-refuse e e′ NoZeroByte .at l s
+
   zero-reach : (x : Ended) (s : State) (fs : List Entry) (t : State) → readZero e′ x s ≡ go fs t
       → (n : ByteLength) × (x ≡ After n) × ((aligned e′ 8 s) .0 + 8 * (n .0 + 1) ≤ t .place .0)
-  unfolding readZero
-  zero-reach (After n) s fs t q = (n, refl, reach-only e′ 23 8 (8 * (n .0 + 1)) (n .0) s fs t q)
+  unfolding readZero _⨾_
+  zero-reach (After n) s fs t q =
+      (n, refl, reach-text (bytesAt e′ (aligned e′ 8 s) (n .0)) 23 (8 * (n .0 + 1)) (n .0) s fs t q)
   zero-reach Never s fs t q = unfold refuse in let z : _≡_ {A = ℕ} 0 1 = cc in absurd (omega arith)
 
   rel-zero : (l : ℕ → ℕ) (s : State) → Beside l ((fit e 8 0 ⨾ λ u. readZero e (zeroAt (ahead e (aligned e 8 u))) u) s)
@@ -525,10 +540,11 @@ module _ (e e′ : Env) (y : Like e e′) where
           let d : (aligned e′ 8 (there l s)) .0 + 8 * (g .0 .0 + 1) ≤ t .place .0 = g .2 in
           omega arith
 
-      same : zeroAt (ahead e′ (aligned e′ 8 (there l s))) ≡ zeroAt (ahead e (aligned e 8 s))
+      same : (aligned e 8 s) .0 ≤ e .bound .0 → zeroAt (ahead e′ (aligned e′ 8 (there l s))) ≡ zeroAt (ahead e (aligned e 8 s))
           → Beside l (readZero e (zeroAt (ahead e (aligned e 8 s))) s)
           (readZero e′ (zeroAt (ahead e′ (aligned e′ 8 (there l s)))) (there l s))
-      same p = inl (ap (λ x. readZero e′ x (there l s)) p ∙ zero-exact (zeroAt (ahead e (aligned e 8 s))) .at l s)
+      same f p = inl (ap (λ x. readZero e′ x (there l s)) p ∙ zero-same (zeroAt (ahead e (aligned e 8 s))) l s
+          (λ n q. omega (arith, zero-found (ahead e (aligned e 8 s)) n q .0, ahead-length s f)))
 
       cut : (aligned e 8 s) .0 ≤ e .bound .0 → e .bound .0 - e .start .0 < e′ .bound .0 - e′ .start .0
           → (x x′ : Ended) → x ≡ Never → ((n : ByteLength) → x′ ≡ After n → (e .bound .0 - (aligned e 8 s) .0) / 8 ≤ n .0)
@@ -555,7 +571,7 @@ module _ (e e′ : Env) (y : Like e e′) where
           × ((n : ByteLength) → zeroAt (ahead e (aligned e 8 s) ++ more l s) ≡ After n → length (ahead e (aligned e 8 s)) ≤ n .0))
           → Beside l (readZero e (zeroAt (ahead e (aligned e 8 s))) s)
           (readZero e′ (zeroAt (ahead e′ (aligned e′ 8 (there l s)))) (there l s))
-      further f w (inl p) = same (ap zeroAt (ahead-there l s f) ∙ p)
+      further f w (inl p) = same f (ap zeroAt (ahead-there l s f) ∙ p)
       further f w (inr p) = inr (cut f w _ _ (p .0) (λ n q.
           let u : length (ahead e (aligned e 8 s)) ≤ n .0 = p .1 n (sym (ap zeroAt (ahead-there l s f)) ∙ q) in
           omega (arith, ahead-length s f)))
@@ -565,7 +581,7 @@ module _ (e e′ : Env) (y : Like e e′) where
           (readZero e′ (zeroAt (ahead e′ (aligned e′ 8 (there l s)))) (there l s))
       by f = ⊎-elim
           (λ (w : e .bound .0 - e .start .0 < e′ .bound .0 - e′ .start .0). further f w (zero-more (ahead e (aligned e 8 s)) (more l s)))
-          (λ (w : e′ .bound .0 - e′ .start .0 ≤ e .bound .0 - e .start .0). same
+          (λ (w : e′ .bound .0 - e′ .start .0 ≤ e .bound .0 - e .start .0). same f
           (ap zeroAt (ahead-there l s f ∙ ap (λ z. ahead e (aligned e 8 s) ++ z) (no-more l s f w) ∙ append-nil _)))
           (lt-or-ge (e .bound .0 - e .start .0) (e′ .bound .0 - e′ .start .0))
 
@@ -574,19 +590,20 @@ module _ (e e′ : Env) (y : Like e e′) where
   unfolding readText
   rel-text k n l s =
       fits l 8 0 _ _ s
-      (λ f. fits l 8 (8 * n) (λ u. put e (text e u) u) (λ u. put e′ (text e′ u) u) s
-      (λ g. inl (ap (λ b. put e′ (textLength b) (there l s)) (bytes-there n l s g) ∙ exact-field e e′ k 8 (8 * n) (text e s) .at l s))
-      (λ g fs t q. reach-only e′ k 8 (8 * n) (text e′ (there l s)) (there l s) fs t q))
+      (λ f. fits l 8 (8 * n) (λ u. put e (of e u) u) (λ u. put e′ (of e′ u) u) s
+      (λ g. inl (ap (λ b. put e′ b (there l s)) (bytes-there n l s g) ∙ exact-text (of e s) k (8 * n) (textLength (of e s)) .at l s))
+      (λ g fs t q. reach-text (of e′ (there l s)) k (8 * n) (textLength (of e′ (there l s))) (there l s) fs t q))
       (λ f fs t q.
-      let q₂ = through-fit e′ 8 (8 * n) (λ u. put e′ (text e′ u) u) (there l s) fs t q in
-      let z : (aligned e′ 8 (there l s)) .0 + 8 * n ≤ t .place .0 = reach-only e′ k 8 (8 * n) (text e′ (there l s)) (there l s) fs t q₂ in
+      let q₂ = through-fit e′ 8 (8 * n) (λ u. put e′ (of e′ u) u) (there l s) fs t q in
+      let z : (aligned e′ 8 (there l s)) .0 + 8 * n ≤ t .place .0 =
+      reach-text (of e′ (there l s)) k (8 * n) (textLength (of e′ (there l s))) (there l s) fs t q₂ in
       omega arith)
     where
-      text : Env → State → ℕ
-      text x u = textLength (bytesAt x (aligned x 8 u) n)
+      of : Env → State → List ℕ
+      of x u = bytesAt x (aligned x 8 u) n
 
-      put : Env → ℕ → Step
-      put x v = field x k 8 (8 * n) v
+      put : Env → List ℕ → Step
+      put x b = asText b ⨾ field x k 8 (8 * n) (textLength b)
 
   onward-blob : (x : Env) (r : Role) (b : List ℕ) → Onward (blobRole x r b)
   unfolding blobRole

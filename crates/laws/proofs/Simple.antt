@@ -1,6 +1,7 @@
 -- Laws that ask nothing of a field's bits or values, and of the slots that it sets only S: what holds of the primitive steps, and under
 -- their composition, holds of every root. L is a law of steps, and R the same of steps that come where there is room for an entry.
-use Prim.Native.Nat.{ℕ, _+_, _-_, _*_, _%_, _^_, _≤_, _<_}
+use mathlib.Core.Path.{_≡_}
+use Prim.Native.Nat.{ℕ, _+_, _-_, _*_, _%_, _^_, _≤_}
 use native.Mathlib.Omega.{arith}
 use native.Mathlib.Nat.{le-refl}
 use lib.Pow.{pow-pos}
@@ -21,13 +22,13 @@ use Rattle.rules.specs.declared.Ended.{Ended}
 use Rattle.rules.specs.declared.Ended.the-variants.{After, Never}
 use Rattle.rules.specs.declared.Refusal.{Refusal}
 use Rattle.rules.specs.declared.Refusal.the-variants.{PastBound, OrderChanged, LebTooLarge, NoZeroByte, SlotUnset, SlotOfWrongSort}
-use Rattle.rules.specs.declared.Refusal.the-variants.{LengthTooLarge, SelectorInNoOption, WrongMagic, WrongUuid, ClockTooLarge}
+use Rattle.rules.specs.declared.Refusal.the-variants.{LengthTooLarge, SelectorInNoOption, WrongMagic, WrongUuid, ClockTooLarge, NotText}
 use Rattle.rules.specs.Limits.{lengthLimit, magicNumber}
 use Rattle.rules.specs.Verdict.{refusalNumber}
 use Rattle.rules.specs.Bits.{bits}
 use Rattle.rules.specs.Leb128.{lebUnsigned, lebSigned}
 use Rattle.rules.specs.Clock.{clockAfter}
-use Rattle.rules.specs.Text.{textLength, zeroAt}
+use Rattle.rules.specs.Text.{textLength, zeroAt, isText}
 use Rattle.rules.specs.Place.{bitPlace, alignFrom}
 use Rattle.rules.specs.Entry.{entry, clockAdvanced}
 use Rattle.rules.specs.Step.{State, Step, _⨾_, refuse, refuseAt, check, checkAt, due, listed, change, pass, withOrder, withClock}
@@ -35,7 +36,7 @@ use Rattle.rules.specs.Class.{Role, noRole, magic, streamClassId, streamId, uui
 use Rattle.rules.specs.Class.{discarded, sequence, eventClassId}
 use Rattle.rules.specs.Class.{Class, Sort, bitArray, boolean, unsignedInt, signedInt, float, kindOf}
 use Rattle.rules.specs.Field.{Env, aligned, fit, ahead, bytesAt, field, store, newClock, say, role, sameBytes, blobRole, fromSlot}
-use Rattle.rules.specs.Field.{valueOf, slotOf, otherOrder, turned}
+use Rattle.rules.specs.Field.{valueOf, slotOf, otherOrder, turned, asText}
 use Rattle.rules.specs.Field.{readFixed, readLeb, readZero, readText, readBlob}
 use Rattle.rules.specs.Packet.{readRoot}
 use Rattle.laws.proofs.Law.{FieldKind, Any, any-slot, FitRoot, Law, law-root, law-any}
@@ -54,15 +55,19 @@ view s = record { place = s .place; order = s .order; clock = s .clock; last = s
 
 -- What a law must say of the primitives of a field
 
+-- a refusal that is not the room's
+abbrev pub NotFull : Refusal → Type 0
+NotFull r = refusalNumber r ≡ 40 → ⊥
+
 pub record Simple (e : Env) (S : ℕ → Type 0) (L R : Step → Type 0) : Type 0 where
   pub seq : {m n : Step} → L m → L n → L (m ⨾ n)
   pub seqʳ : {m n : Step} → R m → L n → R (m ⨾ n)
   pub narrow : {m : Step} → L m → R m
   pub dueʳ : {m : Step} → R m → L (due ⨾ m)
   pub passes : L pass
-  pub refuses : (r : Refusal) → refusalNumber r < 40 → R (refuse r)
-  pub checks : (t : View → Bool) (r : Refusal) → refusalNumber r < 40 → L (check (λ s. t (view s)) r)
-  pub checksʳ : (t : View → Bool) (r : Refusal) → refusalNumber r < 40 → {m : Step} → R m → R (check (λ s. t (view s)) r ⨾ m)
+  pub refuses : (r : Refusal) → NotFull r → R (refuse r)
+  pub checks : (t : View → Bool) (r : Refusal) → NotFull r → L (check (λ s. t (view s)) r)
+  pub checksʳ : (t : View → Bool) (r : Refusal) → NotFull r → {m : Step} → R m → R (check (λ s. t (view s)) r ⨾ m)
   -- 22 is refused at the bound, and 24 at the tenth byte
   pub refusesPast : R (refuseAt PastBound (e .bound))
   pub checksPastʳ : (t : View → Bool) {m : Step} → R m → R (checkAt (λ s. t (view s)) PastBound (e .bound) ⨾ m)
@@ -96,17 +101,17 @@ module _ (e : Env) {S : ℕ → Type 0} {L R : Step → Type 0} (h : Simple e S 
   unfolding turned aligned refusalNumber
   turning a o g =
       h .checksʳ (λ x. not (eqb ((alignFrom (e .start .0) a (x .place .0) - e .start .0) % 8) 0) && otherOrder o (x .order)) OrderChanged
-      (omega arith) g
+      (λ z. omega arith) g
 
   simple-newClock : (l : ℕ) (o : Option ℕ) → R (newClock l o)
   unfolding newClock refusalNumber
-  simple-newClock l none = h .refuses ClockTooLarge (omega arith)
+  simple-newClock l none = h .refuses ClockTooLarge (λ z. omega arith)
   simple-newClock l (some c) = h .seqʳ (h .clocked l c) (h .clocks c)
 
   simple-role : (r : Role) (l v : ℕ) → L (role r l v)
   unfolding role refusalNumber
   simple-role noRole l v = h .passes
-  simple-role magic l v = h .checks (λ x. not (eqb v magicNumber)) WrongMagic (omega arith)
+  simple-role magic l v = h .checks (λ x. not (eqb v magicNumber)) WrongMagic (λ z. omega arith)
   simple-role streamClassId l v = h .says _
   simple-role streamId l v = h .passes
   simple-role uuid l v = h .passes
@@ -124,7 +129,7 @@ module _ (e : Env) {S : ℕ → Type 0} {L R : Step → Type 0} (h : Simple e S 
   simple-blobRole magic b = h .passes
   simple-blobRole streamClassId b = h .passes
   simple-blobRole streamId b = h .passes
-  simple-blobRole uuid b = h .checks (λ x. not (sameBytes b (e .uuid))) WrongUuid (omega arith)
+  simple-blobRole uuid b = h .checks (λ x. not (sameBytes b (e .uuid))) WrongUuid (λ z. omega arith)
   simple-blobRole totalLength b = h .passes
   simple-blobRole contentLength b = h .passes
   simple-blobRole clock b = h .passes
@@ -149,10 +154,16 @@ module _ (e : Env) {S : ℕ → Type 0} {L R : Step → Type 0} (h : Simple e S 
   simple-leb k c i r Past w g = h .refusesPast
   simple-leb k c i r Large w g = h .refusesLarge
 
+  -- a field of text
+  texted : (k n v : ℕ) (x : View → List ℕ) → FieldKind k → R ((λ s. asText (x (view s)) s) ⨾ field e k 8 n v)
+  unfolding asText check refusalNumber
+  texted k n v x g = h .checksʳ (λ u. not (isText (x u))) NotText (λ z. omega arith) (h .fields k 8 n v g (omega arith))
+
   simple-zero : (x : Ended) → R (readZero e x)
-  unfolding readZero refusalNumber
-  simple-zero (After n) = h .fields 23 8 _ _ (omega arith) (omega arith)
-  simple-zero Never = h .refuses NoZeroByte (omega arith)
+  unfolding readZero aligned refusalNumber
+  simple-zero (After n) =
+      texted 23 (8 * (n .0 + 1)) (n .0) (λ x. bytesAt e (bitPlace (alignFrom (e .start .0) 8 (x .place .0))) (n .0)) (omega arith)
+  simple-zero Never = h .refuses NoZeroByte (λ z. omega arith)
 
   -- a step behind the alignment to whole bytes, which looks at the place
   bytewise : (f : BitPlace → Step) → ((p : BitPlace) → R (f p)) → R (fit e 8 0 ⨾ λ s. f (aligned e 8 s) s)
@@ -172,10 +183,10 @@ module _ (e : Env) {S : ℕ → Type 0} {L R : Step → Type 0} (h : Simple e S 
     dueʳ = λ a. h .dueʳ a;
     passes = h .passes;
     unsets = λ i w. h .stores i Unset w;
-    unset = h .refuses SlotUnset (omega arith);
-    wrongSort = h .refuses SlotOfWrongSort (omega arith);
-    inNone = h .refuses SelectorInNoOption (omega arith);
-    within = λ n a. h .checksʳ (λ x. ltb lengthLimit n) LengthTooLarge (omega arith) a;
+    unset = h .refuses SlotUnset (λ z. omega arith);
+    wrongSort = h .refuses SlotOfWrongSort (λ z. omega arith);
+    inNone = h .refuses SelectorInNoOption (λ z. omega arith);
+    within = λ n a. h .checksʳ (λ x. ltb lengthLimit n) LengthTooLarge (λ z. omega arith) a;
     slot = λ i f a. h .slots i f (λ x. a x (any-slot x));
     fixes = λ k n o a i r w z. simple-fixed k n o (2 ^ a) i r z (pow-pos a);
     lebs = λ i r z. bytewise (λ p. readLeb e 21 Unsigned i r (lebUnsigned (ahead e p))) (λ p. simple-leb 21 Unsigned i r _ z (omega arith));
@@ -183,7 +194,8 @@ module _ (e : Env) {S : ℕ → Type 0} {L R : Step → Type 0} (h : Simple e S 
         bytewise (λ p. readLeb e 22 Signed i noRole (lebSigned (ahead e p))) (λ p. simple-leb 22 Signed i noRole _ z (omega arith));
     zeros = bytewise (λ p. readZero e (zeroAt (ahead e p))) (λ p. simple-zero _);
     texts = λ k n g. unfold readText in
-        bytes n (λ p. field e k 8 (8 * n) (textLength (bytesAt e p n))) (λ p. h .fields k 8 (8 * n) _ g (omega arith));
+        bytes n (λ p. asText (bytesAt e p n) ⨾ field e k 8 (8 * n) (textLength (bytesAt e p n)))
+        (λ p. texted k (8 * n) (textLength (bytesAt e p n)) (λ x. bytesAt e p n) g);
     blobs = λ k n r g. unfold readBlob in
         bytes n (λ p. field e k 8 (8 * n) n ⨾ blobRole e r (bytesAt e p n))
         (λ p. h .seqʳ (h .fields k 8 (8 * n) n g (omega arith)) (simple-blobRole r _));

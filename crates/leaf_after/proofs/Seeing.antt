@@ -27,16 +27,18 @@ use Rattle.rules.specs.Place.{further}
 use Rattle.rules.specs.Entry.{entry}
 use Rattle.rules.specs.Step.{State, Step, go, _⨾_, onto, after, pass, refuse, refuseAt, check, checkAt, listed, change}
 use Rattle.rules.specs.Step.{withOrder, withSlots}
-use Rattle.rules.specs.Field.{Env, aligned, fit, ahead, bytesAt, sameBytes, field, store, role, turned, fromSlot, asNumber, asLength, readFixed, readLeb, readZero, readText, blobRole, readBlob, read}
+use Rattle.rules.specs.Field.{Env, aligned, fit, ahead, bytesAt, sameBytes, field, store, role, turned, fromSlot, asNumber, asLength}
+use Rattle.rules.specs.Field.{readFixed, readLeb, asText, readZero, readText, blobRole, readBlob, read}
 use Rattle.facts.proofs.Steps.{onto-nil}
 use Rattle.facts.proofs.Numbers.{lt-or-ge}
 use Rattle.facts.proofs.Cases.{_▷_, below}
 use Rattle.facts.proofs.Slots.{no-slot}
 use Rattle.frame.specs.declared.Frame.{Frame}
 use Rattle.leaf_find_number.specs.declared.Found.{Found}
+use Rattle.leaf_find_number.specs.declared.Found.the-variants.{At}
 use Rattle.frame.specs.Framed.{envOf, alignedAt}
 use Rattle.leaf_find_number.specs.Found.{unless, within, bytesAhead, foundBits, foundLeb, foundUnsigned, foundSigned}
-use Rattle.leaf_find_bytes.specs.Found.{foundZero, foundString, foundText, foundBlob}
+use Rattle.leaf_find_bytes.specs.Found.{ofText, foundZero, foundString, foundText, foundBlob}
 use Rattle.slots.specs.Taken.{lengthOf}
 use Rattle.listing.proofs.Checks.{check-stops, check-goes, checkAt-stops, checkAt-goes, room-first}
 use Rattle.leaf_after.specs.declared.Seen.{Seen}
@@ -55,6 +57,12 @@ checkAt-seen : (t : State → Bool) (r : Refusal) (p : BitPlace) (m : Step) (s :
 unfolding _⨾_ after unless seen done refuseAt
 checkAt-seen t r p m s true x f h e = ap (λ o. after o m) (checkAt-stops t r p s h)
 checkAt-seen t r p m s false x f h e = ap (λ o. after o m) (checkAt-goes t r p s h) ∙ onto-nil (m s) ∙ e
+
+-- whether bytes are text: "Inside a field it comes after 22 and 25." (02, 1)
+text-seen : (x : List ℕ) (m : Step) (s : State) (y : Found) (f : Told) →
+    m s ≡ done (seen y f) s → (asText x ⨾ m) s ≡ done (seen (ofText x (s .place) y) f) s
+unfolding asText ofText
+text-seen x m s y f e = check-seen _ _ m s _ y f refl e
 
 -- the state behind an entry
 abbrev behindEntry : BitPlace → ℕ → State → State
@@ -136,9 +144,10 @@ module _ (b uuid : List ℕ) (f : Frame) (s : State) (h : 4 ≤ s .room) where
     unfolding done doneDue plainSeen _⨾_ after onto listed change withOrder store withSlots role roleOf roles pass
     plain-listed k p n v = rw (no-slot (s .slots) noSlot Unset long (omega arith)) refl
 
-    zero-read : (x : Ended) → readZero env x s ≡ done (seen (foundZero (s .place) (alignedAt f 8 (s .place)) x) (plainSeen 23 (s .order))) s
-    unfolding readZero refuse refuseAt field aligned foundZero alignedAt seen done
-    zero-read (After n) = plain-listed 23 _ _ _
+    zero-read : (x : Ended) → readZero env x s
+        ≡ done (seen (foundZero b (s .place) (alignedAt f 8 (s .place)) x) (plainSeen 23 (s .order))) s
+    unfolding readZero _⨾_ refuse refuseAt bytesAt field aligned foundZero alignedAt seen done
+    zero-read (After n) = text-seen _ _ s (At _ _ _) (plainSeen 23 (s .order)) (plain-listed 23 _ _ _)
     zero-read Never = refl
 
     pub string-read : read env string s ≡ done (seen (foundString b f (s .place)) (plainSeen 23 (s .order))) s
@@ -149,7 +158,8 @@ module _ (b uuid : List ℕ) (f : Frame) (s : State) (h : 4 ≤ s .room) where
     unfolding readText fit aligned bytesAt field foundText within alignedAt seen
     text-read k n =
         let plain = plainSeen k (s .order) in
-        checkAt-seen _ _ _ _ s _ _ plain refl (checkAt-seen _ _ _ _ s _ _ plain refl (plain-listed k _ _ _))
+        checkAt-seen _ _ _ _ s _ _ plain refl
+        (checkAt-seen _ _ _ _ s _ _ plain refl (text-seen _ _ s (At _ _ _) plain (plain-listed k _ _ _)))
 
     pub static-string-read : (n : ℕ) → read env (staticString n) s ≡ done (seen (foundText b f (s .place) n) (plainSeen 24 (s .order))) s
     unfolding read

@@ -14,44 +14,53 @@ use Rattle.leaf_find_number.specs.declared.Found.{Found}
 use Rattle.leaf_find_number.specs.declared.Found.the-variants.{At, Refused}
 use Rattle.frame.specs.Framed.{Framed, alignedAt}
 use Rattle.leaf_find_number.specs.Found.{within, bytesAhead}
-use Rattle.leaf_find_number.proofs.Lies.{within-found, ahead-length, below-bound}
-use Rattle.leaf_find_bytes.specs.Found.{Ends, foundZero, foundString, foundBlob, foundText}
+use Rattle.leaf_find_number.proofs.Lies.{unless-found, within-found, ahead-length, below-bound}
+use Rattle.leaf_find_bytes.specs.Found.{Ends, ofText, foundZero, foundString, foundBlob, foundText}
 
 module _ (f : Frame) (p : BitPlace) (m v : ℕ) where
-  zero-lies : (bs : List ℕ) (from q : BitPlace) (x : Ended) → x ≡ zeroAt bs → length bs ≤ (f .bound .0 - q .0) / 8 → q .0 ≤ f .bound .0
-      → foundZero from q x ≡ At m p v → p .0 + m ≤ f .bound .0
-  unfolding foundZero
-  zero-lies bs from q (After n) is h l e =
+  zero-lies : (b bs : List ℕ) (from q : BitPlace) (x : Ended) → x ≡ zeroAt bs → length bs ≤ (f .bound .0 - q .0) / 8 → q .0 ≤ f .bound .0
+      → foundZero b from q x ≡ At m p v → p .0 + m ≤ f .bound .0
+  unfolding foundZero ofText
+  zero-lies b bs from q (After n) is h l e =
+      let same = unless-found f p m v _ _ _ _ e in
       let place : q ≡ p = cc in
       let width : 8 * (n .0 + 1) ≡ m = cc in
       rw (← place, ← width) (omega (arith, zero-found bs n (sym is) .0))
-  zero-lies bs from q Never is h l e = let z : _≡_ {A = ℕ} 0 1 = cc in absurd (omega arith)
+  zero-lies b bs from q Never is h l e = let z : _≡_ {A = ℕ} 0 1 = cc in absurd (omega arith)
 
   -- so many bytes from a place on, whatever they say
-  bytes-found : (q : BitPlace) (n w : ℕ) → within f q 0 (within f q (8 * n) (At (8 * n) q w)) ≡ At m p v
+  bytes-lie : (q : BitPlace) (n w : ℕ) → q .0 + 8 * n ≤ f .bound .0 → At (8 * n) q w ≡ At m p v
       → (p .0 + m ≤ f .bound .0) × (m ≡ 8 * n) × (v ≡ w)
-  bytes-found q n w e =
-      let inside = within-found f p m v q (8 * n) _ (within-found f p m v q 0 _ e .1) in
-      let same = inside .1 in
+  bytes-lie q n w fits same =
       let place : q ≡ p = cc in
       let width : 8 * n ≡ m = cc in
       let value : w ≡ v = cc in
-      rw (← place, ← width, ← value) (inside .0, refl, refl)
+      rw (← place, ← width, ← value) (fits, refl, refl)
+
+  bytes-found : (q : BitPlace) (n : ℕ) (x : Found) → within f q 0 (within f q (8 * n) x) ≡ At m p v
+      → (q .0 + 8 * n ≤ f .bound .0) × (x ≡ At m p v)
+  bytes-found q n x e = within-found f p m v q (8 * n) x (within-found f p m v q 0 _ e .1)
 
   string-found : (b : List ℕ) (from : BitPlace) → foundString b f from ≡ At m p v → p .0 + m ≤ f .bound .0
   unfolding foundString
   string-found b from e =
       let q = alignedAt f 8 from in
       let inside = within-found f p m v q 0 _ e in
-      zero-lies (bytesAhead b f q) from q _ refl (ahead-length b f q) (omega (arith, inside .0)) (inside .1)
+      zero-lies b (bytesAhead b f q) from q _ refl (ahead-length b f q) (omega (arith, inside .0)) (inside .1)
 
   blob-found : (from : BitPlace) (n : ℕ) → foundBlob f from n ≡ At m p v → (p .0 + m ≤ f .bound .0) × (m ≡ 8 * n) × (v ≡ n)
   unfolding foundBlob
-  blob-found from n e = bytes-found (alignedAt f 8 from) n n e
+  blob-found from n e =
+      let q = alignedAt f 8 from in
+      let inside = bytes-found q n _ e in
+      bytes-lie q n n (inside .0) (inside .1)
 
   text-found : (b : List ℕ) (from : BitPlace) (n : ℕ) → foundText b f from n ≡ At m p v → p .0 + m ≤ f .bound .0
-  unfolding foundText
-  text-found b from n e = bytes-found (alignedAt f 8 from) n _ e .0
+  unfolding foundText ofText
+  text-found b from n e =
+      let q = alignedAt f 8 from in
+      let inside = bytes-found q n _ e in
+      bytes-lie q n _ (inside .0) (unless-found f p m v _ _ _ _ (inside .1)) .0
 
 -- What the code rests on: x is what was found in a frame
 

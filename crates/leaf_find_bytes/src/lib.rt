@@ -5,7 +5,6 @@ use leaf_find_number::BYTE;
 use leaf_find_number::Found;
 use rules::BitPlace;
 use rules::ByteLength;
-use rules::Ended;
 use rules::Refusal;
 ghost use mathlib.Core.Path.{_≡_};
 ghost use Prim.Native.Nat.{_≤_};
@@ -27,16 +26,26 @@ pub fn find_string(stream: &[u8], frame: Frame, from: BitPlace) -> Found
     }
     let at = places::bytes_before(place);
     let end = places::bytes_before(frame.bound);
-    match text::find_zero(stream, at, end) {
-        Ended::After(n) => Found::At {
-            bits: places::bits_in(ByteLength(n.0 + 1)),
-            place,
-            value: n.0 as u64,
-        },
-        Ended::Never => Found::Refused {
+    let left = end.0 - at.0;
+    let text = text::read_before(stream, at, end);
+    let count = text.count;
+    if count.0 == left {
+        return Found::Refused {
             place: from,
             why: Refusal::NoZeroByte,
-        },
+        };
+    }
+    if !text.formed {
+        return Found::Refused {
+            place: from,
+            why: Refusal::NotText,
+        };
+    }
+    let bytes = count.0 + 1;
+    Found::At {
+        bits: places::bits_in(ByteLength(bytes)),
+        place,
+        value: count.0 as u64,
     }
 }
 
@@ -77,7 +86,14 @@ pub fn find_text(stream: &[u8], frame: Frame, from: BitPlace, bytes: ByteLength)
     match find_blob(stream, frame, from, bytes) {
         Found::Refused { place, why } => Found::Refused { place, why },
         Found::At { place, bits, value } => {
-            let count = text::count(stream, places::bytes_before(place), bytes);
+            let text = text::read(stream, places::bytes_before(place), bytes);
+            if !text.formed {
+                return Found::Refused {
+                    place: from,
+                    why: Refusal::NotText,
+                };
+            }
+            let count = text.count;
             Found::At {
                 bits,
                 place,

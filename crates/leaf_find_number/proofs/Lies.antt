@@ -29,7 +29,7 @@ use Rattle.leaf_find_number.proofs.Finds.{within-past, within-fits}
 -- A leaf that was found passed each test
 
 module _ (f : Frame) (p : BitPlace) (m v : ℕ) where
-  unless-found : (t : Bool) (r : Refusal) (q : BitPlace) (x : Found) → unless t r q x ≡ At m p v → x ≡ At m p v
+  pub unless-found : (t : Bool) (r : Refusal) (q : BitPlace) (x : Found) → unless t r q x ≡ At m p v → x ≡ At m p v
   unfolding unless
   unless-found true r q x e = let z : _≡_ {A = ℕ} 0 1 = cc in absurd (omega arith)
   unless-found false r q x e = e

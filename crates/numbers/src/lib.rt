@@ -1,5 +1,5 @@
 // The papers' numbers, each named once. A body's length is told by the one table of lengths by kind (table_records::bodies), and the
-// numbers 21 to 40 by what they refuse (rules::Refusal; reader_result gives each its number).
+// numbers 21 to 41 by what they refuse (rules::Refusal; reader_result gives each its number).
 //
 // kinds      the kinds of records and classes
 // roots      the roots of a packet and of an event

@@ -21,7 +21,7 @@ use Rattle.rules.specs.declared.Ended.{Ended}
 use Rattle.rules.specs.declared.Ended.the-variants.{After, Never}
 use Rattle.rules.specs.declared.Entry.{Entry}
 use Rattle.rules.specs.declared.Refusal.{Refusal}
-use Rattle.rules.specs.declared.Refusal.the-variants.{OrderChanged, NoZeroByte, SlotUnset, SlotOfWrongSort}
+use Rattle.rules.specs.declared.Refusal.the-variants.{OrderChanged, NoZeroByte, SlotUnset, SlotOfWrongSort, NotText}
 use Rattle.rules.specs.declared.Refusal.the-variants.{LengthTooLarge, SelectorInNoOption, WrongMagic, WrongUuid, ClockTooLarge}
 use Rattle.rules.specs.declared.Stop.{Stop}
 use Rattle.rules.specs.Verdict.{stopAt}
@@ -40,7 +40,7 @@ use Rattle.rules.specs.Class.{string, staticString, staticBlob, dynamicString, 
 use Rattle.rules.specs.Class.{structure, staticArray, dynamicArray, flagged, optional, variant, Classes, noMember, member, Options}
 use Rattle.rules.specs.Class.{noOption, option as anOption, count}
 use Rattle.rules.specs.Field.{Env, aligned, fit, field, store, newClock, say, role, blobRole as roleOfBytes, fromSlot, asFlag, asNumber}
-use Rattle.rules.specs.Field.{asLength, valueOf, slotOf, ahead, bytesAt, readFixed, readLeb, readZero, readText, readBlob, times}
+use Rattle.rules.specs.Field.{asLength, valueOf, slotOf, ahead, bytesAt, readFixed, readLeb, asText, readZero, readText, readBlob, times}
 use Rattle.rules.specs.Field.{forget, present, read, readMembers, readOption}
 use Rattle.rules.specs.Packet.{readRoot}
 use Rattle.rules.specs.Record.{Shape, bitField, lebField, signedLebField, zeroString, text, blob, textOf, blobOf, members, elements}
@@ -494,15 +494,21 @@ module _ (j : ℕ) where
     keeps-leb k c i r w Past = refusing-at AnyEntry AnyStop AnyRefusal _ _ (λ s x. tt)
     keeps-leb k c i r w Large = record { at = λ s h. (tt, tt) }
 
+    keeps-asText : (x : List ℕ) → Keeps (asText x)
+    unfolding asText
+    keeps-asText x = keeps-check _ NotText
+
     keeps-zero : (x : Ended) → Keeps (readZero e x)
     unfolding readZero
-    keeps-zero (After n) = keeps-field e 23 8 (8 * (n .0 + 1)) (n .0)
+    keeps-zero (After n) =
+        record { at = λ s h. keeps-asText (bytesAt e (aligned e 8 s) (n .0)) .at s h } ⨾ᵏ keeps-field e 23 8 (8 * (n .0 + 1)) (n .0)
     keeps-zero Never = keeps-refuse NoZeroByte
 
     keeps-text : (k n : ℕ) → Keeps (readText e k n)
     unfolding readText
-    keeps-text k n = fitted e 8 0
-        (fitted e 8 (8 * n) (record { at = λ s h. keeps-field e k 8 (8 * n) (textLength (bytesAt e (aligned e 8 s) n)) .at s h }))
+    keeps-text k n = fitted e 8 0 (fitted e 8 (8 * n) (record {
+      at = λ s h. let b = bytesAt e (aligned e 8 s) n in (keeps-asText b ⨾ᵏ keeps-field e k 8 (8 * n) (textLength b)) .at s h;
+    }))
 
     keeps-blob : (k n : ℕ) (r : Role) → Keeps (readBlob e k n r)
     unfolding readBlob

@@ -12,7 +12,7 @@ use Rattle.rules.specs.declared.Refusal.{Refusal}
 use Rattle.rules.specs.declared.Refusal.the-variants.{StreamSize, PastBound, OrderChanged, LebTooLarge, NoZeroByte, SlotUnset}
 use Rattle.rules.specs.declared.Refusal.the-variants.{SlotOfWrongSort, LengthTooLarge, SelectorInNoOption, WrongMagic, WrongUuid}
 use Rattle.rules.specs.declared.Refusal.the-variants.{StreamClassChanged, StreamClassUnknown, LengthsContradict, ClocksContradict}
-use Rattle.rules.specs.declared.Refusal.the-variants.{ClockTooLarge, EventClassUnknown, EventTookNoBits, ClockWentBack, ListFull}
+use Rattle.rules.specs.declared.Refusal.the-variants.{ClockTooLarge, EventClassUnknown, EventTookNoBits, ClockWentBack, ListFull, NotText}
 use Rattle.rules.specs.declared.Verdict.{Verdict}
 use Rattle.rules.specs.declared.Verdict.the-variants.{Accepted, TableRefused, Refused}
 use Rattle.rules.specs.declared.Checked.the-variants.{Refused as CheckRefused}
@@ -61,6 +61,7 @@ ids-first (EventClassUnknown i j) h k = absurd (k refl)
 ids-first EventTookNoBits h k = refl
 ids-first ClockWentBack h k = refl
 ids-first ListFull h k = refl
+ids-first NotText h k = refl
 
 ids-second : (r : Refusal) → (refusalNumber r ≡ 37 → ⊥) → refusalSecond r ≡ 0
 unfolding refusalNumber refusalSecond
@@ -84,6 +85,7 @@ ids-second (EventClassUnknown i j) h = absurd (h refl)
 ids-second EventTookNoBits h = refl
 ids-second ClockWentBack h = refl
 ids-second ListFull h = refl
+ids-second NotText h = refl
 
 verdict-first : (v : Verdict) → (numberOf v ≡ 20 → ⊥) → (numberOf v ≡ 33 → ⊥) → (numberOf v ≡ 37 → ⊥) → firstOf v ≡ 0
 unfolding numberOf firstOf
@@ -97,7 +99,7 @@ verdict-second (Accepted p) k = refl
 verdict-second (TableRefused n p) k = refl
 verdict-second (Refused v) k = ids-second (v .why) k
 
-verdict-number : (v : Verdict) → (numberOf v ≡ 0) ⊎ ((20 ≤ numberOf v) × (numberOf v ≤ 40))
+verdict-number : (v : Verdict) → (numberOf v ≡ 0) ⊎ ((20 ≤ numberOf v) × (numberOf v ≤ 41))
 unfolding numberOf
 verdict-number (Accepted p) = inl refl
 verdict-number (TableRefused n p) = inr (omega arith)

@@ -27,7 +27,7 @@ use Rattle.rules.specs.declared.Refusal.{Refusal}
 use Rattle.rules.specs.declared.Refusal.the-variants.{StreamSize, PastBound, OrderChanged, LebTooLarge, NoZeroByte, SlotUnset}
 use Rattle.rules.specs.declared.Refusal.the-variants.{SlotOfWrongSort, LengthTooLarge, SelectorInNoOption, WrongMagic, WrongUuid}
 use Rattle.rules.specs.declared.Refusal.the-variants.{StreamClassChanged, StreamClassUnknown, LengthsContradict, ClocksContradict}
-use Rattle.rules.specs.declared.Refusal.the-variants.{EventClassUnknown, EventTookNoBits, ClockWentBack, ListFull}
+use Rattle.rules.specs.declared.Refusal.the-variants.{EventClassUnknown, EventTookNoBits, ClockWentBack, ListFull, NotText}
 use Rattle.rules.specs.declared.Verdict.the-variants.{Refused}
 use Rattle.rules.specs.Limits.{streamLimit}
 use Rattle.rules.specs.Bits.{bits}
@@ -45,7 +45,7 @@ use Rattle.rules.specs.Class.{contentLength, clock, endClock, discarded, sequen
 use Rattle.rules.specs.Class.{Class, Sort, bitArray, boolean, unsignedInt, signedInt, float, kindOf}
 use Rattle.rules.specs.Table.{StreamClass, EventClass, Table, Asked, asked}
 use Rattle.rules.specs.Field.{Env, aligned, fit, field, store, newClock, say, role, blobRole, fromSlot}
-use Rattle.rules.specs.Field.{valueOf, ahead, bytesAt, readFixed, readLeb, readZero, readText, readBlob}
+use Rattle.rules.specs.Field.{valueOf, ahead, bytesAt, readFixed, readLeb, asText, readZero, readText, readBlob}
 use Rattle.rules.specs.Packet.{mark, readRoot, withEvent, withStream, startEvent, startPacket}
 use Rattle.rules.specs.Packet.{endPacket, readEvent, readEvents, readContent, readPacket, readPackets}
 use Rattle.rules.specs.Parse.{Parsed, bad, good, parse}
@@ -363,9 +363,14 @@ module _ (e : Env) where
   tick-leb k c i r Past h l = tick-refuseAt PastBound (e .bound) (λ q. omega arith)
   tick-leb k c i r Large h l = record { at = λ u s. tick-refuseAt LebTooLarge (tenthByte e s) (λ q. omega arith) .at u s }
 
+  tick-asText : (x : List ℕ) → Tick (asText x)
+  unfolding asText refusalNumber
+  tick-asText x = tick-check _ NotText (λ q. omega arith)
+
   tick-zero : (x : Ended) → Tick (readZero e x)
   unfolding readZero refusalNumber
-  tick-zero (After n) = tick-field e 23 8 _ _ (omega arith)
+  tick-zero (After n) =
+      record { at = λ v s. tick-asText (bytesAt e (aligned e 8 s) (n .0)) .at v s } ⨾ᵗ tick-field e 23 8 _ _ (omega arith)
   tick-zero Never = tick-refuse NoZeroByte (λ q. omega arith)
 
   tick-law : Law e Any Any Any Tick Tick
@@ -396,7 +401,9 @@ module _ (e : Env) where
     zeros = tick-fit 8 0 ⨾ᵗ record { at = λ v s. tick-zero (zeroAt (ahead e (aligned e 8 s))) .at v s };
     texts = λ k n h. unfold readText in
         tick-fit 8 0 ⨾ᵗ tick-fit 8 (8 * n)
-        ⨾ᵗ record { at = λ v s. tick-field e k 8 (8 * n) (textLength (bytesAt e (aligned e 8 s) n)) h .at v s };
+        ⨾ᵗ record {
+          at = λ v s. let b = bytesAt e (aligned e 8 s) n in (tick-asText b ⨾ᵗ tick-field e k 8 (8 * n) (textLength b) h) .at v s;
+        };
     blobs = λ k n r h. unfold readBlob in
         tick-fit 8 0 ⨾ᵗ tick-fit 8 (8 * n)
         ⨾ᵗ record { at = λ v s. (tick-field e k 8 (8 * n) n h ⨾ᵗ tick-blobRole e r (bytesAt e (aligned e 8 s) n)) .at v s };

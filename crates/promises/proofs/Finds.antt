@@ -134,4 +134,8 @@ demand-3-figures = record {
   stream-bytes = refl;
   stream-missed = refl;
   stream-result = refl;
+  text-bytes = refl;
+  text-missed = refl;
+  text-result = refl;
+  text-same = refl;
 }

@@ -1,15 +1,17 @@
 -- The rules refuse by the paper's numbers for the answers: a field that gets to its bytes does as the answer says. In order: fields;
 -- stamps; records.
-use mathlib.Core.Path.{_≡_, refl, sym, subst, _∙_}
+use mathlib.Core.Path.{_≡_, refl, sym, ap, subst, _∙_}
 use mathlib.Core.Logic.{_↔_}
-use Prim.Native.Nat.{ℕ, zero, suc, _+_, _%_, _^_, _≤_}
+use Prim.Native.Nat.{ℕ, zero, suc, _+_, _-_, _*_, _/_, _%_, _^_, _≤_, _<_}
 use native.Mathlib.Omega.{arith}
 use mathlib.Core.List.{List, [], _∷_}
 use mathlib.Core.Bool.{Bool, true, false, not, _&&_, _||_}
 use mathlib.Core.Option.{Option, none, some}
-use lib.ListN.{getD}
+use lib.ListN.{length, getD, take, drop, length-take}
+use lib.Seq.{take-take}
 use borrow.Author.Tests.{le-ltb}
 use Rattle.rules.specs.declared.BitPlace.{BitPlace}
+use Rattle.rules.specs.declared.ByteLength.{ByteLength}
 use Rattle.rules.specs.declared.Entry.{Entry}
 use Rattle.rules.specs.declared.Content.{Content}
 use Rattle.rules.specs.declared.Content.the-variants.{Unsigned, Signed}
@@ -18,27 +20,31 @@ use Rattle.rules.specs.declared.Leb.the-variants.{Value, Past, Large}
 use Rattle.rules.specs.declared.Ended.{Ended}
 use Rattle.rules.specs.declared.Ended.the-variants.{After, Never}
 use Rattle.rules.specs.declared.Refusal.{Refusal}
-use Rattle.rules.specs.declared.Refusal.the-variants.{PastBound, LebTooLarge, NoZeroByte, ClockTooLarge}
+use Rattle.rules.specs.declared.Refusal.the-variants.{PastBound, LebTooLarge, NoZeroByte, ClockTooLarge, NotText}
 use Rattle.rules.specs.Record.{Record, unknown, fragment, root, class, range, option, Layout, no, bitsLayout, layouts, layoutOf, recordOf, u8}
 use Rattle.rules.specs.Faults.{Ids, firstFault, recordFault}
 use Rattle.rules.specs.Leb128.{lebUnsigned, lebSigned}
 use Rattle.rules.specs.Clock.{clockAfter}
-use Rattle.rules.specs.Text.{zeroAt}
+use Rattle.rules.specs.Text.{textLength, zeroAt, isText}
+use Rattle.rules.specs.Slots.{slotAt}
+use Rattle.rules.specs.Limits.{wordsPerEntry, lengthLimit}
 use Rattle.rules.specs.Class.{Role, noRole}
 use Rattle.rules.specs.Verdict.{refusalNumber}
 use Rattle.rules.specs.Step.{State, Out, stop, go, Step, onto, after, _⨾_, refuse, refuseAt, check, checkAt, due, listed, pass}
-use Rattle.rules.specs.Field.{Env, aligned, fit, ahead, field, newClock, role, readLeb, readZero, read}
+use Rattle.rules.specs.Field.{Env, aligned, fit, ahead, bytesAt, field, newClock, role, fromSlot, asNumber, asLength}
+use Rattle.rules.specs.Field.{readLeb, asText, readZero, readText, read}
 use Rattle.facts.proofs.Truth.{clash, and-left, and-right}
 use Rattle.facts.proofs.Steps.{onto-nil}
 use Rattle.leb128.specs.Answer.{lebNumber}
 use Rattle.clock.specs.Ticked.{tickedOf, tickedNumber}
 use Rattle.clock.specs.Least.{Least}
 use Rattle.clock.proofs.Least.{new-clock}
-use Rattle.text.specs.Number.{endedNumber}
+use Rattle.text.specs.Number.{textNumber, endedNumber}
+use Rattle.text.proofs.Laws.{zero-found, text-own}
 use Rattle.table_offsets.specs.declared.Body.the-variants.{Bytes, Unknown}
 use Rattle.table_offsets.specs.Bodies.{known, bodyIn, bodyOf, bodyNumber}
 use Rattle.laws.proofs.Places.{tenthByte}
-use Rattle.promises.specs.Numbers.{Lists, ByNumber, AtBytes, lebPlace, Numbers}
+use Rattle.promises.specs.Numbers.{Lists, ByNumber, AtBytes, BytesFit, lebPlace, Numbers}
 use Rattle.promises.proofs.Clocks.{after-least, after-none}
 
 -- Fields
@@ -51,9 +57,18 @@ fit-passed : (e : Env) (a n : ℕ) (m : Step) (s : State) → (aligned e a s) .0
 unfolding fit checkAt _⨾_ pass after
 fit-passed e a n m s h = rw (le-ltb (e .bound .0) ((aligned e a s) .0 + n) h, checkAt) (onto-nil (m s))
 
-at-bytes : (e : Env) (m : Step) (s : State) → AtBytes e s → (due ⨾ fit e 8 0 ⨾ m) s ≡ m s
+due-passed : (m : Step) (s : State) → wordsPerEntry ≤ s .room → (due ⨾ m) s ≡ m s
 unfolding due
-at-bytes e m s h = check-passed _ _ _ s (le-ltb (s .room) 4 (h .room)) ∙ fit-passed e 8 0 m s (omega (arith, h .within))
+due-passed m s h = check-passed _ _ _ s (le-ltb (s .room) wordsPerEntry h)
+
+-- a slot that has a length
+length-passed : (i n : ℕ) (f : ℕ → Step) (s : State) → slotAt (s .slots) i ≡ Unsigned n → n ≤ lengthLimit
+    → fromSlot i (λ x. asLength x f) s ≡ f n s
+unfolding fromSlot asLength asNumber
+length-passed i n f s u l = ap (λ x. asLength x f s) u ∙ check-passed _ _ _ s (le-ltb lengthLimit n l)
+
+at-bytes : (e : Env) (m : Step) (s : State) → AtBytes e s → (due ⨾ fit e 8 0 ⨾ m) s ≡ m s
+at-bytes e m s h = due-passed _ s (h .room) ∙ fit-passed e 8 0 m s (omega (arith, h .within))
 
 -- an entry is listed, whatever comes behind it
 lists-onto : (x : Entry) (o : Out) → Lists (onto (x ∷ []) o)
@@ -79,10 +94,43 @@ by-leb e k c i r (Value v n) s = by-zero s _ (lists-onto _ _)
 by-leb e k c i r Past s = by-refuseAt PastBound (e .bound) s (unfold refusalNumber in λ q. omega arith)
 by-leb e k c i r Large s = by-refuseAt LebTooLarge (tenthByte e s) s (unfold refusalNumber in λ q. omega arith)
 
-by-zeroByte : (e : Env) (x : Ended) (s : State) → ByNumber (endedNumber x) (s .place) (readZero e x s)
-unfolding readZero endedNumber field listed
-by-zeroByte e (After n) s = by-zero s _ tt
-by-zeroByte e Never s = by-refuse NoZeroByte s (unfold refusalNumber in λ q. omega arith)
+-- bytes that are text, or are not, and the field that waits for it
+by-text : (e : Env) (x : List ℕ) (k n v : ℕ) (s : State) → ByNumber (textNumber (isText x)) (s .place) ((asText x ⨾ field e k 8 n v) s)
+unfolding asText check _⨾_
+by-text e x k n v s = by (isText x)
+  where
+    by : (formed : Bool)
+        → ByNumber (textNumber formed) (s .place) (after (elim (not formed) [ true ↦ refuse NotText s | false ↦ pass s ]) (field e k 8 n v))
+    by true = unfold textNumber pass after field listed onto in by-zero s _ tt
+    by false = unfold textNumber refuse after in by-refuse NotText s (unfold refusalNumber in λ q. omega arith)
+
+front-ahead : (e : Env) (p : BitPlace) (n : ℕ) → n < length (ahead e p) → take n (ahead e p) ≡ bytesAt e p n
+unfolding ahead bytesAt
+front-ahead e p n h =
+    let left : ℕ = (e .bound .0 - p .0) / 8 in
+    let from : List ℕ = drop (p .0 / 8) (e .bytes) in
+    take-take n left from (omega (arith, length-take left from))
+
+-- the text that a zero byte ends is that of all bytes from its first one on
+text-ahead : (e : Env) (p : BitPlace) (n : ByteLength) → zeroAt (ahead e p) ≡ After n → isText (bytesAt e p (n .0)) ≡ isText (ahead e p)
+text-ahead e p n q =
+    let found = zero-found (ahead e p) n q in
+    rw (← front-ahead e p (n .0) (found .0), ← found .1) (text-own (ahead e p))
+
+by-zeroByte : (e : Env) (x : Ended) (s : State) → zeroAt (ahead e (aligned e 8 s)) ≡ x
+    → ByNumber (endedNumber (isText (ahead e (aligned e 8 s))) x) (s .place) (readZero e x s)
+unfolding readZero endedNumber _⨾_
+by-zeroByte e (After n) s q =
+    subst (λ t. ByNumber (textNumber t) (s .place) (readZero e (After n) s)) (text-ahead e (aligned e 8 s) n q)
+    (by-text e (bytesAt e (aligned e 8 s) (n .0)) 23 (8 * (n .0 + 1)) (n .0) s)
+by-zeroByte e Never s q = by-refuse NoZeroByte s (unfold refusalNumber in λ z. omega arith)
+
+by-bytes : (e : Env) (k n : ℕ) (s : State) → AtBytes e s → BytesFit e n s
+    → ByNumber (textNumber (isText (bytesAt e (aligned e 8 s) n))) (s .place) (readText e k n s)
+unfolding readText
+by-bytes e k n s h f =
+    subst (ByNumber _ _) (sym (fit-passed e 8 0 _ s (omega (arith, h .within)) ∙ fit-passed e 8 (8 * n) _ s f))
+    (by-text e (bytesAt e (aligned e 8 s) n) k (8 * n) (textLength (bytesAt e (aligned e 8 s) n)) s)
 
 -- Stamps
 
@@ -155,14 +203,17 @@ unfolding read role
 numbers = record {
   leb-past = unfold lebNumber refusalNumber in refl;
   leb-large = unfold lebNumber refusalNumber in refl;
-  zero-never = unfold endedNumber refusalNumber in refl;
+  zero-never = λ formed. unfold endedNumber refusalNumber in refl;
+  no-text = λ n. unfold endedNumber textNumber refusalNumber in refl;
   clock-large = unfold tickedNumber refusalNumber in refl;
   leb = λ e i r s h. subst (ByNumber _ _) (sym (at-bytes e _ s h)) (by-leb e 21 Unsigned i r (lebUnsigned (ahead e (aligned e 8 s))) s);
   signed-leb = λ e i s h.
       subst (ByNumber _ _) (sym (at-bytes e _ s h)) (by-leb e 22 Signed i noRole (lebSigned (ahead e (aligned e 8 s))) s);
-  zero-byte = λ e s h. subst (ByNumber _ _) (sym (at-bytes e _ s h)) (by-zeroByte e (zeroAt (ahead e (aligned e 8 s))) s);
-  stamp = λ l v s h. unfold due in
-      subst (ByNumber _ _) (sym (check-passed _ _ _ s (le-ltb (s .room) 4 h))) (by-clock l (clockAfter (s .clock) l v) s);
+  zero-byte = λ e s h. subst (ByNumber _ _) (sym (at-bytes e _ s h)) (by-zeroByte e (zeroAt (ahead e (aligned e 8 s))) s refl);
+  static-text = λ e n s h f. subst (ByNumber _ _) (sym (due-passed _ s (h .room))) (by-bytes e 24 n s h f);
+  dynamic-text = λ e i n s h f u l.
+      subst (ByNumber _ _) (sym (due-passed _ s (h .room) ∙ length-passed i n _ s u l)) (by-bytes e 26 n s h f);
+  stamp = λ l v s h. subst (ByNumber _ _) (sym (due-passed _ s h)) (by-clock l (clockAfter (s .clock) l v) s);
   too-large = needs-more;
   kind-unknown = unfold bodyNumber in refl;
   kind = by-kind;

@@ -23,7 +23,7 @@ use Rattle.rules.specs.declared.Stop.{Stop}
 use Rattle.rules.specs.declared.Refusal.{Refusal}
 use Rattle.rules.specs.declared.Refusal.the-variants.{PastBound, OrderChanged, LebTooLarge, NoZeroByte, SlotUnset, SlotOfWrongSort}
 use Rattle.rules.specs.declared.Refusal.the-variants.{LengthTooLarge, SelectorInNoOption, WrongMagic, WrongUuid, ClockTooLarge}
-use Rattle.rules.specs.declared.Refusal.the-variants.{EventClassUnknown, EventTookNoBits, ClockWentBack, ListFull}
+use Rattle.rules.specs.declared.Refusal.the-variants.{EventClassUnknown, EventTookNoBits, ClockWentBack, ListFull, NotText}
 use Rattle.rules.specs.declared.Verdict.{Verdict}
 use Rattle.rules.specs.declared.Verdict.the-variants.{Refused}
 use Rattle.rules.specs.Limits.{lebLimit}
@@ -39,8 +39,8 @@ use Rattle.rules.specs.Class.{Role, noRole, magic, streamClassId, streamId, uui
 use Rattle.rules.specs.Class.{discarded, sequence, eventClassId}
 use Rattle.rules.specs.Class.{Class, Sort, bitArray, boolean, unsignedInt, signedInt, float, kindOf}
 use Rattle.rules.specs.Table.{StreamClass, EventClass, Asked}
-use Rattle.rules.specs.Field.{Env, aligned, ahead, fit, field, store, newClock, say, role, blobRole, fromSlot}
-use Rattle.rules.specs.Field.{readFixed, readLeb, readZero, readText, readBlob}
+use Rattle.rules.specs.Field.{Env, aligned, ahead, bytesAt, fit, field, store, newClock, say, role, blobRole, fromSlot}
+use Rattle.rules.specs.Field.{readFixed, readLeb, asText, readZero, readText, readBlob}
 use Rattle.rules.specs.Packet.{mark, readRoot, withEvent, readEvent, endPacket, readEvents}
 use Rattle.leb128.specs.Answer.{TenthByte}
 use Rattle.leb128.proofs.Settled.{unsigned-reaches, signed-reaches}
@@ -249,9 +249,14 @@ module _ (e : Env) where
   lands-leb k g c i r Past s h = (tt, past-right (e .bytes) (e .bound))
   lands-leb k g c i r Large s h = (tt, large-right (e .bytes) (e .bound .0) (tenthByte e s) (h refl))
 
+  lands-asText : (x : List ℕ) → Lands (asText x)
+  unfolding asText refusalNumber
+  lands-asText x = lands-check _ NotText (refl, refl)
+
   lands-zero : (x : Ended) → Lands (readZero e x)
   unfolding readZero refusalNumber
-  lands-zero (After n) = lands-field 23 8 _ _ (refl, refl)
+  lands-zero (After n) =
+      record { at = λ s a. lands-asText (bytesAt e (aligned e 8 s) (n .0)) .at s a } ⨾ˡ lands-field 23 8 _ _ (refl, refl)
   lands-zero Never = lands-refuse NoZeroByte (refl, refl)
 
   module _ (whole : e .start .0 % 8 ≡ 0) where
@@ -279,7 +284,9 @@ module _ (e : Env) where
           at-bytes (record { at = λ s l. lands-leb 22 (refl, refl) Signed i noRole _ s (λ q. tenth-aligned s l (inr q)) });
       zeros = lands-fit 8 0 (record { at = λ s a. lands-zero (zeroAt (ahead e (aligned e 8 s))) .at s a });
       texts = λ k n g. unfold readText in
-          lands-fit 8 0 (lands-fit 8 (8 * n) (record { at = λ s a. lands-field k 8 (8 * n) _ (field-quiet k g) .at s a }));
+          lands-fit 8 0 (lands-fit 8 (8 * n) (record {
+            at = λ s a. (lands-asText (bytesAt e (aligned e 8 s) n) ⨾ˡ lands-field k 8 (8 * n) _ (field-quiet k g)) .at s a;
+          }));
       blobs = λ k n r g. unfold readBlob in
           lands-fit 8 0 (lands-fit 8 (8 * n) (record {
             at = λ s a. (lands-field k 8 (8 * n) n (field-quiet k g) ⨾ˡ lands-blobRole r _) .at s a;

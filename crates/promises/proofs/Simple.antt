@@ -33,12 +33,12 @@ pub record SimplePackets (L R : Step → Type 0) : Type 0 where
 module _ {L R : Step → Type 0} (h : SimplePackets L R) (t : Asked) where
   event-found : (e : Env) (i j : ℕ) (x : Option EventClass) (f : EventClass → Step) → ((d : EventClass) → R (f d)) → R (withEvent i j x f)
   unfolding withEvent refusalNumber
-  event-found e i j none f g = h .simple e .refuses (EventClassUnknown i j) (omega arith)
+  event-found e i j none f g = h .simple e .refuses (EventClassUnknown i j) (λ z. omega arith)
   event-found e i j (some d) f g = g d
 
   stream-found : (e : Env) (i : ℕ) (x : Option StreamClass) (f : StreamClass → Step) → ((c : StreamClass) → R (f c)) → R (withStream i x f)
   unfolding withStream refusalNumber
-  stream-found e i none f g = h .simple e .refuses (StreamClassUnknown i) (omega arith)
+  stream-found e i none f g = h .simple e .refuses (StreamClassUnknown i) (λ z. omega arith)
   stream-found e i (some c) f g = g c
 
   simple-event : (c : StreamClass) (e : Env) (n : ℕ) → L (readEvent t c e n)
@@ -52,12 +52,12 @@ module _ {L R : Step → Type 0} (h : SimplePackets L R) (t : Asked) where
       (λ d. mark eventClassFound 0 (s .said .event) ⨾ readRoot e (c .common) ⨾ readRoot e (d .specific) ⨾ readRoot e (d .payload)) s)
       ⨾ check (λ s. eqb (s .place .0) (x₀ .place .0)) EventTookNoBits)
       (λ x₀. p .dueʳ (p .seqʳ (h .marks eventStarts 0 n) (p .seq (h .starts) (p .seq (simple-root e p (c .header))
-      (p .seq (p .checks (λ x. c .timed && ltb (x .clock) (x .last)) ClockWentBack (omega arith)) (p .seq (h .lasts)
+      (p .seq (p .checks (λ x. c .timed && ltb (x .clock) (x .last)) ClockWentBack (λ z. omega arith)) (p .seq (h .lasts)
       (p .dueʳ (p .seqʳ (p .looksʳ (λ x. withEvent (c .id) (x .said .event) (t .event (c .id) (x .said .event))
       (λ d. mark eventClassFound 0 (x .said .event) ⨾ readRoot e (c .common) ⨾ readRoot e (d .specific) ⨾ readRoot e (d .payload)))
       (λ x. event-found e (c .id) (x .said .event) _ _ (λ d. p .seqʳ (h .marks eventClassFound 0 (x .said .event))
       (p .seq (simple-root e p (c .common)) (p .seq (simple-root e p (d .specific)) (simple-root e p (d .payload)))))))
-      (p .checks (λ x. eqb (x .place .0) (x₀ .place .0)) EventTookNoBits (omega arith))))))))))
+      (p .checks (λ x. eqb (x .place .0) (x₀ .place .0)) EventTookNoBits (λ z. omega arith))))))))))
 
   simple-events : (c : StreamClass) (e : Env) (to : BitPlace) (n left : ℕ) → L (readEvents t c e to n left)
   unfolding readEvents
@@ -71,8 +71,8 @@ module _ {L R : Step → Type 0} (h : SimplePackets L R) (t : Asked) where
       let e : Env = record { bytes = b; start = p; bound = further p content; uuid = t .uuid } in
       let q = h .simple e in
       q .dueʳ
-      (q .checksʳ (λ x. not (eqb (total % 8) 0) || ltb total content || ltb (8 * length b) (p .0 + total) || ltb (p .0 + content) (x .place .0)) LengthsContradict (omega arith)
-      (q .checksʳ (λ x. above (x .clock) (x .said .ending)) ClocksContradict (omega arith)
+      (q .checksʳ (λ x. not (eqb (total % 8) 0) || ltb total content || ltb (8 * length b) (p .0 + total) || ltb (p .0 + content) (x .place .0)) LengthsContradict (λ z. omega arith)
+      (q .checksʳ (λ x. above (x .clock) (x .said .ending)) ClocksContradict (λ z. omega arith)
       (q .seqʳ (h .marks lengthsSettled total content)
       (q .looks (λ x. readEvents t c e (further p total) 0 (p .0 + content - x .place .0)) (λ x. simple-events c e (further p total) 0 _)))))
 
@@ -85,7 +85,7 @@ module _ {L R : Step → Type 0} (h : SimplePackets L R) (t : Asked) where
       ⨾ λ s. withStream (s .said .stream) (t .stream (s .said .stream)) (found e (x₀ .place) (s .said .stream)) s)
       (λ x₀. let e : Env = env (x₀ .place) in let p = h .simple e in
       p .dueʳ (p .seqʳ (h .marks packetStarts 0 k) (p .seq (h .startsPacket) (p .seq (simple-root e p (t .header))
-      (p .seq (p .checks (λ x. differs (x .said .stream) i) StreamClassChanged (omega arith))
+      (p .seq (p .checks (λ x. differs (x .said .stream) i) StreamClassChanged (λ z. omega arith))
       (p .dueʳ (p .looksʳ (λ x. withStream (x .said .stream) (t .stream (x .said .stream)) (found e (x₀ .place) (x .said .stream)))
       (λ x. stream-found e (x .said .stream) _ _ (λ c. p .seqʳ (h .marks streamClassFound 0 (x .said .stream))
       (p .seq (simple-root e p (c .context)) (p .looks (content (x₀ .place) c) (λ y. simple-content c b (x₀ .place) _ _))))))))))))

@@ -30,7 +30,7 @@ use Rattle.facts.proofs.Steps.{onto-nil}
 use Rattle.promises.specs.Laws.{SpentReading}
 use Rattle.laws.proofs.Law.{Any}
 use Rattle.laws.proofs.Places.{tenthByte}
-use Rattle.laws.proofs.Simple.{Simple, view}
+use Rattle.laws.proofs.Simple.{NotFull, Simple, view}
 use Rattle.promises.proofs.Simple.{SimplePackets, simple-packet, simple-packets}
 
 record Stopped (room : ℕ) (es : List Entry) (v : Stop) : Type 0 where
@@ -71,11 +71,11 @@ spent-pass : Spent pass
 unfolding pass
 spent-pass = record { at = λ s. omega arith }
 
-spent-refuseAt : (r : Refusal) (p : BitPlace) → refusalNumber r < 40 → Spent (refuseAt r p)
+spent-refuseAt : (r : Refusal) (p : BitPlace) → NotFull r → Spent (refuseAt r p)
 unfolding refuseAt
-spent-refuseAt r p h = record { at = λ s. record { within = omega arith; full = λ e. absurd (omega arith) } }
+spent-refuseAt r p h = record { at = λ s. record { within = omega arith; full = λ e. absurd (h e) } }
 
-spent-refuse : (r : Refusal) → refusalNumber r < 40 → Spent (refuse r)
+spent-refuse : (r : Refusal) → NotFull r → Spent (refuse r)
 unfolding refuse refuseAt
 spent-refuse r h = record { at = λ s. spent-refuseAt r (s .place) h .at s }
 
@@ -83,12 +83,12 @@ spent-if : (s : State) (b : Bool) (x y : Out) → SpentOut s x → SpentOut s y 
 spent-if s true x y h k = h
 spent-if s false x y h k = k
 
-spent-check : (t : State → Bool) (r : Refusal) → refusalNumber r < 40 → Spent (check t r)
+spent-check : (t : State → Bool) (r : Refusal) → NotFull r → Spent (check t r)
 unfolding check
 spent-check t r h = record { at = λ s. spent-if s (t s) _ _ (spent-refuse r h .at s) (spent-pass .at s) }
 
 -- behind a test
-module _ (r : Refusal) (h : refusalNumber r < 40) {m : Step} (k : SpentR m) where
+module _ (r : Refusal) (h : NotFull r) {m : Step} (k : SpentR m) where
   test-narrow : (p : BitPlace) (s : State) → wordsPerEntry ≤ s .room → (b : Bool)
       → SpentOut s (after (elim b [ true ↦ refuseAt r p s | false ↦ pass s ]) m)
   unfolding pass refuseAt after
@@ -128,9 +128,9 @@ spent-simple e = record {
   refuses = λ r small. record { at = λ s q. spent-refuse r small .at s };
   checks = λ t r small. spent-check _ r small;
   checksʳ = λ t r small h. check-narrow r small h _;
-  refusesPast = record { at = λ s q. spent-refuseAt PastBound (e .bound) (omega arith) .at s };
-  checksPastʳ = λ t h. checkAt-narrow PastBound (omega arith) h _ (e .bound);
-  refusesLarge = record { at = λ s q. spent-refuseAt LebTooLarge (tenthByte e s) (omega arith) .at s };
+  refusesPast = record { at = λ s q. spent-refuseAt PastBound (e .bound) (λ z. omega arith) .at s };
+  checksPastʳ = λ t h. checkAt-narrow PastBound (λ z. omega arith) h _ (e .bound);
+  refusesLarge = record { at = λ s q. spent-refuseAt LebTooLarge (tenthByte e s) (λ z. omega arith) .at s };
   looks = λ f h. record { at = λ s. h (view s) .at s };
   looksʳ = λ f h. record { at = λ s r. h (view s) .at s r };
   slots = λ i f h. record { at = λ s r. h (slotAt (s .slots) i) .at s r };

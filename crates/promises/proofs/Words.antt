@@ -24,7 +24,7 @@ use Rattle.rules.specs.declared.Ended.the-variants.{After, Never}
 use Rattle.rules.specs.declared.Entry.{Entry}
 use Rattle.rules.specs.declared.Refusal.{Refusal}
 use Rattle.rules.specs.declared.Refusal.the-variants.{PastBound, OrderChanged, NoZeroByte, SlotUnset, SlotOfWrongSort}
-use Rattle.rules.specs.declared.Refusal.the-variants.{LengthTooLarge, SelectorInNoOption, WrongMagic, WrongUuid, ClockTooLarge}
+use Rattle.rules.specs.declared.Refusal.the-variants.{LengthTooLarge, SelectorInNoOption, WrongMagic, WrongUuid, ClockTooLarge, NotText}
 use Rattle.rules.specs.Verdict.{stopAt}
 use Rattle.rules.specs.Bits.{bits}
 use Rattle.rules.specs.Leb128.{lebUnsigned, lebSigned}
@@ -39,7 +39,7 @@ use Rattle.rules.specs.Class.{Role, noRole, magic, streamClassId, streamId, uui
 use Rattle.rules.specs.Class.{contentLength, clock, endClock, discarded, sequence, eventClassId}
 use Rattle.rules.specs.Class.{Class, Sort, bitArray, boolean, unsignedInt, signedInt, float, kindOf}
 use Rattle.rules.specs.Field.{Env, aligned, fit, field, store, newClock, say, role, blobRole, fromSlot, valueOf}
-use Rattle.rules.specs.Field.{slotOf, ahead, bytesAt, readFixed, readLeb, readZero, readText, readBlob}
+use Rattle.rules.specs.Field.{slotOf, ahead, bytesAt, readFixed, readLeb, asText, readZero, readText, readBlob}
 use Rattle.rules.specs.Packet.{readRoot}
 use Rattle.leb128.proofs.ValueSays.{unsigned-value, signed-value}
 use Rattle.leb128.proofs.Settled.{unsigned-reaches, signed-reaches}
@@ -201,6 +201,12 @@ module _ (e : Env) (g : Env64 e) where
         word-listed (entry k (aligned e a s) n v) _ s (omega arith) (omega arith) (x .0);
   }
 
+  -- a field of text that fits
+  text-field : (x : List ℕ) (k n v : ℕ) → k ≤ 32 → Word v → Fine (Room 8 n) (asText x ⨾ field e k 8 n v)
+  unfolding asText
+  text-field x k n v h w =
+      untested WordEntry WordStop WordIds (λ r i s y. place-of r i s (y .0)) _ NotText tt (a-field k 8 n v h w)
+
   tagged : (k v : ℕ) → k ≤ 32 → Word v → Worded (field e k 1 0 v)
   unfolding field aligned alignFrom roundUp
   tagged k v h w = record {
@@ -239,13 +245,13 @@ module _ (e : Env) (g : Env64 e) where
 
   word-zero : (x : Ended) (s : State) → Wordy s → (aligned e 8 s) .0 ≤ e .bound .0
       → ((n : ByteLength) → x ≡ After n → n .0 < length (ahead e (aligned e 8 s))) → WordedOut (readZero e x s)
-  unfolding readZero
+  unfolding readZero _⨾_
   word-zero Never s h b p = word-refuse NoZeroByte tt .at s h
   word-zero (After n) s h b p =
       let l : n .0 < length (ahead e (aligned e 8 s)) = p n refl in
       let f : (aligned e 8 s) .0 + 8 * (n .0 + 1) ≤ e .bound .0 = ahead-fits e (aligned e 8 s) (n .0 + 1) b (omega arith) in
       let c : Word (e .bound .0) = g .bound in
-      a-field 23 8 (8 * (n .0 + 1)) (n .0) (omega arith) (omega arith) .at s (h, f)
+      text-field (bytesAt e (aligned e 8 s) (n .0)) 23 (8 * (n .0 + 1)) (n .0) (omega arith) (omega arith) .at s (h, f)
 
   at-zero : {m : Step} → Fine (λ s. Wordy s × ((aligned e 8 s) .0 ≤ e .bound .0)) m → Worded (fit e 8 0 ⨾ m)
   at-zero h = fitting 8 0 (record { at = λ s x. let b : (aligned e 8 s) .0 + 0 ≤ e .bound .0 = x .1 in h .at s (x .0, omega arith) })
@@ -285,7 +291,8 @@ module _ (e : Env) (g : Env64 e) where
           at = λ s x.
               let b : (aligned e 8 s) .0 + 8 * n ≤ e .bound .0 = x .1 in
               let c : Word (e .bound .0) = g .bound in
-              a-field k 8 (8 * n) (textLength (bytesAt e (aligned e 8 s) n)) (h .1) (omega (arith, text-word (aligned e 8 s) n)) .at s x;
+              let y = bytesAt e (aligned e 8 s) n in
+              text-field y k (8 * n) (textLength y) (h .1) (omega (arith, text-word (aligned e 8 s) n)) .at s x;
         }));
     blobs = λ k n r h. unfold readBlob in
         plain-fit 8 0 (fitting 8 (8 * n) (record {

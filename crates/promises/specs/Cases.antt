@@ -69,6 +69,9 @@ string = 23 ∷ []
 abbrev pub staticString : ℕ → List ℕ
 staticString n = 24 ∷ n ∷ 0 ∷ []
 
+abbrev pub dynamicString : ℕ → List ℕ
+dynamicString slot = 26 ∷ slot ∷ []
+
 abbrev pub staticBlob : ℕ → List ℕ
 staticBlob n = 25 ∷ n ∷ 0 ∷ 0 ∷ []
 
@@ -101,6 +104,13 @@ option ranges = 34 ∷ ranges ∷ []
 -- one stream class with no roots, one event class with a payload
 abbrev pub payload : List ℕ → List ℕ
 payload c = preamble ++ streamClass 0 255 ++ eventClass 0 0 ++ root 5 ++ c
+
+-- a field behind one of four bits; the same behind a length in slot 16
+abbrev pub behindFour : List ℕ → List ℕ
+behindFour c = payload (structure 2 ++ unsigned 4 0 0 255 0 ++ c)
+
+abbrev pub behindLength : List ℕ → List ℕ
+behindLength c = payload (structure 3 ++ plain 16 0 ++ unsigned 4 0 0 255 0 ++ c)
 
 -- a variant by slot 16 of these options, behind its selector
 abbrev pub chosen : ℕ → List ℕ → List ℕ
@@ -184,6 +194,10 @@ number table = checkedNumber (checked table)
 abbrev pub byte : List ℕ → ℕ
 byte table = (checkedByte (checked table)) .0
 
+-- the number of an answer, where the stream is a string of these bytes and its zero byte
+abbrev pub ofString : List ℕ → ℕ
+ofString text = (answer (payload (structure 1 ++ string)) (text ++ (0 ∷ []))) .number
+
 pub record Cases : Type 0 where
   -- "Aligning from the stream's start, not the packet's.": four events in each of two packets of nine bytes
   pub from-packet : answer aligned16 (72 ∷ (replicate 8 0 ++ (72 ∷ replicate 8 0))) ≡ result 0 44 144 0 0
@@ -237,6 +251,60 @@ pub record Cases : Type 0 where
   pub bound-string : answer (content20 (structure 2 ++ unsigned 1 0 0 255 0 ++ string)) inContent20 ≡ result 22 11 20 0 0
   -- no zero byte is 25 at the field, before its alignment
   pub endless-behind : answer (payload (structure 2 ++ unsigned 4 0 0 255 0 ++ string)) (0 ∷ 97 ∷ []) ≡ result 25 7 4 0 0
+  -- "must be well-formed UTF-8 as RFC 3629 says; otherwise refuse with a new number 41 at the field" (02, 1): before its alignment
+  pub no-string : answer (behindFour string) (0 ∷ 0xFF ∷ 0 ∷ []) ≡ result 41 7 4 0 0
+  pub no-static-string : answer (behindFour (staticString 2)) (0 ∷ 97 ∷ 0xFF ∷ []) ≡ result 41 7 4 0 0
+  pub no-dynamic-string : answer (behindLength (dynamicString 16)) (2 ∷ 0 ∷ 97 ∷ 0xFF ∷ []) ≡ result 41 8 12 0 0
+  -- text is listed with the count of its bytes, not of its characters
+  pub some-text : (readAll (payload (structure 1 ++ string)) (0xC3 ∷ 0xA9 ∷ 0 ∷ []) 400) .entries
+      ≡ listed 1 0 0 0 ∷ listed 2 0 0 0 ∷ listed 3 0 24 24 ∷ listed 4 0 0 0 ∷ listed 5 0 0 0 ∷ listed 28 0 0 1 ∷ listed 23 0 24 2
+      ∷ listed 7 24 0 1 ∷ []
+  -- the borders of its rows: one byte, and none that only follows; two
+  pub text-one : ofString (1 ∷ 0x7F ∷ []) ≡ 0
+  pub text-follows : ofString (0x80 ∷ []) ≡ 41
+  pub text-C1 : ofString (0xC1 ∷ 0xBF ∷ []) ≡ 41
+  pub text-C2-7F : ofString (0xC2 ∷ 0x7F ∷ []) ≡ 41
+  pub text-C2-80 : ofString (0xC2 ∷ 0x80 ∷ []) ≡ 0
+  pub text-C2-BF : ofString (0xC2 ∷ 0xBF ∷ []) ≡ 0
+  pub text-C2-C0 : ofString (0xC2 ∷ 0xC0 ∷ []) ≡ 41
+  pub text-DF : ofString (0xDF ∷ 0xBF ∷ []) ≡ 0
+  -- three: nothing overlong behind E0, no surrogate behind ED; FEFF and FFFF are characters
+  pub text-E0-9F : ofString (0xE0 ∷ 0x9F ∷ 0xBF ∷ []) ≡ 41
+  pub text-E0-A0 : ofString (0xE0 ∷ 0xA0 ∷ 0x80 ∷ []) ≡ 0
+  pub text-third : ofString (0xE1 ∷ 0x80 ∷ 0xC0 ∷ []) ≡ 41
+  pub text-ED-9F : ofString (0xED ∷ 0x9F ∷ 0xBF ∷ []) ≡ 0
+  pub text-ED-A0 : ofString (0xED ∷ 0xA0 ∷ 0x80 ∷ []) ≡ 41
+  pub text-EE : ofString (0xEE ∷ 0x80 ∷ 0x80 ∷ []) ≡ 0
+  pub text-FEFF : ofString (0xEF ∷ 0xBB ∷ 0xBF ∷ []) ≡ 0
+  pub text-FFFF : ofString (0xEF ∷ 0xBF ∷ 0xBF ∷ []) ≡ 0
+  -- four: nothing overlong behind F0, nothing above 10FFFF behind F4 and above it
+  pub text-F0-8F : ofString (0xF0 ∷ 0x8F ∷ 0xBF ∷ 0xBF ∷ []) ≡ 41
+  pub text-F0-90 : ofString (0xF0 ∷ 0x90 ∷ 0x80 ∷ 0x80 ∷ []) ≡ 0
+  pub text-fourth : ofString (0xF1 ∷ 0x80 ∷ 0x80 ∷ 0x7F ∷ []) ≡ 41
+  pub text-F4-8F : ofString (0xF4 ∷ 0x8F ∷ 0xBF ∷ 0xBF ∷ []) ≡ 0
+  pub text-F4-90 : ofString (0xF4 ∷ 0x90 ∷ 0x80 ∷ 0x80 ∷ []) ≡ 41
+  pub text-F5 : ofString (0xF5 ∷ 0x80 ∷ 0x80 ∷ 0x80 ∷ []) ≡ 41
+  -- a character behind another; none goes on behind its end; one that the zero byte cuts, or the field's end
+  pub text-next : ofString (0xC2 ∷ 0x80 ∷ 97 ∷ 0xF4 ∷ 0x8F ∷ 0xBF ∷ 0xBF ∷ []) ≡ 0
+  pub text-over : ofString (0xC2 ∷ 0x80 ∷ 0x80 ∷ []) ≡ 41
+  pub cut-by-zero : ofString (0xE2 ∷ 0x82 ∷ []) ≡ 41
+  pub cut-by-zero-inside : answer (payload (structure 1 ++ staticString 3)) (0xC3 ∷ 0 ∷ 0xA9 ∷ []) ≡ result 41 6 0 0 0
+  pub cut-by-end : answer (payload (structure 2 ++ staticString 1 ++ plain 255 0)) (0xC3 ∷ 0xA9 ∷ []) ≡ result 41 6 0 0 0
+  -- bytes behind the first zero byte are free; so are BLOBs; and the empty text is one
+  pub behind-zero : answer (payload (structure 1 ++ staticString 3)) (97 ∷ 0 ∷ 0xFF ∷ []) ≡ result 0 8 24 0 0
+  pub behind-zero-counted : answer (payload (structure 2 ++ plain 16 0 ++ dynamicString 16)) (3 ∷ 97 ∷ 0 ∷ 0xFF ∷ []) ≡ result 0 9 32 0 0
+  pub any-blob : answer (payload (structure 1 ++ staticBlob 2)) (0xFF ∷ 0xC0 ∷ []) ≡ result 0 8 16 0 0
+  pub any-counted-blob : answer (payload (structure 2 ++ plain 16 0 ++ dynamicBlob 16)) (2 ∷ 0xFF ∷ 0xC0 ∷ []) ≡ result 0 9 24 0 0
+  pub empty-text : ofString [] ≡ 0
+  pub empty-texts : answer (payload (structure 3 ++ plain 16 0 ++ staticString 0 ++ dynamicString 16)) (0 ∷ []) ≡ result 0 10 8 0 0
+  -- "Inside a field it comes after 22 and 25.": and after all that comes before these
+  pub endless-no-text : answer (behindFour string) (0 ∷ 0xFF ∷ []) ≡ result 25 7 4 0 0
+  pub past-no-text : answer (behindFour (staticString 2)) (0 ∷ 0xFF ∷ []) ≡ result 22 7 16 0 0
+  pub unset-no-text : answer (payload (structure 1 ++ dynamicString 16)) (0xFF ∷ []) ≡ result 26 6 0 0 0
+  pub signed-no-text : answer (payload (structure 2 ++ signed 16 ++ dynamicString 16)) (1 ∷ 0xFF ∷ []) ≡ result 27 7 8 0 0
+  pub long-no-text : answer (payload (structure 2 ++ unsigned 24 0 0 16 0 ++ dynamicString 16)) (0 ∷ 0 ∷ 1 ∷ 0xFF ∷ []) ≡ result 28 7 24 0 0
+  pub room-no-text : resultOf (readAll (behindFour string) (0 ∷ 0xFF ∷ 0 ∷ []) 31) ≡ result 40 7 4 0 0
+  pub room-before-text : resultOf (readAll (behindFour string) (0 ∷ 0xFF ∷ 0 ∷ []) 32) ≡ result 41 7 4 0 0
   -- content above total; a total that is no multiple of 8; a total past the stream; a content that ends before the context does
   pub content-above : answer measured (16 ∷ 24 ∷ 0 ∷ []) ≡ result 34 5 16 0 0
   pub total-odd : answer measured (20 ∷ 16 ∷ 0 ∷ []) ≡ result 34 5 16 0 0

@@ -64,7 +64,7 @@ pub record ByTable (x : List ℕ) (r : Result) : Type 0 where
 
 pub record Demand1 (x b : List ℕ) (c : Call) : Type 0 where
   -- accepted, or refused by one of the paper's numbers
-  pub number : (c .result .number ≡ 0) ⊎ ((20 ≤ c .result .number) × (c .result .number ≤ 40))
+  pub number : (c .result .number ≡ 0) ⊎ ((20 ≤ c .result .number) × (c .result .number ≤ 41))
   -- "Accepted: 8 times the bytes."
   pub accepted : c .result .number ≡ 0 → c .result .place ≡ 8 * length b
   pub by-table : c .result .number ≡ 20 → ByTable x (c .result)

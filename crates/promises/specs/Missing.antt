@@ -1,7 +1,7 @@
 -- Demand 3: the first finding of a class that was left out, and the reading that ends just before it.
 use mathlib.Core.Path.{_≡_}
 use Prim.Native.Nat.{ℕ, suc}
-use mathlib.Core.List.{List, [], _∷_}
+use mathlib.Core.List.{List, [], _∷_, _++_}
 use mathlib.Core.Bool.{Bool, true, false, not, _&&_}
 use mathlib.Core.Option.{Option, none, some}
 use lib.ListN.{length, take}
@@ -17,6 +17,7 @@ use Rattle.rules.specs.Place.{bitPlace, byteLength}
 use Rattle.rules.specs.Parse.{checked}
 use Rattle.rules.specs.Read.{Reading, readAll, resultOf}
 use Rattle.promises.specs.Figures.{table40, stream1}
+use Rattle.promises.specs.Cases.{payload, structure, string, eventClass, root}
 use Rattle.promises.specs.Edition.{both, leave}
 
 -- an entry of a list, by its number from 0, and the refusal that names the class of which it is the finding
@@ -89,6 +90,17 @@ abbrev pub Demand3≡ : Type 0
 Demand3≡ = (ks : ℕ → Bool) (ke : ℕ → ℕ → Bool) (x : List ℕ) → Good x → (b : List ℕ) (room : ℕ)
     → readAll (leave ks ke x) b room ≡ shortened (missed ks ke ((readAll x b room) .entries)) (readAll x b room)
 
+-- a table of two event classes, whose events are a string each; with one of them left out; and a stream of two events of the one that
+-- stays, the second of which is no text
+abbrev pub oneText : List ℕ
+oneText = payload (structure 1 ++ string)
+
+abbrev pub twoTexts : List ℕ
+twoTexts = oneText ++ eventClass 0 1 ++ root 5 ++ structure 1 ++ string
+
+abbrev pub noText : List ℕ
+noText = 97 ∷ 0 ∷ 0xFF ∷ 0 ∷ []
+
 -- the figure's table "with the event class left out: 37, four entries, ids 0 and 0"; and with its stream class left out
 pub record Demand3Figures : Type 0 where
   pub event-bytes : leave (λ i. true) (λ i j. false) table40 ≡ take 12 table40
@@ -99,3 +111,8 @@ pub record Demand3Figures : Type 0 where
   pub stream-missed : missed (λ i. false) (λ i j. true) ((readAll table40 stream1 32) .entries)
       ≡ some (record { index = 1; refusal = stopAt (StreamClassUnknown 0) (bitPlace 0) })
   pub stream-result : resultOf (readAll (take 2 table40) stream1 32) ≡ record { number = 33; entries = 1; place = 0; first = 0; second = 0 }
+  -- 41 does not tell two editions apart: the same number, place and list
+  pub text-bytes : leave (λ i. true) (λ i j. eqb j 0) twoTexts ≡ oneText
+  pub text-missed : missed (λ i. true) (λ i j. eqb j 0) ((readAll twoTexts noText 400) .entries) ≡ none
+  pub text-result : resultOf (readAll twoTexts noText 400) ≡ record { number = 41; entries = 10; place = 16; first = 0; second = 0 }
+  pub text-same : readAll oneText noText 400 ≡ readAll twoTexts noText 400

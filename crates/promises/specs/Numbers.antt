@@ -1,31 +1,34 @@
--- Document 01's numbers for answers that are enums: by them the rules refuse a LEB128 number, a string and a stamp, and by nothing else
--- where they are 0; and a record of no kind. In order: what a number says of an outcome; when a field gets so far; the numbers.
+-- The papers' numbers for answers: by them the rules refuse a LEB128 number, a string and a stamp, and by nothing else where they are 0;
+-- and a record of no kind. In order: what a number says of an outcome; when a field gets so far; the numbers.
 use mathlib.Core.Path.{_≡_}
 use mathlib.Core.Logic.{_↔_}
-use Prim.Native.Nat.{ℕ, _-_, _*_, _%_, _^_, _≤_}
+use Prim.Native.Nat.{ℕ, _+_, _-_, _*_, _%_, _^_, _≤_}
 use mathlib.Core.List.{List, [], _∷_}
-use mathlib.Core.Bool.{Bool}
+use mathlib.Core.Bool.{Bool, false}
 use Rattle.rules.specs.declared.BitPlace.{BitPlace}
+use Rattle.rules.specs.declared.ByteLength.{ByteLength}
+use Rattle.rules.specs.declared.Content.the-variants.{Unsigned}
 use Rattle.rules.specs.declared.Refusal.{Refusal}
 use Rattle.rules.specs.declared.Leb.{Leb}
 use Rattle.rules.specs.declared.Leb.the-variants.{Value, Past, Large}
-use Rattle.rules.specs.declared.Ended.the-variants.{Never}
-use Rattle.rules.specs.Limits.{wordsPerEntry, lebLimit}
+use Rattle.rules.specs.declared.Ended.the-variants.{After, Never}
+use Rattle.rules.specs.Limits.{wordsPerEntry, lebLimit, lengthLimit}
 use Rattle.rules.specs.Place.{further}
 use Rattle.rules.specs.Record.{u8, recordOf}
 use Rattle.rules.specs.Faults.{Ids, firstFault, recordFault}
 use Rattle.rules.specs.Leb128.{lebUnsigned, lebSigned}
 use Rattle.rules.specs.Clock.{clockAfter}
-use Rattle.rules.specs.Text.{zeroAt}
-use Rattle.rules.specs.Class.{Role, clock, leb128, signedLeb128, string}
+use Rattle.rules.specs.Text.{zeroAt, isText}
+use Rattle.rules.specs.Slots.{slotAt}
+use Rattle.rules.specs.Class.{Role, clock, leb128, signedLeb128, string, staticString, dynamicString}
 use Rattle.rules.specs.Verdict.{stopAt, refusalNumber}
 use Rattle.rules.specs.Step.{State, Out, stop, go}
-use Rattle.rules.specs.Field.{Env, aligned, ahead, role, read}
+use Rattle.rules.specs.Field.{Env, aligned, ahead, bytesAt, role, read}
 use Rattle.leb128.specs.Answer.{lebNumber}
 use Rattle.clock.specs.declared.Ticked.the-variants.{TooLarge}
 use Rattle.clock.specs.Ticked.{tickedOf, tickedNumber}
 use Rattle.clock.specs.Least.{Least}
-use Rattle.text.specs.Number.{endedNumber}
+use Rattle.text.specs.Number.{textNumber, endedNumber}
 use Rattle.table_offsets.specs.declared.Body.the-variants.{Unknown}
 use Rattle.table_offsets.specs.Bodies.{bodyOf, bodyNumber}
 
@@ -48,10 +51,14 @@ pub record ByNumber (n : ℕ) (p : BitPlace) (o : Out) : Type 0 where
   pub lists : n ≡ 0 → Lists o
   pub refuses : (n ≡ 0 → ⊥) → RefusedBy n p o
 
--- a field of kinds 21 to 23 gets as far as its bytes: there is room for its entry (40), and its alignment is within the bound (22)
+-- a field of kinds 21 to 27 gets as far as its bytes: there is room for its entry (40), and its alignment is within the bound (22)
 pub record AtBytes (e : Env) (s : State) : Type 0 where
   pub room : wordsPerEntry ≤ s .room
   pub within : (aligned e 8 s) .0 ≤ e .bound .0
+
+-- and n bytes end within the bound (22)
+abbrev pub BytesFit : Env → ℕ → State → Type 0
+BytesFit e n s = (aligned e 8 s) .0 + 8 * n ≤ e .bound .0
 
 -- where a LEB128 number is refused: at the bound for 22, at the first bit of its tenth byte for 24 (02, 8)
 unfoldable pub lebPlace : Env → State → Leb → BitPlace
@@ -63,7 +70,8 @@ pub record Numbers : Type 0 where
   -- the numbers themselves (Refusing a stream)
   pub leb-past : lebNumber Past ≡ 22
   pub leb-large : lebNumber Large ≡ 24
-  pub zero-never : endedNumber Never ≡ 25
+  pub zero-never : (formed : Bool) → endedNumber formed Never ≡ 25
+  pub no-text : (n : ByteLength) → endedNumber false (After n) ≡ 41
   pub clock-large : tickedNumber TooLarge ≡ 36
   -- a LEB128 number, kinds 21 and 22
   pub leb : (e : Env) (i : ℕ) (r : Role) (s : State) → AtBytes e s
@@ -72,9 +80,15 @@ pub record Numbers : Type 0 where
   pub signed-leb : (e : Env) (i : ℕ) (s : State) → AtBytes e s
       → let x = lebSigned (ahead e (aligned e 8 s)) in
       ByNumber (lebNumber x) (lebPlace e s x) (read e (signedLeb128 i) s)
-  -- a string that a zero byte ends, kind 23
+  -- a string that a zero byte ends, kind 23: 25 where none does, and else 41 where the bytes before it are no text
   pub zero-byte : (e : Env) (s : State) → AtBytes e s
-      → ByNumber (endedNumber (zeroAt (ahead e (aligned e 8 s)))) (s .place) (read e string s)
+      → let x = ahead e (aligned e 8 s) in
+      ByNumber (endedNumber (isText x) (zeroAt x)) (s .place) (read e string s)
+  -- a string of n bytes, kinds 24 and 26: 41 where the bytes before its first zero byte, or all, are no text
+  pub static-text : (e : Env) (n : ℕ) (s : State) → AtBytes e s → BytesFit e n s
+      → ByNumber (textNumber (isText (bytesAt e (aligned e 8 s) n))) (s .place) (read e (staticString n) s)
+  pub dynamic-text : (e : Env) (i n : ℕ) (s : State) → AtBytes e s → BytesFit e n s → slotAt (s .slots) i ≡ Unsigned n → n ≤ lengthLimit
+      → ByNumber (textNumber (isText (bytesAt e (aligned e 8 s) n))) (s .place) (read e (dynamicString i) s)
   -- a stamp v of l bits, where there is room for its entry
   pub stamp : (l v : ℕ) (s : State) → wordsPerEntry ≤ s .room
       → ByNumber (tickedNumber (tickedOf (clockAfter (s .clock) l v))) (s .place) (role clock l v s)

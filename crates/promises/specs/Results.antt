@@ -6,12 +6,12 @@ use mathlib.Core.Bool.{Bool}
 use Rattle.rules.specs.declared.BitPlace.{BitPlace}
 use Rattle.rules.specs.declared.ByteLength.{ByteLength}
 use Rattle.rules.specs.declared.Leb.{Leb}
-use Rattle.rules.specs.declared.Ended.{Ended}
 use Rattle.rules.specs.declared.Said.{Said}
 use Rattle.rules.specs.declared.Content.{Content}
 use Rattle.rules.specs.declared.Checked.{Checked}
 use Rattle.rules.specs.declared.Result.{Result}
 use Rattle.clock.specs.declared.Ticked.{Ticked}
+use Rattle.text.specs.declared.Text.{Text}
 use Rattle.slots.specs.declared.Length.{Length}
 use Rattle.slots.specs.declared.Number.{Number}
 use Rattle.listing.specs.declared.Progress.{Progress}
@@ -34,7 +34,7 @@ use Rattle.event_turns.specs.declared.Turn.{Turn}
 
 pub data Answer : Type 0 where
   number test list : Answer
-  bitPlace byteLength leb ended content said checked result : Answer
+  bitPlace byteLength leb text content said checked result : Answer
   ticked length slotNumber state advanced : Answer
   body walk says tablePlace : Answer
   frame found seen leaves choice inside opened entered run ran turn : Answer
@@ -46,7 +46,7 @@ Of list = List ℕ
 Of bitPlace = BitPlace
 Of byteLength = ByteLength
 Of leb = Leb
-Of ended = Ended
+Of text = Text
 Of content = Content
 Of said = Said
 Of checked = Checked

@@ -1,4 +1,5 @@
--- The rules beside the standard (document 000): the clock's update, the alignment and the bits of a number, each as the standard says it.
+-- The rules beside the standard (document 000): the clock's update, the alignment, the bits of a number and what is text, each as the
+-- standard says it.
 use mathlib.Core.Path.{_≡_}
 use Prim.Native.Nat.{ℕ, _^_, _<_, _≤_}
 use mathlib.Core.List.{List}
@@ -11,6 +12,7 @@ use Rattle.rules.specs.Bits.{bits, signed, word}
 use Rattle.bits.specs.Standard.{turns, unsignedOf, signedOf}
 use Rattle.places.specs.Multiple.{Aligning}
 use Rattle.clock.specs.Least.{NewClock}
+use Rattle.text.specs.Encoding.{TextIs}
 
 pub record AsStandard : Type 0 where
   -- 6.2.1: the update of the clock is the standard's procedure; and the least value, not below the old one, that ends in the stamp's bits
@@ -22,3 +24,5 @@ pub record AsStandard : Type 0 where
   -- 6.3.6: and its signed integer, which the list's word stands for
   pub signed-bits : (v : List Bool) → signed (unsignedOf v) (length v) ≡ signedOf v
   pub signed-word : (v n : ℕ) → 0 < n → n ≤ 64 → v < 2 ^ n → toZ w64 (word (signed v n)) ≡ signed v n
+  -- 6.3.11, 6.3.12 and 6.3.14, "following UTF-8" (RFC 3629): the bytes of scalar values, encoded, are text, and no others are
+  pub text : TextIs

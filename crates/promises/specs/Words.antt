@@ -7,7 +7,7 @@ use Rattle.rules.specs.declared.Refusal.{Refusal}
 use Rattle.rules.specs.declared.Refusal.the-variants.{StreamSize, PastBound, OrderChanged, LebTooLarge, NoZeroByte, SlotUnset}
 use Rattle.rules.specs.declared.Refusal.the-variants.{SlotOfWrongSort, LengthTooLarge, SelectorInNoOption, WrongMagic, WrongUuid}
 use Rattle.rules.specs.declared.Refusal.the-variants.{StreamClassChanged, StreamClassUnknown, LengthsContradict, ClocksContradict}
-use Rattle.rules.specs.declared.Refusal.the-variants.{ClockTooLarge, EventClassUnknown, EventTookNoBits, ClockWentBack, ListFull}
+use Rattle.rules.specs.declared.Refusal.the-variants.{ClockTooLarge, EventClassUnknown, EventTookNoBits, ClockWentBack, ListFull, NotText}
 use Rattle.rules.specs.declared.Stop.{Stop}
 use Rattle.rules.specs.declared.Verdict.{Verdict}
 use Rattle.rules.specs.declared.Verdict.the-variants.{Accepted, TableRefused, Refused}
@@ -45,6 +45,7 @@ WordIds (EventClassUnknown i j) = Word i × Word j
 WordIds EventTookNoBits = Unit {0}
 WordIds ClockWentBack = Unit {0}
 WordIds ListFull = Unit {0}
+WordIds NotText = Unit {0}
 
 abbrev pub WordStop : Stop → Type 0
 WordStop v = Word (v .place .0) × WordIds (v .why)

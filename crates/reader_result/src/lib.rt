@@ -53,6 +53,7 @@ pub fn refused(stop: Stop, entries: usize) -> Result
         Refusal::EventTookNoBits => with(38, entries, place, 0, 0),
         Refusal::ClockWentBack => with(39, entries, place, 0, 0),
         Refusal::ListFull => with(40, entries, place, 0, 0),
+        Refusal::NotText => with(41, entries, place, 0, 0),
     }
 }
 

@@ -20,12 +20,12 @@ use Rattle.rules.specs.declared.Leb.the-variants.{Value, Past, Large}
 use Rattle.rules.specs.declared.Ended.{Ended}
 use Rattle.rules.specs.declared.Ended.the-variants.{After, Never}
 use Rattle.rules.specs.declared.Refusal.the-variants.{PastBound, OrderChanged, LebTooLarge, NoZeroByte, SlotUnset, SlotOfWrongSort}
-use Rattle.rules.specs.declared.Refusal.the-variants.{LengthTooLarge, SelectorInNoOption, WrongMagic, WrongUuid, ClockTooLarge}
+use Rattle.rules.specs.declared.Refusal.the-variants.{LengthTooLarge, SelectorInNoOption, WrongMagic, WrongUuid, ClockTooLarge, NotText}
 use Rattle.rules.specs.Limits.{lengthLimit, lebLimit, magicNumber}
 use Rattle.rules.specs.Bits.{bits, signed, word}
 use Rattle.rules.specs.Leb128.{lebWidth, lebUnsigned, lebSigned}
 use Rattle.rules.specs.Clock.{clockAfter}
-use Rattle.rules.specs.Text.{textLength, zeroAt}
+use Rattle.rules.specs.Text.{textLength, zeroAt, isText}
 use Rattle.rules.specs.Place.{bitPlace, further, alignFrom}
 use Rattle.rules.specs.Slots.{slotAt, setSlot, unset}
 use Rattle.rules.specs.Class.{Role, noRole, magic, streamClassId, streamId, uuid, totalLength, contentLength, clock, endClock}
@@ -195,14 +195,19 @@ readLeb e k c i r (Value v n) = field e k 8 (8 * n .0) v ⨾ store i (c v) ⨾ r
 readLeb e k c i r Past = refuseAt PastBound (e .bound)
 readLeb e k c i r Large = λ s. refuseAt LebTooLarge (further (aligned e 8 s) (8 * (lebLimit - 1))) s
 
+-- "otherwise refuse with a new number 41 at the field. Inside a field it comes after 22 and 25." (02, 1)
+unfoldable pub asText : List ℕ → Step
+asText b = check (λ s. not (isText b)) NotText
+
 -- "string 23 counts without its zero (bits include it)"
 unfoldable pub readZero : Env → Ended → Step
-readZero e (After n) = field e 23 8 (8 * (n .0 + 1)) (n .0)
+readZero e (After n) = (λ s. asText (bytesAt e (aligned e 8 s) (n .0)) s) ⨾ field e 23 8 (8 * (n .0 + 1)) (n .0)
 readZero e Never = refuse NoZeroByte
 
 -- n bytes as text: "Strings 24 and 26 have bits for all their bytes"; and as a BLOB: "BLOBs their byte count"
 unfoldable pub readText : Env → ℕ → ℕ → Step
-readText e k n = fit e 8 0 ⨾ fit e 8 (8 * n) ⨾ λ s. field e k 8 (8 * n) (textLength (bytesAt e (aligned e 8 s) n)) s
+readText e k n =
+    fit e 8 0 ⨾ fit e 8 (8 * n) ⨾ λ s. let b = bytesAt e (aligned e 8 s) n in (asText b ⨾ field e k 8 (8 * n) (textLength b)) s
 
 unfoldable pub readBlob : Env → ℕ → ℕ → Role → Step
 readBlob e k n r = fit e 8 0 ⨾ fit e 8 (8 * n) ⨾ λ s. (field e k 8 (8 * n) n ⨾ blobRole e r (bytesAt e (aligned e 8 s) n)) s

@@ -4,7 +4,7 @@ use Rattle.rules.specs.declared.Refusal.{Refusal}
 use Rattle.rules.specs.declared.Refusal.the-variants.{StreamSize, PastBound, OrderChanged, LebTooLarge, NoZeroByte, SlotUnset}
 use Rattle.rules.specs.declared.Refusal.the-variants.{SlotOfWrongSort, LengthTooLarge, SelectorInNoOption, WrongMagic, WrongUuid}
 use Rattle.rules.specs.declared.Refusal.the-variants.{StreamClassChanged, StreamClassUnknown, LengthsContradict, ClocksContradict}
-use Rattle.rules.specs.declared.Refusal.the-variants.{ClockTooLarge, EventClassUnknown, EventTookNoBits, ClockWentBack, ListFull}
+use Rattle.rules.specs.declared.Refusal.the-variants.{ClockTooLarge, EventClassUnknown, EventTookNoBits, ClockWentBack, ListFull, NotText}
 use Rattle.rules.specs.declared.BitPlace.{BitPlace}
 use Rattle.rules.specs.declared.Stop.{Stop}
 use Rattle.rules.specs.declared.Verdict.{Verdict}
@@ -34,6 +34,7 @@ refusalNumber (EventClassUnknown i j) = 37
 refusalNumber EventTookNoBits = 38
 refusalNumber ClockWentBack = 39
 refusalNumber ListFull = 40
+refusalNumber NotText = 41
 
 -- "Ids are 0 elsewhere."
 unfoldable pub refusalFirst : Refusal → ℕ
@@ -57,6 +58,7 @@ refusalFirst (EventClassUnknown i j) = i
 refusalFirst EventTookNoBits = 0
 refusalFirst ClockWentBack = 0
 refusalFirst ListFull = 0
+refusalFirst NotText = 0
 
 unfoldable pub refusalSecond : Refusal → ℕ
 refusalSecond StreamSize = 0
@@ -79,6 +81,7 @@ refusalSecond (EventClassUnknown i j) = j
 refusalSecond EventTookNoBits = 0
 refusalSecond ClockWentBack = 0
 refusalSecond ListFull = 0
+refusalSecond NotText = 0
 
 -- "20: table refused; first id is its number, place its byte"
 unfoldable pub numberOf : Verdict → ℕ

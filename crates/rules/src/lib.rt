@@ -92,6 +92,7 @@ pub enum Refusal {
     EventTookNoBits,
     ClockWentBack,
     ListFull,
+    NotText,
 }
 
 // Why a stream is refused, and where.

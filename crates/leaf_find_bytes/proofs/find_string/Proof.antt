@@ -1,4 +1,4 @@
--- The bytes from the aligned place to the bound are those that the rules search.
+-- The bytes from the aligned place to the bound, read as text, are those that the rules search.
 use borrow.Author.Needs.{needs}
 use Rattle.leaf_find_bytes.proofs.find_string.Statement.{statement}
 use Rattle.leaf_find_bytes.proofs.find_string.Tie as tie
@@ -7,15 +7,13 @@ use Rattle.leaf_find_bytes.proofs.find_string.Lts as lts
 use Rattle.places.proofs.align.Reads as align-reads
 use Rattle.places.proofs.bits_in.Reads as bits-in-reads
 use Rattle.places.proofs.bytes_before.Reads as bytes-before-reads
-use Rattle.text.proofs.find_zero.Reads as find-zero-reads
+use Rattle.text.proofs.read_before.Reads as read-before-reads
 use native.Mathlib.Omega.{arith}
-use Prim.Native.Nat.{_<_}
-use lib.ListN.{length}
-use Rattle.leaf_find_bytes.proofs.Found.{string-past, short-zero, string-ends, string-endless}
+use Rattle.leaf_find_bytes.proofs.Found.{StringRead, string-past, string-endless, short-text, string-malformed, string-ends}
 use Rattle.frame.specs.Framed.{alignedAt}
 
 -- Places of the code, in its order: all is given; the place is aligned; it is past the bound; it is inside; the bytes from it to the bound
--- are known; a zero byte was searched; the string ends
+-- are known; they were read as text; there is no zero byte; there is one; what stands before it is not text; it is
 
 abbrev AtStart : Type 0
 AtStart = tie.Start
@@ -32,11 +30,20 @@ AtInside = tie.Else1
 abbrev AtBytes : Type 0
 AtBytes = tie.After-bytes-before2
 
-abbrev AtSearched : Type 0
-AtSearched = tie.After-find-zero
+abbrev AtRead : Type 0
+AtRead = tie.After-read-before
+
+abbrev AtEndless : Type 0
+AtEndless = tie.Then2
 
 abbrev AtEnded : Type 0
-AtEnded = tie.After-n
+AtEnded = tie.Else2
+
+abbrev AtNotText : Type 0
+AtNotText = tie.Then3
+
+abbrev AtText : Type 0
+AtText = tie.Else3
 
 -- The way back from each to the one before
 
@@ -52,23 +59,41 @@ to-aligned c = c .before .before .before
 abbrev to-inside : AtBytes → AtInside
 to-inside c = c .before .before
 
-abbrev to-bytes : AtSearched → AtBytes
-to-bytes c = c .before
+abbrev to-bytes : AtRead → AtBytes
+to-bytes c = c .before .before .before
 
-abbrev to-searched : AtEnded → AtSearched
-to-searched c = c .before .before
+abbrev endless-read : AtEndless → AtRead
+endless-read c = c .before .before .before
+
+abbrev to-read : AtEnded → AtRead
+to-read c = c .before .before .before
+
+abbrev not-text-ended : AtNotText → AtEnded
+not-text-ended c = c .before .before
+
+abbrev to-ended : AtText → AtEnded
+to-ended c = c .before .before
 
 abbrev given : AtBytes → AtStart
 given c = to-start (to-aligned (to-inside c))
 
--- What is known at them: a string has fewer bytes than the stream
+-- What is known at them
 
-fewer : (c : AtEnded) → c .n .given .0 .0 .0 < length (given (to-bytes (to-searched c)) .args .stream .now)
-fewer c =
-    let searched = to-searched c in
-    let bytes = to-bytes searched in
-    short-zero (given bytes .args .stream .now) (bytes .before .bytes-before .result) (bytes .bytes-before2 .result) _
-    (searched .find-zero .ensures) _ (c .n .given .1)
+known-at : (c : AtRead) → let bytes = to-bytes c in let start = given bytes in
+    StringRead (start .args .stream .now) (start .args .frame) (start .args .from) (to-aligned (to-inside bytes) .align .result)
+    (bytes .before .bytes-before .result) (bytes .bytes-before2 .result) (c .read-before .result)
+unfolding alignedAt
+known-at c =
+    let bytes = to-bytes c in
+    let inside = to-inside bytes in
+    record {
+      framed = given bytes .pre;
+      aligned = to-aligned inside .align .ensures;
+      inside = omega (arith, inside .if1 .left);
+      at-is = bytes .before .bytes-before .ensures;
+      end-is = bytes .bytes-before2 .ensures;
+      text-is = c .read-before .ensures;
+    }
 
 -- The needs: alignment and the bound
 
@@ -87,52 +112,42 @@ bytes-before-requires c κs = search needs
 bytes-before-requires-2 : tie.Need-bytes-before-requires-2
 bytes-before-requires-2 c κs = search needs
 
-find-zero-requires : tie.Need-find-zero-requires
-find-zero-requires c κs = rw (c .bytes-before2 .ensures) (omega (arith, given c .pre .ends))
+sub-left : tie.Need-sub-left
+sub-left c =
+    let bytes = c .before .before in
+    rw (bytes .before .bytes-before .ensures, bytes .bytes-before2 .ensures) (omega (arith, to-inside bytes .if1 .left))
 
--- The zero byte
+read-before-requires : tie.Need-read-before-requires
+read-before-requires c κs =
+    let bytes = c .before .before in
+    rw (bytes .before .bytes-before .ensures, bytes .bytes-before2 .ensures)
+    (omega (arith, to-inside bytes .if1 .left, given bytes .pre .ends))
 
-enum-known-n : tie.Need-enum-known-n
-enum-known-n c = search needs
+-- The zero byte, and the text before it
 
-add-t14 : tie.Need-add-t14
-add-t14 c =
-    let ended = c .before .before in
-    omega (arith, given (to-bytes (to-searched ended)) .pre .small, fewer ended)
+returns-2 : tie.Need-returns-2
+returns-2 c = string-endless (known-at (endless-read c)) (c .if2 .taken)
+
+returns-3 : tie.Need-returns-3
+returns-3 c =
+    let ended = not-text-ended c in
+    string-malformed (known-at (to-read ended)) (ended .if2 .left) (c .if3 .taken)
+
+add-bytes : tie.Need-add-bytes
+add-bytes c =
+    let ended = to-ended (c .before) in
+    omega (arith, short-text (known-at (to-read ended)) (ended .if2 .left))
 
 bits-in-requires : tie.Need-bits-in-requires
 bits-in-requires c κs =
-    let ended = c .before .before in
-    omega (arith, given (to-bytes (to-searched ended)) .pre .small, fewer ended)
+    let ended = to-ended (c .before) in
+    omega (arith, short-text (known-at (to-read ended)) (ended .if2 .left))
 
-enum-told : tie.Need-enum-told
-enum-told c = search needs
-
-returns-2 : tie.Need-returns-2
-unfolding alignedAt
-returns-2 c =
-    let ended = c .before .before .before in
-    let searched = to-searched ended in
-    let bytes = to-bytes searched in
-    let at = bytes .before .bytes-before in
-    let end = bytes .bytes-before2 in
-    let inside = to-inside bytes in
-    rw (c .bits-in .ensures)
-    (string-ends (given bytes .args .stream .now) (at .result) (end .result) _ (searched .find-zero .ensures) _ _ _
-    (to-aligned inside .align .ensures) (given bytes .pre .whole) (omega (arith, inside .if1 .left)) (at .ensures) (end .ensures)
-    _ (ended .n .given .1))
-
-returns-3 : tie.Need-returns-3
-unfolding alignedAt
-returns-3 c =
-    let searched = c .before .before in
-    let bytes = to-bytes searched in
-    let at = bytes .before .bytes-before in
-    let end = bytes .bytes-before2 in
-    let inside = to-inside bytes in
-    string-endless (given bytes .args .stream .now) (at .result) (end .result) _ (searched .find-zero .ensures) _ _ _
-    (to-aligned inside .align .ensures) (given bytes .pre .whole) (omega (arith, inside .if1 .left)) (at .ensures) (end .ensures)
-    (c .enum-told .given .1)
+returns-4 : tie.Need-returns-4
+returns-4 c =
+    let text = c .before .before in
+    let ended = to-ended text in
+    rw (c .bits-in .ensures) (string-ends (known-at (to-read ended)) (ended .if2 .left) (text .if3 .left))
 
 pub find-string-spec : {M : Type 1} → statement M
 find-string-spec =
@@ -142,10 +157,10 @@ find-string-spec =
     returns
     bytes-before-requires
     bytes-before-requires-2
-    find-zero-requires
-    enum-known-n
-    add-t14
-    bits-in-requires
-    enum-told
+    sub-left
+    read-before-requires
     returns-2
-    returns-3)
+    returns-3
+    add-bytes
+    bits-in-requires
+    returns-4)

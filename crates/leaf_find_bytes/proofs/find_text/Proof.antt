@@ -6,11 +6,12 @@ use Rattle.leaf_find_bytes.proofs.find_text.Reads as reads
 use Rattle.leaf_find_bytes.proofs.find_text.Lts as lts
 use Rattle.places.proofs.bytes_before.Reads as bytes-before-reads
 use Rattle.leaf_find_bytes.proofs.find_blob.Reads as find-blob-reads
-use Rattle.text.proofs.count.Reads as count-reads
-use Rattle.leaf_find_bytes.proofs.Found.{text-refused, text-at}
+use Rattle.text.proofs.read.Reads as read-reads
+use Rattle.leaf_find_bytes.proofs.Found.{text-refused, text-malformed, text-at}
 use Rattle.leaf_find_bytes.proofs.Lies.{blob-lies}
 
--- Places of the code, in its order: all is given; the BLOB was searched; it stands at a place
+-- Places of the code, in its order: all is given; the BLOB was searched; it stands at a place; its bytes were read as text; they are not
+-- text; they are
 
 abbrev AtStart : Type 0
 AtStart = tie.Start
@@ -21,6 +22,15 @@ AtSearched = tie.After-find-blob
 abbrev AtPlace : Type 0
 AtPlace = tie.After-bits
 
+abbrev AtRead : Type 0
+AtRead = tie.After-read
+
+abbrev AtNotText : Type 0
+AtNotText = tie.Then1
+
+abbrev AtText : Type 0
+AtText = tie.Else1
+
 -- The way back from each to the one before
 
 abbrev to-start : AtSearched → AtStart
@@ -28,6 +38,15 @@ to-start c = c .before .before
 
 abbrev to-searched : AtPlace → AtSearched
 to-searched c = c .before .before
+
+abbrev to-place : AtRead → AtPlace
+to-place c = c .before .before .before
+
+abbrev not-text-read : AtNotText → AtRead
+not-text-read c = c .before .before
+
+abbrev to-read : AtText → AtRead
+to-read c = c .before .before
 
 -- The needs: the BLOB
 
@@ -45,21 +64,29 @@ enum-known-bits c = search needs
 bytes-before-requires : tie.Need-bytes-before-requires
 bytes-before-requires c κs = search needs
 
-count-requires : tie.Need-count-requires
-count-requires c κs =
+read-requires : tie.Need-read-requires
+read-requires c κs =
     let place = c .before .before in
     let searched = to-searched place in
     rw (c .bytes-before .ensures)
     (blob-lies (to-start searched .pre .0) (place .bits .given .1) _ (searched .find-blob .ensures) .1)
 
 returns : tie.Need-returns
-returns c = text-refused _ _ _ _ (c .before .before .before .find-blob .ensures) (c .before .place .given .1)
+returns c =
+    let read = not-text-read c in
+    let place = to-place read in
+    text-malformed _ _ _ _ (to-searched place .find-blob .ensures) (place .bits .given .1) _ (read .before .bytes-before .ensures)
+    _ (read .read .ensures) (c .if1 .taken)
 
 returns-2 : tie.Need-returns-2
-returns-2 c =
-    let place = c .before .before .before in
-    rw (c .count .ensures, c .before .bytes-before .ensures)
-    (text-at _ _ _ _ (to-searched place .find-blob .ensures) (place .bits .given .1))
+returns-2 c = text-refused _ _ _ _ (c .before .before .before .find-blob .ensures) (c .before .place .given .1)
+
+returns-3 : tie.Need-returns-3
+returns-3 c =
+    let read = to-read (c .before) in
+    let place = to-place read in
+    text-at _ _ _ _ (to-searched place .find-blob .ensures) (place .bits .given .1) _ (read .before .bytes-before .ensures)
+    _ (read .read .ensures) (c .before .if1 .left)
 
 pub find-text-spec : {M : Type 1} → statement M
 find-text-spec =
@@ -69,6 +96,7 @@ find-text-spec =
     enum-known-place
     enum-known-bits
     bytes-before-requires
-    count-requires
+    read-requires
     returns
-    returns-2)
+    returns-2
+    returns-3)

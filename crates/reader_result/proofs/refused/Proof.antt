@@ -129,6 +129,12 @@ enum-told-18 c = search needs
 with-requires-20 : tie.Need-with-requires-20
 with-requires-20 c κs = search needs
 
+enum-told-19 : tie.Need-enum-told-19
+enum-told-19 c = search needs
+
+with-requires-21 : tie.Need-with-requires-21
+with-requires-21 c κs = search needs
+
 returns : tie.Need-returns
 unfolding refusedWith refusalNumber refusalFirst refusalSecond
 returns c = rw (c .with .ensures, c .before .enum-told .given .1) refl
@@ -209,6 +215,10 @@ returns-20 : tie.Need-returns-20
 unfolding refusedWith refusalNumber refusalFirst refusalSecond
 returns-20 c = rw (c .with20 .ensures, c .before .enum-told18 .given .1) refl
 
+returns-21 : tie.Need-returns-21
+unfolding refusedWith refusalNumber refusalFirst refusalSecond
+returns-21 c = rw (c .with21 .ensures, c .before .enum-told19 .given .1) refl
+
 pub refused-spec : {M : Type 1} → statement M
 refused-spec =
     tie.close
@@ -253,6 +263,8 @@ refused-spec =
     with-requires-19
     enum-told-18
     with-requires-20
+    enum-told-19
+    with-requires-21
     returns
     returns-2
     returns-3
@@ -272,4 +284,5 @@ refused-spec =
     returns-17
     returns-18
     returns-19
-    returns-20)
+    returns-20
+    returns-21)

@@ -10,10 +10,10 @@ use Rattle.text.proofs.text_from.Statement.{statement}
 use Rattle.text.proofs.text_from.Tie as tie
 
 abbrev Inv-loop : tie.InvT-loop
-Inv-loop stream from bytes passed₀ passed = (passed ≤ bytes) × ((k : ℕ) → k < passed → getD stream (from + k) 0 ≡ 0 → ⊥)
+Inv-loop stream from bytes counted₀ counted = (counted ≤ bytes) × ((k : ℕ) → k < counted → getD stream (from + k) 0 ≡ 0 → ⊥)
 
 abbrev μ-loop : tie.MeasureT-loop
-μ-loop stream from bytes passed₀ passed = bytes - passed
+μ-loop stream from bytes counted₀ counted = bytes - counted
 
 loop-holds : tie.Need-loop-holds Inv-loop μ-loop
 loop-holds c = (search needs, λ k h. absurd (omega arith))
@@ -29,8 +29,8 @@ returns c =
     let a = c .before .before .before .before .args in
     text-to-zero (a .stream .now) (a .from) (a .bytes) _ (c .before .before .before .loop .inv .1) (omega arith) (c .if1 .taken)
 
-add-passed : tie.Need-add-passed Inv-loop μ-loop
-add-passed c = omega arith
+add-counted : tie.Need-add-counted Inv-loop μ-loop
+add-counted c = omega arith
 
 loop-less : tie.Need-loop-less Inv-loop μ-loop
 loop-less c = omega arith
@@ -53,7 +53,7 @@ text-from-spec =
     add-if1
     shared-slice-read-if1
     returns
-    add-passed
+    add-counted
     loop-less
     loop-again
     returns-2)
