@@ -1,10 +1,11 @@
 /* cases CASES ANSWERS: a host of the library. It asks the library each case of a case file, holds every word to the answers and the names
- * of trevoskel.h to what they say, and measures the stack that the library takes. The last three lines say what was found. Status 0: all
- * agree, and the stack is below its limit; 1: not so; 2: a file could not be read.
+ * of trevoskel.h to what they say, reads streams as long as they may be, and measures the stack that the library takes. The last four
+ * lines say what was found. Status 0: all agree, and memory and stack are below their limits; 1: not so; 2: a file could not be read.
  *
  * A case is three little-endian numbers of 32 bits, the table's bytes, the stream's bytes and the list's words, and then table and stream.
  * Its answer is a line NUMBER BYTE, a line NUMBER ENTRIES PLACE ID ID, a line KIND PLACE BITS VALUE an entry, and an empty line. */
 #include "deep.h"
+#include "long.h"
 #include "names.h"
 #include "stack.h"
 #include "trevoskel.h"
@@ -268,11 +269,14 @@ int main(int argc, char **argv)
     if (argc != 3) fail("usage", "cases CASES ANSWERS");
     struct cases cases = read_cases(argv[1], argv[2]);
     int named = names_hold();
+    int lengths = long_hold();
     size_t check = larger(stack_taken(check_all, &cases), stack_taken(check_deep, NULL));
     size_t reading = larger(stack_taken(read_all, &cases), stack_taken(read_deep, NULL));
     int within = larger(check, reading) < STACK_LIMIT;
     printf("%zu of %zu cases agree, each with results of 0 to %d words\n", cases.count - cases.differing, cases.count, ROOMS - 1);
     printf("the names of trevoskel.h %s what they say\n", named ? "stand for" : "DO NOT STAND FOR");
+    printf("streams of up to 536,870,911 bytes %s their answers, in less than %d MiB of memory\n", lengths ? "get" : "DO NOT GET",
+           LONG_MEMORY_MIB);
     printf("stack: a check takes up to %zu bytes, a reading up to %zu, %s\n", check, reading, within ? "below 1 MiB" : "NOT BELOW 1 MiB");
-    return cases.differing == 0 && named && within ? 0 : 1;
+    return cases.differing == 0 && named && lengths && within ? 0 : 1;
 }

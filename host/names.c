@@ -1,51 +1,11 @@
 /* The names of trevoskel.h by examples: what a name is said of, as small as it can be, and the library's answer to that. */
 #include "names.h"
+#include "records.h"
 #include "trevoskel.h"
 
 #include <inttypes.h>
 #include <stdio.h>
 #include <string.h>
-
-/* Records of a table. Numbers are little-endian where nothing else is said. */
-enum { NO_SLOT = 255, NO_CLOCK = 255 };
-enum { NO_ROLE, IS_MAGIC, STREAM_CLASS_ID, IS_UUID = 4, TOTAL, CONTENT, STAMP, END_STAMP, EVENT_CLASS_ID = 11 };
-#define WIDE(number) number, 0, 0, 0, 0, 0, 0, 0
-#define PREAMBLE 1, 2
-#define TRACE_CLASS 2, 1, WIDE(0), WIDE(0)
-#define CLOCK_CLASS 3, 0, WIDE(1)
-#define STREAM_CLASS(id, clock) 4, WIDE(id), clock
-#define EVENT_CLASS(stream, id) 5, WIDE(stream), WIDE(id)
-#define HEADER(members) 6, 0, STRUCTURE(members)
-#define CONTEXT(members) 6, 1, STRUCTURE(members)
-#define EVENT_HEADER(members) 6, 2, STRUCTURE(members)
-#define BOOLEAN(slot) 17, 8, 0, 0, slot
-#define NUMBER(bits) 18, bits, 0, 0, NO_SLOT, NO_ROLE
-#define BIG_ENDIAN(bits) 18, bits, 1, 0, NO_SLOT, NO_ROLE
-#define IN_SLOT(bits, slot) 18, bits, 0, 0, slot, NO_ROLE
-#define WITH_ROLE(bits, role) 18, bits, 0, 0, NO_SLOT, role
-#define LEB128 21, NO_SLOT, NO_ROLE
-#define STRING 23
-#define UUID 25, 16, 0, IS_UUID
-#define DYNAMIC_STRING(slot) 26, slot
-#define STRUCTURE(members) 28, members, 0
-#define STATIC_ARRAY(elements) 29, elements, 0, 0
-#define OPTIONAL(slot, ranges) 31, slot, ranges
-#define VARIANT(slot, options) 32, slot, options
-#define RANGE(low, high) 33, 0, WIDE(low), WIDE(high)
-#define OPTION(ranges) 34, ranges
-#define NO_RECORD 35
-
-/* What most of the tables begin with: a stream class of id 0, which packets are of whose header does not say one. */
-#define UNTIMED PREAMBLE, STREAM_CLASS(0, NO_CLOCK)
-#define TIMED PREAMBLE, CLOCK_CLASS, STREAM_CLASS(0, 0)
-
-struct bytes {
-    const uint8_t *from;
-    size_t count;
-};
-
-#define BYTES(...) {(const uint8_t[]){__VA_ARGS__}, sizeof((const uint8_t[]){__VA_ARGS__})}
-#define NONE {NULL, 0}
 
 /* A table that is checked, or a stream that is read, for each number but 15, which takes a long table, and 40, which is of the list. */
 static const struct {
@@ -117,9 +77,6 @@ static const uint8_t TABLE[] = {
 static const uint8_t ONE_EVENT[] = {STREAM, 48, 40, EVENT, 5, 0};
 
 /* What is listed of it, each kind of entry among it. */
-#define ENTRY(kind, place, bits, value) \
-    {[TREVOSKEL_ENTRY_KIND] = kind, [TREVOSKEL_ENTRY_PLACE] = place, [TREVOSKEL_ENTRY_BITS] = bits, [TREVOSKEL_ENTRY_VALUE] = value}
-enum { UNSIGNED_FIELD = 18, STRUCTURE_FIELD = 28 };
 static const uint64_t LISTED[][TREVOSKEL_ENTRY_WORDS] = {
     ENTRY(TREVOSKEL_PACKET_STARTS, 0, 0, 0),
     ENTRY(STRUCTURE_FIELD, 0, 0, 1),

@@ -56,7 +56,7 @@ enum trevoskel_number {
 
     /* "Refusing a stream": of trevoskel_read */
     TREVOSKEL_TABLE_REFUSED = 20,         /* first id: the table's number; place: its byte */
-    TREVOSKEL_STREAM_SIZE = 21,           /* empty, or over 16,777,216 bytes */
+    TREVOSKEL_STREAM_SIZE = 21,           /* empty, or over 536,870,911 bytes */
     TREVOSKEL_PAST_BOUND = 22,            /* alignment, bits or bytes past the bound */
     TREVOSKEL_ORDER_CHANGED = 23,         /* the byte order changed off a byte boundary */
     TREVOSKEL_LEB128_TOO_LARGE = 24,      /* or too long */

@@ -5,7 +5,7 @@ use crate::class::*;
 use crate::table::{self, Refusal};
 use crate::text::is_text;
 
-pub const MOST_STREAM_BYTES: usize = 16_777_216;
+pub const MOST_STREAM_BYTES: usize = 536_870_911;
 const MAGIC: u64 = 0xc1fc_1fc1;
 const MOST_LENGTH: u64 = 65_535;
 /// The bits of the slots 0 to 15, which events leave as they are.

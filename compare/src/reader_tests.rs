@@ -71,6 +71,26 @@ fn table_and_stream_refused() {
     assert_eq!(run(&Records::new(), &[1], 8).0, result(33, 1, 0));
     let large = vec![0; MOST_STREAM_BYTES + 1];
     assert_eq!(run(&Records::new(), &large, 8).0, result(21, 0, 0));
+    assert_eq!(run(&Records::new(), &large[1..], 8).0, result(33, 1, 0));
+}
+
+#[test]
+fn the_longest_stream() {
+    // Zero bytes in BLOBs, which no reading looks at. The last BLOB would end above 2 to the 32.
+    let stream = vec![0; 536_870_911];
+    let bits = 8 * stream.len() as u64;
+    let mut records = payload(1);
+    records.static_blob(65_535, 0);
+    let (reading, entries) = run(&records, &stream, 4 * 33_000);
+    assert_eq!(reading, result(22, 3 + 4 * 8192 + 3, bits));
+    assert_eq!(entries.last(), Some(&[28, 8 * 65_535 * 8192, 0, 1]));
+    // A structure in which they all stand, and at its end one that would be aligned to 2 to the 32.
+    for (align, expected) in [(0, result(0, 8202, bits)), (6, result(22, 8200, bits))] {
+        let mut records = payload(3);
+        records.static_array(8192, 0).static_blob(65_535, 0).static_blob(8191, 0);
+        records.structure(0, align);
+        assert_eq!(run(&records, &stream, 4 * 9000).0, expected);
+    }
 }
 
 #[test]

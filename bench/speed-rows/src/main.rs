@@ -2,10 +2,13 @@
 //!
 //!     speed-rows [ROUNDS]                      a table of all rows, the least time of so many rounds (7)
 //!     speed-rows text                          both readers on a megabyte of text, and Rust's own test of it
+//!     speed-rows long                          both readers on streams of 150 and of 300 MB
 //!     speed-rows SHAPE CLASSES READER ROUNDS   one reader (proved, rust) on one sample, for a profiler; CLASSES may be 10/500,
 //!                                              the stream of 10 classes read by a table of 500
 
 mod class;
+mod long;
+mod memory;
 mod random;
 mod readers;
 mod shapes;
@@ -13,7 +16,7 @@ mod text;
 mod time;
 
 use readers::Reader;
-use shapes::{Sample, Shape, SHAPES};
+use shapes::{Sample, Shape, PACKETS, PACKET_BYTES, SHAPES};
 
 const CLASSES: [usize; 2] = [10, 500];
 const ROUNDS: usize = 7;
@@ -25,13 +28,14 @@ const WORDS_PER_ENTRY: usize = 4;
 const EVENT_STARTS: u64 = 4;
 
 /// Room for an entry a byte, which no sample needs.
-const LIST_WORDS: usize = 16_777_216 * WORDS_PER_ENTRY;
+const LIST_WORDS: usize = PACKETS as usize * PACKET_BYTES * WORDS_PER_ENTRY;
 
 fn main() {
     let words: Vec<String> = std::env::args().skip(1).collect();
     match &words[..] {
         [] => all_rows(ROUNDS),
         [word] if word == "text" => text::rows(ROUNDS),
+        [word] if word == "long" => long::rows(ROUNDS),
         [rounds] => all_rows(rounds.parse().expect("a number of rounds")),
         [shape, classes, reader, rounds] => {
             let shape = SHAPES.into_iter().find(|known| known.name() == shape).expect("a shape");
@@ -41,7 +45,7 @@ fn main() {
             let sample = shapes::sample(shape, number(met), number(known));
             one_reader(&sample, reader, rounds.parse().expect("a number of rounds"));
         }
-        _ => panic!("[ROUNDS], text, or SHAPE CLASSES READER ROUNDS"),
+        _ => panic!("[ROUNDS], text, long, or SHAPE CLASSES READER ROUNDS"),
     }
 }
 

@@ -81,9 +81,10 @@ pub struct Sample {
     pub stream: Vec<u8>,
 }
 
-/// 255 of them stay just below the limit of 16,777,216 bytes.
-const PACKET_BYTES: usize = 65_536;
-const PACKETS: u64 = 255;
+pub const PACKET_BYTES: usize = 65_536;
+
+/// 16.7 MB: as long as a stream might be before request 4. The figures since are of the same streams.
+pub const PACKETS: u64 = 255;
 
 /// The id of the first stream class; the others' follow.
 const STREAM_CLASS: u64 = 7;
@@ -254,6 +255,11 @@ fn mixed(random: &mut Random, slot: u8) -> Vec<Class> {
 
 /// The sample of a shape: so many event classes are met in the stream, and so many are in the table.
 pub fn sample(shape: Shape, met: usize, known: usize) -> Sample {
+    sample_of(shape, met, known, PACKETS)
+}
+
+/// One of so many packets. With more of them it begins as with fewer.
+pub fn sample_of(shape: Shape, met: usize, known: usize, packets: u64) -> Sample {
     let mut random = Random(shape as u64 * 1000 + met as u64);
     // 8 times 62 is what a table may have.
     let each = |classes: usize| if shape.stream_classes() == 1 { classes } else { classes.min(62) };
@@ -265,7 +271,7 @@ pub fn sample(shape: Shape, met: usize, known: usize) -> Sample {
     let events = some(0, each(met), &mut random);
     let others = some(each(met), each(known), &mut Random(known as u64));
     let header = event_header(shape);
-    let stream = stream(shape, &header, &events, &mut random);
+    let stream = stream(shape, &header, &events, packets, &mut random);
     Sample { table: table(shape, &header, &[others, events].concat()), stream }
 }
 
@@ -296,12 +302,18 @@ fn table(shape: Shape, header: &Class, events: &[Event]) -> Vec<u8> {
     table
 }
 
-fn stream(shape: Shape, header: &Class, events: &[Event], random: &mut Random) -> Vec<u8> {
+fn stream(
+    shape: Shape,
+    header: &Class,
+    events: &[Event],
+    packets: u64,
+    random: &mut Random,
+) -> Vec<u8> {
     let of = shape.stream_classes() - 1;
     let events: Vec<&Event> = events.iter().filter(|event| event.of == of).collect();
-    let mut stream = Vec::new();
+    let mut stream = Vec::with_capacity(packets as usize * PACKET_BYTES);
     let mut clock = 1 << 40;
-    for sequence in 0..PACKETS {
+    for sequence in 0..packets {
         let mut said = [0; ROLES];
         said[MAGIC as usize] = 0xc1fc_1fc1;
         said[STREAM_CLASS_ID as usize] = STREAM_CLASS + of;

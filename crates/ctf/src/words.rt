@@ -82,7 +82,7 @@ fn say_refusal_without_id(number: u8) {
 
 fn say_refusal_to_29(number: u8) {
     match number {
-        21 => say(b"the stream is empty, or has more than 16,777,216 bytes"),
+        21 => say(b"the stream is empty, or has more than 536,870,911 bytes"),
         23 => say(b"the byte order changes off a byte boundary"),
         24 => say(b"a LEB128 number is too long or too large at its tenth byte"),
         25 => say(b"there is no zero byte before the bound"),

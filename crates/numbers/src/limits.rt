@@ -40,8 +40,8 @@ pub const NO_CLOCK: u8 = 255;
 // The bytes of a UUID.
 pub const UUID_BYTES: usize = 16;
 
-// "stream empty or over 16,777,216 bytes" (21)
-pub const STREAM_LIMIT: usize = 16_777_216;
+// "stream empty or over 536,870,911 bytes" (21)
+pub const STREAM_LIMIT: usize = 536_870_911;
 
 // "A length needs an unsigned number", of 65,535 at most (28)
 pub const LENGTH_LIMIT: u64 = 65_535;

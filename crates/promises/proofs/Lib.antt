@@ -39,6 +39,7 @@ mod Numbers
 mod Parts
 mod PlacedFields
 mod Placed
+mod Sizes
 mod Whole
 mod Onwards
 mod Cut

@@ -9,6 +9,7 @@ use Rattle.promises.proofs.Laws.{the-laws}
 use Rattle.promises.proofs.Elements.{elements}
 use Rattle.promises.proofs.SlotHomes.{slot-homes}
 use Rattle.promises.proofs.Placed.{placed}
+use Rattle.promises.proofs.Sizes.{stream-sizes}
 use Rattle.promises.proofs.Promised.{demands}
 use Rattle.promises.proofs.Only.{no-slack}
 use Rattle.promises.proofs.OnlyRan.{no-slack-ran}
@@ -38,6 +39,7 @@ all-promises = record {
   elements = elements;
   slot-homes = slot-homes;
   places = placed;
+  stream-sizes = stream-sizes;
   bits-cut = bits-cut;
   leb-settled = leb-settled;
   apart = apart;

@@ -17,4 +17,5 @@ pub mod Standard
 pub mod Numbers
 pub mod Parts
 pub mod Places
+pub mod Sizes
 pub mod Promises

@@ -13,9 +13,9 @@ fragmentLimit = 512
 abbrev pub depthLimit : ℕ
 depthLimit = 8
 
--- "stream empty or over 16,777,216 bytes" (Refusing a stream)
+-- "stream empty or over 536,870,911 bytes" (Refusing a stream)
 abbrev pub streamLimit : ℕ
-streamLimit = 16_777_216
+streamLimit = 536_870_911
 
 -- "length above 65,535" (Refusing a stream)
 abbrev pub lengthLimit : ℕ

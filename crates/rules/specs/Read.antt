@@ -47,7 +47,7 @@ ended (go es s) = record { entries = es; verdict = Accepted (s .place) }
 unfoldable pub begin : ℕ → State
 begin room = record { place = bitPlace 0; room = room; slots = noSlots; order = Nothing; clock = 0; last = 0; said = nothingSaid }
 
--- "stream empty or over 16,777,216 bytes; 0 entries, place 0" (21)
+-- "stream empty or over 536,870,911 bytes; 0 entries, place 0" (21)
 unfoldable pub readStream : Asked → List ℕ → ℕ → Reading
 readStream t b room =
     elim (eqb (length b) 0 || ltb streamLimit (length b)) [
