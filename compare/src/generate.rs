@@ -115,7 +115,8 @@ fn wished(random: &mut Random, number: u64) -> Case {
     }
     // Now and then the list ends just where the fault is, so that room and fault compete.
     if (22..=41).contains(&number) && number != 40 && random.chance(20) {
-        case.words = 4 * case.answer().reading.entries as usize + random.below(4);
+        let words = 4 * case.answer().reading.entries as usize + random.below(4);
+        case.words = words.min(MOST_WORDS);
     }
     case
 }
