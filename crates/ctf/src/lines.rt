@@ -5,6 +5,7 @@ use crate::words::say_refusal;
 use libc::STDOUT_FILENO;
 use numbers::entries;
 use numbers::faults;
+use numbers::limits::WORDS_PER_ENTRY;
 use rules::ByteLength;
 use rules::Checked;
 use rules::Result;
@@ -43,11 +44,11 @@ pub(crate) fn say_entries(list: &[u64], entries: usize) {
     let mut left = entries;
     let mut at = 0;
     while left > 0 {
-        if list.len() - at < 4 {
+        if list.len() - at < WORDS_PER_ENTRY {
             return;
         }
         say_entry(list[at], list[at + 1], list[at + 2], list[at + 3]);
-        at += 4;
+        at += WORDS_PER_ENTRY;
         left -= 1;
     }
 }

@@ -12,7 +12,7 @@ use Rattle.rules.specs.declared.Content.the-variants.{Unset}
 use Rattle.rules.specs.declared.Stop.{Stop}
 use Rattle.rules.specs.declared.Refusal.the-variants.{ClockWentBack, EventTookNoBits, ListFull}
 use Rattle.rules.specs.Verdict.{stopAt}
-use Rattle.rules.specs.Limits.{slotCount, packetSlotCount}
+use Rattle.rules.specs.Limits.{slotCount, packetSlotCount, wordsPerEntry}
 use Rattle.rules.specs.Slots.{Slots, slot, packetSlots}
 use Rattle.rules.specs.Entry.{entry, words, eventStarts, eventClassFound}
 use Rattle.rules.specs.Step.{stop, go, Step, onto, after, _⨾_, refuse, check, due, listed, change, withLast}
@@ -68,11 +68,11 @@ module _ (a : Asked) (c : StreamClass) (e : Env) (n : ℕ) (st : Progress) (l : 
       sym (seq-assoc Back (Hold ⨾ (due ⨾ Look)) m
       ∙ ap (λ (k : Step). Back ⨾ k) (seq-assoc Hold (due ⨾ Look) m ∙ ap (λ (k : Step). Hold ⨾ k) (seq-assoc due Look m)))
 
-  pub event-full : room < 4 → readEvent a c e n (full st l room) ≡ stop [] (stopAt ListFull (st .place))
+  pub event-full : room < wordsPerEntry → readEvent a c e n (full st l room) ≡ stop [] (stopAt ListFull (st .place))
   unfolding readEvent refuse
   event-full h = no-room-first _ (full st l room) h
 
-  pub event-starts : 4 ≤ room
+  pub event-starts : wordsPerEntry ≤ room
       → readEvent a c e n (full st l room) ≡ (mark eventStarts 0 n ⨾ (change startEvent ⨾ behindStart a c e st)) (full st l room)
   unfolding readEvent behindStart moved
   event-starts h =
@@ -88,13 +88,14 @@ unset-again l h =
     (omega (arith, length-take packetSlotCount l)))
 
 -- entry 4 stands in front
-module _ (a : Asked) (c : StreamClass) (b u : List ℕ) (f : Frame) (n : ℕ) (st : Progress) (l : Slots) (ws ws₁ : List ℕ) (h : 4 ≤ length ws)
-    (many : length l ≡ slotCount) (framed : Framed b f (st .place)) (e : ws₁ ≡ words (entry eventStarts (st .place) 0 n ∷ []) ++ drop 4 ws)
+module _ (a : Asked) (c : StreamClass) (b u : List ℕ) (f : Frame) (n : ℕ) (st : Progress) (l : Slots) (ws ws₁ : List ℕ)
+    (h : wordsPerEntry ≤ length ws) (many : length l ≡ slotCount) (framed : Framed b f (st .place))
+    (e : ws₁ ≡ words (entry eventStarts (st .place) 0 n ∷ []) ++ drop wordsPerEntry ws)
   where
     abbrev Event : Step
     Event = readEvent a c (envOf b u f) n
 
-    listed-part : Part (Event (full st l (length ws))) (change startEvent ⨾ behindStart a c (envOf b u f) st) ws ws₁ 4 st l
+    listed-part : Part (Event (full st l (length ws))) (change startEvent ⨾ behindStart a c (envOf b u f) st) ws ws₁ wordsPerEntry st l
     unfolding _⨾_ after mark listed
     listed-part = record {
       listed = entry eventStarts (st .place) 0 n ∷ [];
@@ -104,12 +105,12 @@ module _ (a : Asked) (c : StreamClass) (b u : List ℕ) (f : Frame) (n : ℕ) (s
       rest = event-starts a c (envOf b u f) n st l (length ws) h;
     }
 
-    pub started : Parted b f Event (behindStart a c (envOf b u f) st) st l ws ws₁ 4 (startState st) (packetSlots l)
+    pub started : Parted b f Event (behindStart a c (envOf b u f) st) st l ws ws₁ wordsPerEntry (startState st) (packetSlots l)
     unfolding startEvent
     started = record {
       framed = framed;
       kept = unset-again l many;
-      part = part-same _ (behindStart a c (envOf b u f) st) (change-on startEvent _ (full st l (length ws - 4))) listed-part;
+      part = part-same _ (behindStart a c (envOf b u f) st) (change-on startEvent _ (full st l (length ws - wordsPerEntry))) listed-part;
     }
 
 -- what is left lists nothing: it stops, or the event is done

@@ -13,7 +13,7 @@ use Rattle.rules.specs.declared.Stop.{Stop}
 use Rattle.rules.specs.declared.Refusal.{Refusal}
 use Rattle.rules.specs.declared.Refusal.the-variants.{ClockWentBack, EventClassUnknown, ListFull}
 use Rattle.rules.specs.Verdict.{stopAt}
-use Rattle.rules.specs.Limits.{depthLimit}
+use Rattle.rules.specs.Limits.{depthLimit, wordsPerEntry}
 use Rattle.rules.specs.Slots.{Slots}
 use Rattle.rules.specs.Entry.{entry, words, eventClassFound}
 use Rattle.rules.specs.Step.{Out, stop, go, Step, onto, after, _⨾_, pass}
@@ -106,17 +106,17 @@ module _ (t s : List ℕ) (w : Asking) (sized : Sized t s) (of : OfStream t w) (
     same = refl;
   }
 
-  found-at-state : (p : ℕ) (ws′ : List ℕ) → SizedFragment t s p → 4 ≤ length ws
+  found-at-state : (p : ℕ) (ws′ : List ℕ) → SizedFragment t s p → wordsPerEntry ≤ length ws
       → bodyOf (askedAt t) Class e (full st l (length ws))
       ≡ (mark eventClassFound 0 Id ⨾ partsOf e (Class .common) ((eventClassAt t p) .specific) ((eventClassAt t p) .payload))
       (full (settled st) l (length ws))
-      → ws′ ≡ words (entry eventClassFound (st .place) 0 Id ∷ []) ++ drop 4 ws
-      → TurnAt t s w e 1 class st l (dueTurn (lookedOn p (st .clock .value) 2 4) (nextDue t w p 2)) ws ws′
+      → ws′ ≡ words (entry eventClassFound (st .place) 0 Id ∷ []) ++ drop wordsPerEntry ws
+      → TurnAt t s w e 1 class st l (dueTurn (lookedOn p (st .clock .value) 2 wordsPerEntry) (nextDue t w p 2)) ws ws′
   unfolding turnsFrom
   found-at-state p ws′ stands room h list =
-      due-at-state 1 p (st .clock .value) 2 4 ws′ stands (omega arith) (omega arith) (λ _. omega arith) entered
+      due-at-state 1 p (st .clock .value) 2 wordsPerEntry ws′ stands (omega arith) (omega arith) (λ _. omega arith) entered
     where
-      entered : Part (turnsAt t w e class 1 (full st l (length ws))) (turnsAt t w e p 2) ws ws′ 4 (settled st) l
+      entered : Part (turnsAt t w e class 1 (full st l (length ws))) (turnsAt t w e p 2) ws ws′ wordsPerEntry (settled st) l
       entered = record {
         listed = entry eventClassFound (st .place) 0 Id ∷ [];
         list = list;
@@ -147,11 +147,15 @@ module _ (t s : List ℕ) (w : Asking) (sized : Sized t s) (of : OfStream t w) (
     told : (b : Bool) → back ≡ b → (Class .timed && ltb (st .clock .value) (st .last)) ≡ b
     told b h = back-is t w Id of st b h
 
-    module _ (on : back ≡ false) (room : 4 ≤ length ws) where
+    module _ (on : back ≡ false) (holds : ltb (length ws) wordsPerEntry ≡ false) where
+      room : wordsPerEntry ≤ length ws
+      room = ltb-false (length ws) wordsPerEntry holds
+
       looked : (x : TablePlace) → x ≡ foundOf (findEventAt t (fragmentsOf t) (w .id) Id) → Looked
       unfolding classLeft turnBehind
       looked Nothing is =
-          refused (EventClassUnknown (w .id) Id) (left-unknown t w (st .place) (st .clock .value) (st .last) Id (length ws) on room is refl)
+          refused (EventClassUnknown (w .id) Id)
+          (left-unknown t w (st .place) (st .clock .value) (st .last) Id (length ws) on holds is refl)
           (body-unknown (askedAt t) Class e st l (length ws) (told false on) room (event-unknown t w Id of is)
           ∙ ap (λ i. stop [] (stopAt (EventClassUnknown i Id) (st .place))) (sym (of .id)))
       looked (At p) is = rw (g .0)
@@ -160,10 +164,10 @@ module _ (t s : List ℕ) (w : Asking) (sized : Sized t s) (of : OfStream t w) (
           (g .1))
         where
           left : Lookup ≡ classLeft w (st .place) (st .clock .value) Id (At p)
-          left = left-found t w (st .place) (st .clock .value) (st .last) Id (length ws) on room is p refl
+          left = left-found t w (st .place) (st .clock .value) (st .last) Id (length ws) on holds is p refl
 
-          g : (r ≡ dueTurn (lookedOn p (st .clock .value) 2 4) (nextDue t w p 2))
-              × (ws′ ≡ words (entry eventClassFound (st .place) 0 Id ∷ []) ++ drop 4 ws)
+          g : (r ≡ dueTurn (lookedOn p (st .clock .value) 2 wordsPerEntry) (nextDue t w p 2))
+              × (ws′ ≡ words (entry eventClassFound (st .place) 0 Id ∷ []) ++ drop wordsPerEntry ws)
           g = gave-by (classLeft w (st .place) (st .clock .value) Id (At p)) left
 
       with-room : Looked
@@ -172,18 +176,17 @@ module _ (t s : List ℕ) (w : Asking) (sized : Sized t s) (of : OfStream t w) (
     lookup-did : Looked
     lookup-did = first back refl
       where
-        second : back ≡ false → (b : Bool) → ltb (length ws) 4 ≡ b → Looked
+        second : back ≡ false → (b : Bool) → ltb (length ws) wordsPerEntry ≡ b → Looked
         second on true h =
-            let less = ltb-true (length ws) 4 h in
-            refused ListFull (left-full t w (st .place) (st .clock .value) (st .last) Id (length ws) on less)
-            (body-full (askedAt t) Class e st l (length ws) (told false on) less)
-        second on false h = with-room on (ltb-false (length ws) 4 h)
+            refused ListFull (left-full t w (st .place) (st .clock .value) (st .last) Id (length ws) on h)
+            (body-full (askedAt t) Class e st l (length ws) (told false on) (ltb-true (length ws) wordsPerEntry h))
+        second on false h = with-room on h
 
         first : (b : Bool) → back ≡ b → Looked
         first true h =
             refused ClockWentBack (left-back t w (st .place) (st .clock .value) (st .last) Id (length ws) h)
             (body-back (askedAt t) Class e st l (length ws) (told true h))
-        first false h = second h (ltb (length ws) 4) refl
+        first false h = second h (ltb (length ws) wordsPerEntry) refl
 
   -- any other turn
 

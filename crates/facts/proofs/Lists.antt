@@ -1,6 +1,6 @@
 -- Laws of an entry's words: how many entries take, and those of two lists of entries.
 --
--- length-words    each entry takes four words
+-- length-words    each entry takes `wordsPerEntry` words
 -- words-append    the words of two lists of entries stand one behind the other
 use mathlib.Core.Path.{_≡_, refl, ap}
 use Prim.Native.Nat.{_*_}

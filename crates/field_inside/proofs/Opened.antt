@@ -12,7 +12,7 @@ use Rattle.rules.specs.declared.Content.{Content}
 use Rattle.rules.specs.declared.Content.the-variants.{Unset, Flag, Unsigned, Signed}
 use Rattle.rules.specs.declared.Refusal.{Refusal}
 use Rattle.rules.specs.declared.Refusal.the-variants.{PastBound, LengthTooLarge}
-use Rattle.rules.specs.Limits.{lengthLimit}
+use Rattle.rules.specs.Limits.{lengthLimit, wordsPerEntry}
 use Rattle.rules.specs.Place.{bitPlace, roundUp, alignFrom}
 use Rattle.rules.specs.Slots.{slotAt}
 use Rattle.rules.specs.Record.{u8, u16}
@@ -176,7 +176,7 @@ module _ (b uuid : List ℕ) (f : Frame) (s : State) (d : ℕ) (t : List ℕ) wh
 
   -- Each kind, where there is room for its entry
 
-  module _ (room : 4 ≤ s .room) where
+  module _ (room : wordsPerEntry ≤ s .room) where
     structure-opened : (a from n A : ℕ) → alignOf (structure a (membersAt (stoodAt d t) from n)) ≡ A
         → read e (structure a (membersAt (stoodAt d t) from n)) s ≡ opened e 28 d t (standing f A (s .place) (membersFrom n from)) s
     unfolding read
@@ -242,8 +242,8 @@ module _ (b uuid : List ℕ) (f : Frame) (d : ℕ) (t : List ℕ) (x : Notes) (a
       → read (envOf b uuid f) (classIn (stoodAt d t) t at (shapeOf k)) s
       ≡ opened (envOf b uuid f) k d t (insideIn t x at f (s .place) c (shapeOf k)) s
 
-  pub inside-read : whole (suc d) t at → 28 ≤ u8 t at → 4 ≤ s .room → c ≡ slotAt (s .slots) (slotReadAt t at) → Framed b f (s .place)
-      → Prepared t x → read (envOf b uuid f) (classAt (suc d) t at) s
+  pub inside-read : whole (suc d) t at → 28 ≤ u8 t at → wordsPerEntry ≤ s .room → c ≡ slotAt (s .slots) (slotReadAt t at)
+      → Framed b f (s .place) → Prepared t x → read (envOf b uuid f) (classAt (suc d) t at) s
       ≡ opened (envOf b uuid f) (u8 t at) d t (insideOf t x at f (s .place) c) s
   unfolding whole stoodAt slotReadAt insideOf classIn insideIn slotReadIn wholeIn shapeOf shapes optionalAt variantIn
   inside-read w k room told framed ready =

@@ -6,6 +6,7 @@ use lib.ListN.{drop}
 use lib.Dec.{eqb, ltb}
 use Rattle.rules.specs.declared.BitPlace.{BitPlace}
 use Rattle.rules.specs.declared.Refusal.the-variants.{PastBound}
+use Rattle.rules.specs.Limits.{wordsPerEntry}
 use Rattle.rules.specs.Entry.{entry, words}
 use Rattle.frame.specs.declared.Frame.{Frame}
 use Rattle.frame.specs.Framed.{alignedAt}
@@ -32,7 +33,7 @@ openedAs a (Refused v) =
 
 -- the list behind the entry of a field of the kind k, which has no bits of its own
 abbrev pub listHolder : ℕ → BitPlace → ℕ → List ℕ → List ℕ
-listHolder k p v ws = words (entry k p 0 v ∷ []) ++ drop 4 ws
+listHolder k p v ws = words (entry k p 0 v ∷ []) ++ drop wordsPerEntry ws
 
 unfoldable pub listOpened : ℕ → Inside → List ℕ → List ℕ
 listOpened k (Members q v from n) ws = listHolder k q v ws

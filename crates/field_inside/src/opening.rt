@@ -15,6 +15,7 @@ ghost use mathlib.Core.Path.{_≡_};
 ghost use mathlib.Core.List.{[], _∷_, _++_};
 ghost use Prim.Native.Nat.{_+_, _≤_, _<_, _^_};
 ghost use lib.ListN.{length, drop};
+ghost use Rattle.rules.specs.Limits.{wordsPerEntry};
 ghost use Rattle.rules.specs.Record.{u8};
 ghost use Rattle.rules.specs.Entry.{words, entry};
 ghost use Rattle.class_layout.specs.Notes.{notes, alignNoted};
@@ -46,7 +47,7 @@ pub fn open_field(
 ) -> Opened
     requires { ⌜ HolderStands (now table) (notes (now sizes) (now aligns)) at ⌝ }
     requires { ⌜ (frame .start .0 ≤ place .0) × (place .0 + 64 ≤ 2 ^ 64) ⌝ }
-    requires { ⌜ 4 ≤ length (now list) ⌝ }
+    requires { ⌜ wordsPerEntry ≤ length (now list) ⌝ }
     ensures { λ r. ⌜
         r ≡ openedAs (now (aligns .entry))
         (insideOf (now (table .entry)) (notes (now (sizes .entry)) (now (aligns .entry))) at frame place content)
@@ -137,7 +138,7 @@ pub fn enter_structure(
 ) -> Entered
     requires { ⌜ (at + 2 ≤ length (now table)) × (at < length (now aligns)) × (alignNoted (now aligns) at ≤ 6) ⌝ }
     requires { ⌜ (frame .start .0 ≤ from .0) × (from .0 + 64 ≤ 2 ^ 64) ⌝ }
-    requires { ⌜ 4 ≤ length (now list) ⌝ }
+    requires { ⌜ wordsPerEntry ≤ length (now list) ⌝ }
     ensures { λ r. ⌜ r ≡ enteredAt frame (2 ^ alignNoted (now (aligns .entry)) at) from ⌝ }
     ensures { λ _. ⌜
         now (list .exit) ≡ listEntered frame (2 ^ alignNoted (now (aligns .entry)) at) from (u8 (now (table .entry)) (at + 1))
@@ -158,8 +159,8 @@ pub fn enter_structure(
 
 // The entry of a field that holds fields: it has no bits of its own.
 fn list_holder(kind: u8, place: BitPlace, value: u64, list: &mut [u64])
-    requires { ⌜ 4 ≤ length (now list) ⌝ }
-    ensures { λ _. ⌜ now (list .exit) ≡ words (entry kind place 0 value ∷ []) ++ drop 4 (now (list .entry)) ⌝ }
+    requires { ⌜ wordsPerEntry ≤ length (now list) ⌝ }
+    ensures { λ _. ⌜ now (list .exit) ≡ words (entry kind place 0 value ∷ []) ++ drop wordsPerEntry (now (list .entry)) ⌝ }
 {
     write(
         list,

@@ -12,6 +12,7 @@ use lib.ListN.{length, getD, set}
 use lib.Seq.{getD-set-same, getD-set-other}
 use Rattle.rules.specs.declared.BitPlace.{BitPlace}
 use Rattle.rules.specs.declared.Content.{Content}
+use Rattle.rules.specs.Limits.{wordsPerEntry}
 use Rattle.rules.specs.Verdict.{stopAt}
 use Rattle.rules.specs.Slots.{Slots}
 use Rattle.rules.specs.Entry.{entry}
@@ -65,7 +66,8 @@ pub record ApartRound (w : Loop) (r : Run) (ws : List ℕ) (used : ℕ) (st : Pr
   pub rest-stands : WholeRun (w .depths) (w .table) (behindRun r (w .notes .sizes) (r .next) (r .todo - 1))
   pub stops : o .on ≡ false → Stops w (stopAt (o .why) (o .place)) used (merged used ws ys)
   pub goes : o .on ≡ true → Round (apartFrom w (behindRun r (w .notes .sizes) (r .next) (r .todo - 1)))
-      (aloneRun (o .from) (o .count) (o .elements) (o .forgets)) (merged used ws ys) (used + 4) (stateAt (o .place) (st .order) st) l
+      (aloneRun (o .from) (o .count) (o .elements) (o .forgets)) (merged used ws ys) (used + wordsPerEntry)
+      (stateAt (o .place) (st .order) st) l
 
 module _ {w : Loop} {r : Run} {ws : List ℕ} {used : ℕ} {st : Progress} {l : Slots} {c : Content} (h : Holder w r ws used st l c) where
   abbrev rest : Run
@@ -74,7 +76,7 @@ module _ {w : Loop} {r : Run} {ws : List ℕ} {used : ℕ} {st : Progress} {l : 
   told-round : {p : BitPlace} {v from n : ℕ} {elements : Bool} (f : ℕ) → Told h p v from n elements
       → (elements ≡ true → Forgets n f (sets (classAt (w .depths) (w .table) from)))
       → Round (apartFrom w rest) (aloneRun from n elements f) (merged used ws (listHolder (u8 (w .table) (r .next)) p v (lent used ws)))
-      (used + 4) (stateAt p (st .order) st) l
+      (used + wordsPerEntry) (stateAt p (st .order) st) l
   told-round {p} {v} {from} {n} {elements} f q right =
       let d = w .depths in
       let t = w .table in
@@ -94,7 +96,7 @@ module _ {w : Loop} {r : Run} {ws : List ℕ} {used : ℕ} {st : Progress} {l : 
   apart-goes : (i : Inside) → insideHere h ≡ i → openedAs (w .notes .aligns) i .on ≡ true →
       let o = openedAs (w .notes .aligns) i in
       Round (apartFrom w rest) (aloneRun (o .from) (o .count) (o .elements) (o .forgets))
-      (merged used ws (listOpened (u8 (w .table) (r .next)) i (lent used ws))) (used + 4) (stateAt (o .place) (st .order) st) l
+      (merged used ws (listOpened (u8 (w .table) (r .next)) i (lent used ws))) (used + wordsPerEntry) (stateAt (o .place) (st .order) st) l
   unfolding openedAs wentIn listOpened
   apart-goes (Members p v from n) e on = told-round 0 (members-told h e) (λ b. absurd (clash b))
   apart-goes (Elements p v from n) e on =

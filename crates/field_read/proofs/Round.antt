@@ -14,7 +14,7 @@ use Rattle.rules.specs.declared.Entry.{Entry}
 use Rattle.rules.specs.declared.Stop.{Stop}
 use Rattle.rules.specs.declared.Content.{Content}
 use Rattle.rules.specs.declared.Refusal.the-variants.{ListFull, PastBound}
-use Rattle.rules.specs.Limits.{slotCount}
+use Rattle.rules.specs.Limits.{slotCount, wordsPerEntry}
 use Rattle.rules.specs.Verdict.{stopAt}
 use Rattle.rules.specs.Slots.{Slots, slotAt, setSlot, unset}
 use Rattle.rules.specs.Entry.{entry, words}
@@ -131,7 +131,7 @@ unlent : (u : ℕ) (ws : List ℕ) → merged u ws (lent u ws) ≡ ws
 unlent u ws = ap (λ z. take u ws ++ z) (take-append-drop (length ws - u) (drop u ws)) ∙ take-append-drop u ws
 
 module _ {o : Out} {m : Step} {ws₀ ws : List ℕ} {used : ℕ} {st : Progress} {l : Slots} (part : Part o m ws₀ ws used st l)
-    (es : List Entry) (n : ℕ) {ys : List ℕ} (counted : n ≡ 4 * length es) (room : n ≤ length (lent used ws))
+    (es : List Entry) (n : ℕ) {ys : List ℕ} (counted : n ≡ wordsPerEntry * length es) (room : n ≤ length (lent used ws))
     (list : ys ≡ words es ++ drop n (lent used ws)) where
   -- by a step that goes on at a place and an order
   module _ (p : BitPlace) (order : LastOrder) (g : Step)
@@ -215,7 +215,7 @@ pub round-over : {w : Loop} {r : Run} {ws : List ℕ} {used : ℕ} {st : Progres
 round-over {w} {r} h e = rw (over-reads (w .depths) (w .table) (env w) r e, pass-seq (w .behind)) at (h .part)
 
 -- 40 comes before all else of a field
-read-full : (e : Env) (c : Class) (s : State) → s .room < 4 → read e c s ≡ refuse ListFull s
+read-full : (e : Env) (c : Class) (s : State) → s .room < wordsPerEntry → read e c s ≡ refuse ListFull s
 unfolding read readFixed
 read-full e (fixed k n o a i r) s h = no-room-first _ s h
 read-full e (leb128 i r) s h = no-room-first _ s h
@@ -296,10 +296,10 @@ module _ {w : Loop} {r : Run} {ws : List ℕ} {used : ℕ} {st : Progress} {l : 
       (h .stands)
       (foremost (element r) d t (firstAt r) (countOf r) (some .some) (sort-stands d t r (h .stands) (some .some)) .rest)
 
-  pub round-full : length ws - used < 4 → Stops w (stopAt ListFull (st .place)) used ws
+  pub round-full : length ws - used < wordsPerEntry → Stops w (stopAt ListFull (st .place)) used ws
   unfolding refuse
   round-full k =
-      let no-room : length (w .list) - used < 4 = omega (arith, part-length (h .part)) in
+      let no-room : length (w .list) - used < wordsPerEntry = omega (arith, part-length (h .part)) in
       first-stops (read (env w) firstClass) (left w behindFirst) first-part _ (read-full (env w) firstClass _ no-room)
 
 -- Leaves, and what is due of the last
@@ -325,7 +325,7 @@ again-at t b u f x at zero p o room = refl
 again-at t b u f x at (suc n) p o room = then-at _ at (suc n) o _ _ (λ q. again-at t b u f x at n _ _ _)
 
 module _ {w : Loop} {r : Run} {ws : List ℕ} {used : ℕ} {st : Progress} {l : Slots} (h : Round w r ws used st l) (some : Begun r)
-    (bytes : Bytes (w .stream)) (x : Content) (kind : u8 (w .table) (firstAt r) < 28) (room : 4 ≤ length ws - used)
+    (bytes : Bytes (w .stream)) (x : Content) (kind : u8 (w .table) (firstAt r) < 28) (room : wordsPerEntry ≤ length ws - used)
     (told : slotAt l (leafSlot (w .table) (firstAt r)) ≡ x) where
   abbrev pub leavesOf : LeavesListed
   leavesOf = leavesRead (element r) (w .table) (w .stream) (w .uuid) (w .frame) x (firstAt r) (countOf r) (st .place) (st .order)
@@ -367,7 +367,7 @@ module _ {w : Loop} {r : Run} {ws : List ℕ} {used : ℕ} {st : Progress} {l : 
   leaves-stop off = part-halt (h .part) (leavesOf .entries) (leavesOf .leaves .used) (say .counted) (say .room) refl _
       (rw (sym same-room) (stop-reads off))
 
-  pub leaves-some : leavesOf .leaves .on ≡ true → 4 ≤ leavesOf .leaves .used
+  pub leaves-some : leavesOf .leaves .on ≡ true → wordsPerEntry ≤ leavesOf .leaves .used
   leaves-some on = say .goes on .some
 
   pub leaves-stand : leavesOf .leaves .on ≡ true → whole (w .depths) (w .table) (leavesOf .leaves .at)
@@ -427,7 +427,7 @@ pub record LeavesRound (w : Loop) (r : Run) (ws : List ℕ) (used : ℕ) (st : P
   pub room : used + q .used ≤ length (w .list)
   pub same : length (merged used ws ys) ≡ length (w .list)
   pub stops : q .on ≡ false → Stops w (stopAt (q .why) (q .place)) (used + q .used) (merged used ws ys)
-  pub some : q .on ≡ true → 4 ≤ q .used
+  pub some : q .on ≡ true → wordsPerEntry ≤ q .used
   pub stand : q .on ≡ true → whole (w .depths) (w .table) (q .at)
   pub stamp : q .on ≡ true → Stamp (q .role) (q .width) (q .value)
   pub goes : q .on ≡ true
@@ -436,8 +436,8 @@ pub record LeavesRound (w : Loop) (r : Run) (ws : List ℕ) (used : ℕ) (st : P
       r′ (merged used ws ys) (used + q .used) (stateAt (q .place) (q .order) st) l
 
 pub leaves-round : {w : Loop} {r : Run} {ws : List ℕ} {used : ℕ} {st : Progress} {l : Slots} (h : Round w r ws used st l)
-    (some : Begun r) (bytes : Bytes (w .stream)) (x : Content) (kind : u8 (w .table) (firstAt r) < 28) (room : 4 ≤ length ws - used)
-    (told : slotAt l (leafSlot (w .table) (firstAt r)) ≡ x) {q : Leaves} {ys : List ℕ}
+    (some : Begun r) (bytes : Bytes (w .stream)) (x : Content) (kind : u8 (w .table) (firstAt r) < 28)
+    (room : wordsPerEntry ≤ length ws - used) (told : slotAt l (leafSlot (w .table) (firstAt r)) ≡ x) {q : Leaves} {ys : List ℕ}
     → q ≡ (leavesOf h some bytes x kind room told) .leaves → ys ≡ listBehind (leavesOf h some bytes x kind room told) (lent used ws)
     → LeavesRound w r ws used st l q ys
 leaves-round h some bytes x kind room told e f = rw (e, f) record {
@@ -567,9 +567,9 @@ role-round {w} {m} {r} {ws} {used} {st} {l} {q} {ys} k n v h did =
 pub record ClockRound (w : Loop) (m : Step) (r : Run) (ws : List ℕ) (used : ℕ) (st : Progress) (l : Slots) (a : Advanced) (ys : List ℕ)
     : Type 0 where
   pub same : length (merged used ws ys) ≡ length (w .list)
-  pub room : a .on ≡ true → used + 4 ≤ length (w .list)
+  pub room : a .on ≡ true → used + wordsPerEntry ≤ length (w .list)
   pub stops : a .on ≡ false → Stops w (stopAt (a .why) (st .place)) used (merged used ws ys)
-  pub goes : a .on ≡ true → Kept w m r (merged used ws ys) (used + 4) (tickedState st (a .clock)) l
+  pub goes : a .on ≡ true → Kept w m r (merged used ws ys) (used + wordsPerEntry) (tickedState st (a .clock)) l
 
 pub clock-role : {w : Loop} {m : Step} {r : Run} {ws : List ℕ} {used : ℕ} {st : Progress} {l : Slots} {a : Advanced} {ys : List ℕ}
     (k n v : ℕ) → k ≡ 7 → Kept w (role (roleOf k) n v ⨾ m) r ws used st l → a ≡ advancedBy n v (st .clock) (length (lent used ws))
@@ -614,7 +614,7 @@ pub record Holder (w : Loop) (r : Run) (ws : List ℕ) (used : ℕ) (st : Progre
   pub round : Round w r ws used st l
   pub some : 0 < r .todo
   pub kind : 28 ≤ u8 (w .table) (r .next)
-  pub room : 4 ≤ length ws - used
+  pub room : wordsPerEntry ≤ length ws - used
   pub told : slotAt l (slotReadAt (w .table) (r .next)) ≡ c
 
 -- what was opened: it stopped the loop, or its parts stand in the run
@@ -626,7 +626,7 @@ pub record OpenRound (w : Loop) (r : Run) (ws : List ℕ) (used : ℕ) (st : Pro
   pub goes : openedAs (w .notes .aligns) i .on ≡ true
       → let o = openedAs (w .notes .aligns) i in
       Round w (intoRun (u8 (w .table) (r .next)) r (w .notes .sizes) (o .from) (o .count) (o .elements) (o .forgets))
-      (merged used ws (listOpened (u8 (w .table) (r .next)) i (lent used ws))) (used + 4) (stateAt (o .place) (st .order) st) l
+      (merged used ws (listOpened (u8 (w .table) (r .next)) i (lent used ws))) (used + wordsPerEntry) (stateAt (o .place) (st .order) st) l
 
 module _ {w : Loop} {r : Run} {ws : List ℕ} {used : ℕ} {st : Progress} {l : Slots} {c : Content} (h : Holder w r ws used st l c) where
   abbrev d : ℕ
@@ -663,7 +663,7 @@ module _ {w : Loop} {r : Run} {ws : List ℕ} {used : ℕ} {st : Progress} {l : 
   ends = subst (λ (e : ℕ). Ends e t at (u8 t at) insideHere) (sym (depth-some t at d holder-there))
       (inside-ends (w .frame) (d - 1) t (w .notes) at c (st .place) deep (h .round .noted) (h .kind))
 
-  has-room : 4 ≤ length (w .list) - used
+  has-room : wordsPerEntry ≤ length (w .list) - used
   has-room = omega (arith, h .room, part-length (h .round .part))
 
   class-reads : read (env w) (classAt d t at) here ≡ opened (env w) (u8 t at) d t insideHere here
@@ -725,17 +725,18 @@ module _ {w : Loop} {r : Run} {ws : List ℕ} {used : ℕ} {st : Progress} {l : 
   -- its entry is listed, and then g is left
   pub entry-put : (p : BitPlace) (v : ℕ) (m g : Step) → Part (w .all) m (w .list) ws used st l
       → m here ≡ (listed (entry (u8 t at) p 0 v) p ⨾ g) here
-      → Part (w .all) g (w .list) (merged used ws (listHolder (u8 t at) p v (lent used ws))) (used + 4) (stateAt p (st .order) st) l
+      → Part (w .all) g (w .list) (merged used ws (listHolder (u8 t at) p v (lent used ws))) (used + wordsPerEntry)
+      (stateAt p (st .order) st) l
   unfolding _⨾_ after listed
   entry-put p v m g part reads =
-      part-put part (entry (u8 t at) p 0 v ∷ []) 4 refl (omega (arith, lent-room used ws, h .room)) refl p (st .order) g reads
+      part-put part (entry (u8 t at) p 0 v ∷ []) wordsPerEntry refl (omega (arith, lent-room used ws, h .room)) refl p (st .order) g reads
 
   -- and its parts stand in the run
   opened-round : {p : BitPlace} {v from n : ℕ} {elements : Bool} (f : ℕ) → Told p v from n elements
       → Holds d t r (h .round .stands) (h .some) (w .notes .sizes) (u8 t at) from n elements
       → (elements ≡ true → Forgets n f (sets (classAt d t from)))
       → Round w (intoRun (u8 t at) r (w .notes .sizes) from n elements f) (merged used ws (listHolder (u8 t at) p v (lent used ws)))
-      (used + 4) (stateAt p (st .order) st) l
+      (used + wordsPerEntry) (stateAt p (st .order) st) l
   opened-round {p} {v} {from} {n} {elements} f q holds right =
       let sizes = w .notes .sizes in
       let into = intoRun (u8 t at) r sizes from n elements f in
@@ -765,9 +766,9 @@ module _ {w : Loop} {r : Run} {ws : List ℕ} {used : ℕ} {st : Progress} {l : 
   pub open-same : (i : Inside) → length (merged used ws (listOpened (u8 t at) i (lent used ws))) ≡ length (w .list)
   unfolding listOpened
   open-same (Members p v from n) =
-      put-length (h .round .part) (entry (u8 t at) p 0 v ∷ []) 4 refl (omega (arith, lent-room used ws, h .room)) refl
+      put-length (h .round .part) (entry (u8 t at) p 0 v ∷ []) wordsPerEntry refl (omega (arith, lent-room used ws, h .room)) refl
   open-same (Elements p v from n) =
-      put-length (h .round .part) (entry (u8 t at) p 0 v ∷ []) 4 refl (omega (arith, lent-room used ws, h .room)) refl
+      put-length (h .round .part) (entry (u8 t at) p 0 v ∷ []) wordsPerEntry refl (omega (arith, lent-room used ws, h .room)) refl
   open-same (Refused v) = ap length (unlent used ws) ∙ part-length (h .round .part)
 
   pub open-stops : (i : Inside) → insideHere ≡ i → openedAs (w .notes .aligns) i .on ≡ false →
@@ -833,7 +834,7 @@ pub record CodeRound (w : Loop) (r : Run) (ws : List ℕ) (used : ℕ) (st : Pro
   pub few : o .elements ≡ false → o .count ≤ length (w .table)
   pub stops : o .on ≡ false → Stops w (stopAt (o .why) (o .place)) used (merged used ws ys)
   pub goes : o .on ≡ true → Round w (intoRun (u8 (w .table) (r .next)) r (w .notes .sizes) (o .from) (o .count) (o .elements) (o .forgets))
-      (merged used ws ys) (used + 4) (stateAt (o .place) (st .order) st) l
+      (merged used ws ys) (used + wordsPerEntry) (stateAt (o .place) (st .order) st) l
 
 pub code-round : {w : Loop} {r : Run} {ws : List ℕ} {used : ℕ} {st : Progress} {l : Slots} {c : Content} (h : Holder w r ws used st l c)
     → ((u8 (w .table) (r .next) ≡ 28 → ⊥) → (u8 (w .table) (r .next) ≡ 31 → ⊥) → free r ≡ true) → {o : Opened} {ys : List ℕ}
@@ -847,7 +848,7 @@ code-round h may e f =
 pub record EnterRound (w : Loop) (r : Run) (ws : List ℕ) (used : ℕ) (st : Progress) (l : Slots) (o : Entered) (ys : List ℕ) : Type 0 where
   pub same : length (merged used ws ys) ≡ length (w .list)
   pub stops : o .on ≡ false → Stops w (stopAt PastBound (o .place)) used (merged used ws ys)
-  pub goes : o .on ≡ true → Round w (openedRun r (r .next + 3) (u8 (w .table) (r .next + 1))) (merged used ws ys) (used + 4)
+  pub goes : o .on ≡ true → Round w (openedRun r (r .next + 3) (u8 (w .table) (r .next + 1))) (merged used ws ys) (used + wordsPerEntry)
       (stateAt (o .place) (st .order) st) l
 
 pub enter-round : {w : Loop} {r : Run} {ws : List ℕ} {used : ℕ} {st : Progress} {l : Slots} {c : Content} → Holder w r ws used st l c
@@ -892,7 +893,7 @@ enter-round {w} {r} {ws} {used} {st} {l} {c} h k {o} {ys} e f = by (o .on) refl
 pub record FieldRound (w : Loop) (r : Run) (ws : List ℕ) (used : ℕ) (q : Field) (ys : List ℕ) : Type 0 where
   pub room : used + q .used ≤ length (w .list)
   pub same : length (merged used ws ys) ≡ length (w .list)
-  pub some : q .went ≡ On → 4 ≤ q .used
+  pub some : q .went ≡ On → wordsPerEntry ≤ q .used
   pub stops : (v : Stop) → q .went ≡ Stopped v → Stops w v (used + q .used) (merged used ws ys)
   pub goes : q .went ≡ On
       → Round w (behindRun r (w .notes .sizes) (r .next) (r .todo - 1)) (merged used ws ys) (used + q .used) (q .state) (q .slots)

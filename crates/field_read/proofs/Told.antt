@@ -12,7 +12,7 @@ use borrow.Author.Tests.{eqb-false}
 use Rattle.rules.specs.declared.Content.{Content}
 use Rattle.rules.specs.declared.Content.the-variants.{Unset}
 use Rattle.rules.specs.Record.{u8}
-use Rattle.rules.specs.Limits.{slotCount}
+use Rattle.rules.specs.Limits.{slotCount, wordsPerEntry}
 use Rattle.rules.specs.Slots.{Slots, slotAt, setSlot, unset}
 use Rattle.rules.specs.Step.{Step, _⨾_}
 use Rattle.rules.specs.Faults.{roleOf}
@@ -137,7 +137,7 @@ module _ {w : Loop} {r : Run} {ws : List ℕ} {used : ℕ} {st : Progress} {l : 
         stands = sort-stands (w .depths) (w .table) r (h .stands) (some .some);
       }
 
-  pub leaves-did : Bytes (w .stream) → (x : Content) → u8 (w .table) n < 28 → 4 ≤ length ws - used
+  pub leaves-did : Bytes (w .stream) → (x : Content) → u8 (w .table) n < 28 → wordsPerEntry ≤ length ws - used
       → slotAt l (leafSlot (w .table) n) ≡ x → {q : Leaves} {ys : List ℕ} → q ≡ leavesAt w st used ws again x n count .leaves
       → ys ≡ listBehind (leavesAt w st used ws again x n count) (lent used ws) → LeavesRound w r ws used st l q ys
   leaves-did bytes x kind room told e f =
@@ -175,7 +175,8 @@ pub taken-next : (r : Run) {r′ : Run} {n : ℕ} → n ≡ firstAt r → r′ �
 taken-next r e f some = rw (e, f) (taken-first 0 [] r (some .some))
 
 pub holds-first : {w : Loop} {r : Run} {ws : List ℕ} {used : ℕ} {st : Progress} {l : Slots} {n : ℕ} {x : Content} → Round w r ws used st l
-    → FirstAt r n → 28 ≤ u8 (w .table) n → 4 ≤ length ws - used → slotAt l (slotReadAt (w .table) n) ≡ x → Holder w r ws used st l x
+    → FirstAt r n → 28 ≤ u8 (w .table) n → wordsPerEntry ≤ length ws - used → slotAt l (slotReadAt (w .table) n) ≡ x
+    → Holder w r ws used st l x
 holds-first h first kind room told = record {
   round = h;
   some = first .0;
@@ -198,7 +199,7 @@ module _ {w : Loop} {r : Run} {ws : List ℕ} {used : ℕ} {st : Progress} {l : 
   entered-did k e f = enter-round h (rw (first .1) k) (rw (first .1) e) (rw (first .1) f)
 
   pub entered-run : {o : Entered} {ys : List ℕ} {q : Run} {k : ℕ} → EnterRound w r ws used st l o ys → q ≡ openedRun r (n + 3) k
-      → k ≡ u8 t (n + 1) → o .on ≡ true → Round w q (merged used ws ys) (used + 4) (stateAt (o .place) (st .order) st) l
+      → k ≡ u8 t (n + 1) → o .on ≡ true → Round w q (merged used ws ys) (used + wordsPerEntry) (stateAt (o .place) (st .order) st) l
   entered-run d e f on = rw (e, f, sym (first .1)) (d .goes on)
 
   -- a field that was opened in its run
@@ -208,7 +209,7 @@ module _ {w : Loop} {r : Run} {ws : List ℕ} {used : ℕ} {st : Progress} {l : 
 
   pub inside-run : {o : Opened} {ys : List ℕ} {q : Run} → CodeRound w r ws used st l o ys
       → q ≡ intoRun (u8 t n) r (w .notes .sizes) (o .from) (o .count) (o .elements) (o .forgets) → o .on ≡ true
-      → Round w q (merged used ws ys) (used + 4) (stateAt (o .place) (st .order) st) l
+      → Round w q (merged used ws ys) (used + wordsPerEntry) (stateAt (o .place) (st .order) st) l
   inside-run d e on = rw (e, sym (first .1)) (d .goes on)
 
   -- or in a run of its own
@@ -218,7 +219,8 @@ module _ {w : Loop} {r : Run} {ws : List ℕ} {used : ℕ} {st : Progress} {l : 
 
   pub apart-run : {o : Opened} {ys : List ℕ} {q rest : Run} → ApartRound w r ws used st l o ys
       → q ≡ aloneRun (o .from) (o .count) (o .elements) (o .forgets) → rest ≡ behindRun r (w .notes .sizes) n (r .todo - 1) → o .on ≡ true
-      → WholeRun (w .depths) t rest × Round (apartFrom w rest) q (merged used ws ys) (used + 4) (stateAt (o .place) (st .order) st) l
+      → WholeRun (w .depths) t rest
+      × Round (apartFrom w rest) q (merged used ws ys) (used + wordsPerEntry) (stateAt (o .place) (st .order) st) l
   apart-run d e f on = rw (e, f, sym (first .1)) (d .rest-stands, d .goes on)
 
   -- a field that was read by itself

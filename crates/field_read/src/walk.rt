@@ -31,8 +31,10 @@ use leaf_read::read_leaves;
 use listing::Progress;
 use listing::Went;
 use listing::at_place;
+use listing::entry::is_full;
 use listing::role;
 use numbers::kinds;
+use numbers::limits::WORDS_PER_ENTRY;
 use rules::BitPlace;
 use rules::Content;
 use rules::Refusal;
@@ -43,6 +45,7 @@ use table_records::bodies::STRUCTURE_SIZE;
 ghost use mathlib.Core.Path.{_≡_};
 ghost use Prim.Native.Nat.{_+_, _^_, _≤_, _<_};
 ghost use lib.ListN.{length};
+ghost use Rattle.rules.specs.Limits.{wordsPerEntry};
 ghost use Rattle.rules.specs.Record.{u8};
 ghost use Rattle.rules.specs.Class.{sets};
 ghost use Rattle.rules.specs.Verdict.{stopAt};
@@ -69,7 +72,7 @@ pub fn read_field(
     list: &mut [u64],
 ) -> Field
     requires { ⌜ whole left (now table) at ⌝ }
-    requires { ⌜ (28 ≤ u8 (now table) at) × (4 ≤ length (now list)) ⌝ }
+    requires { ⌜ (28 ≤ u8 (now table) at) × (wordsPerEntry ≤ length (now list)) ⌝ }
     requires { ⌜ Prepared (now table) (notes (now sizes) (now aligns)) ⌝ }
     requires { ⌜ Framed (now stream) frame (st .place) ⌝ }
     ensures { λ r. ⌜
@@ -103,7 +106,7 @@ pub fn read_field(
             left - 1, // for elements
             next,
             slots,
-            &mut list[4..],
+            &mut list[WORDS_PER_ENTRY..],
         )
     } else {
         walk_members(
@@ -118,7 +121,7 @@ pub fn read_field(
             left - 1, // for members
             next,
             slots,
-            &mut list[4..],
+            &mut list[WORDS_PER_ENTRY..],
         )
     };
     behind_entry(r, st, slots)
@@ -126,18 +129,18 @@ pub fn read_field(
 
 // A field's own entry stands before what is inside it. What stopped hands back what came to the field, not what its entry left.
 fn behind_entry(inside: Field, st: Progress, slots: [Slot; 64]) -> Field
-    requires { ⌜ 4 + inside .used < 2 ^ 64 ⌝ }
+    requires { ⌜ wordsPerEntry + inside .used < 2 ^ 64 ⌝ }
     ensures { λ r. ⌜ r ≡ entered inside st slots ⌝ }
 {
     let went = inside.went;
     match went {
-        Went::Stopped(stop) => stopped(stop, 4 + inside.used, st, slots),
+        Went::Stopped(stop) => stopped(stop, WORDS_PER_ENTRY + inside.used, st, slots),
         Went::On => {
             let state = inside.state;
             let changed = inside.slots;
             Field {
                 went: Went::On,
-                used: 4 + inside.used,
+                used: WORDS_PER_ENTRY + inside.used,
                 state,
                 slots: changed,
             }
@@ -274,7 +277,7 @@ fn walk(
                 slots,
             };
         }
-        if list.len() - used < 4 {
+        if is_full(list.len() - used) {
             return refused(Refusal::ListFull, place, used, st, given); // 40
         }
         let next = first(run);
@@ -343,7 +346,7 @@ fn walk(
                 return refused(Refusal::PastBound, place, used, st, given);
             }
             run = opened(run, next + STRUCTURE_SIZE, wide(table[next + 1]));
-            used = used + 4;
+            used = used + WORDS_PER_ENTRY;
             continue;
         }
         let mut content = Content::Unset;
@@ -369,7 +372,7 @@ fn walk(
                 return refused(why, place, used, st, given);
             }
             run = into(kind, run, sizes, o.from, o.count, o.elements, o.forgets);
-            used = used + 4;
+            used = used + WORDS_PER_ENTRY;
             continue;
         }
         let r = read_field(

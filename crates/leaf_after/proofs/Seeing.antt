@@ -107,7 +107,7 @@ module _ (e : Env) where
       (λ (l : 12 ≤ r). rw (List·getD-eq-default roles noRole l) refl)
       (lt-or-ge r 12)
 
-module _ (b uuid : List ℕ) (f : Frame) (s : State) (h : 4 ≤ s .room) where
+module _ (b uuid : List ℕ) (f : Frame) (s : State) (h : wordsPerEntry ≤ s .room) where
   abbrev env : Env
   env = envOf b uuid f
 

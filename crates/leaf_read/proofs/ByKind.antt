@@ -16,7 +16,7 @@ use Rattle.rules.specs.declared.Order.{Order}
 use Rattle.rules.specs.declared.Order.the-variants.{Big}
 use Rattle.rules.specs.declared.Content.{Content}
 use Rattle.rules.specs.declared.Content.the-variants.{Unsigned, Signed}
-use Rattle.rules.specs.Limits.{noSlot, slotCount}
+use Rattle.rules.specs.Limits.{noSlot, slotCount, wordsPerEntry}
 use Rattle.rules.specs.Verdict.{stopAt}
 use Rattle.rules.specs.Class.{Sort, bitArray, boolean, unsignedInt, signedInt, float, Class}
 use Rattle.rules.specs.Record.{bitField, u8, u16}
@@ -205,7 +205,7 @@ module _ (b u : List ℕ) (f : Frame) (t : List ℕ) (at : ℕ) (p : BitPlace) (
 
   -- y is what is seen from a place on, with an order as the last
   by-class : (c : Class) (y : BitPlace → LastOrder → Seen) → classAt 1 t at ≡ c → this ≡ y p o → Fits (y p o)
-      → ((s : State) → 4 ≤ s .room → length (s .slots) ≡ slotCount → slotAt (s .slots) (leafSlot t at) ≡ x
+      → ((s : State) → wordsPerEntry ≤ s .room → length (s .slots) ≡ slotCount → slotAt (s .slots) (leafSlot t at) ≡ x
       → read (envOf b u f) c s ≡ done (y (s .place) (s .order)) s)
       → SeesAt b u f t at x p o this
   by-class c y e is fits law = record {

@@ -196,9 +196,9 @@ clock-place l (some c) s = refl
 due-place : (m : Step) (s : State) → placeOf (m s) ≡ s .place → placeOf ((due ⨾ m) s) ≡ s .place
 unfolding placeOf refuse
 due-place m s e = ⊎-elim
-    (λ (h : s .room < 4). ap placeOf (no-room-first m s h))
-    (λ (h : 4 ≤ s .room). ap placeOf (room-first m s h) ∙ e)
-    (lt-or-ge (s .room) 4)
+    (λ (h : s .room < wordsPerEntry). ap placeOf (no-room-first m s h))
+    (λ (h : wordsPerEntry ≤ s .room). ap placeOf (room-first m s h) ∙ e)
+    (lt-or-ge (s .room) wordsPerEntry)
 
 -- a role is done at the place behind its field
 role-place : (r : Role) (l v : ℕ) (s : State) → placeOf (role r l v s) ≡ s .place

@@ -79,7 +79,7 @@ onward-again false at next e = absurd (clash e)
 -- where leaves go on behind one
 pub record Onward (t : List ℕ) (next n room slot role : ℕ) : Type 0 where
   pub some : 0 < n
-  pub fits : 4 ≤ room
+  pub fits : wordsPerEntry ≤ room
   pub kind : u8 t next < 26
   pub idle : slotCount ≤ slot
   pub plain : role ≡ 0
@@ -123,7 +123,7 @@ dueThen again d t e r =
 
 -- leaves that went on, of n from a byte on, from the rules' state s on
 pub record LeavesWent (again : Bool) (d : ℕ) (t b u : List ℕ) (f : Frame) (at n : ℕ) (s : State) (y : LeavesListed) : Type 0 where
-  pub some : 4 ≤ y .leaves .used
+  pub some : wordsPerEntry ≤ y .leaves .used
   pub less : y .leaves .todo < n
   pub framed : Framed b f (y .leaves .place)
   pub same : again ≡ true → y .leaves .at ≡ at
@@ -136,7 +136,7 @@ pub record LeavesWent (again : Bool) (d : ℕ) (t b u : List ℕ) (f : Frame) (a
 
 -- what leaves did is the rules' reading, whether it stopped or went on
 pub record LeavesSay (again : Bool) (d : ℕ) (t b u : List ℕ) (f : Frame) (at n : ℕ) (s : State) (y : LeavesListed) : Type 0 where
-  pub counted : y .leaves .used ≡ 4 * length (y .entries)
+  pub counted : y .leaves .used ≡ wordsPerEntry * length (y .entries)
   pub room : y .leaves .used ≤ s .room
   pub stops : y .leaves .on ≡ false
       → readFields again d t at n (envOf b u f) s ≡ stop (y .entries) (stopAt (y .leaves .why) (y .leaves .place))
@@ -144,7 +144,8 @@ pub record LeavesSay (again : Bool) (d : ℕ) (t b u : List ℕ) (f : Frame) (at
 
 -- what is due of a leaf in a frame ends within it; s is a state in which its slot holds x
 pub due-framed : (b u : List ℕ) (f : Frame) (t : List ℕ) (at : ℕ) (x : Content) (s : State) (q : Due) {y : Seen}
-    → SeesAt b u f t at x (s .place) (s .order) y → y ≡ Field q → Framed b f (s .place) → 4 ≤ s .room → length (s .slots) ≡ slotCount
+    → SeesAt b u f t at x (s .place) (s .order) y → y ≡ Field q → Framed b f (s .place) → wordsPerEntry ≤ s .room
+    → length (s .slots) ≡ slotCount
     → slotAt (s .slots) (leafSlot t at) ≡ x → Framed b f (behindEntry (q .entry))
 unfolding done
 due-framed b u f t at x s q sees is framed room many told =
@@ -159,7 +160,7 @@ record OneLeaf (again : Bool) (d : ℕ) (t b u : List ℕ) (f : Frame) (x : Cont
   pub some : 0 < n
   pub kind : u8 t at < 28
   pub framed : Framed b f (s .place)
-  pub room : 4 ≤ s .room
+  pub room : wordsPerEntry ≤ s .room
   pub many : length (s .slots) ≡ slotCount
   pub told : 26 ≤ u8 t at → slotAt (s .slots) (leafSlot t at) ≡ x
 
@@ -198,7 +199,7 @@ module _ (again : Bool) (d : ℕ) (t b u : List ℕ) (f : Frame) (x : Content) (
   reads-all is = ap (λ (m : Step). m s) (h .first .reads env) ∙ ap (λ o. after o rest) (reads-first is)
 
   -- it stops
-  stops-say : (why : Refusal) (p : BitPlace) (o : LastOrder) (es : List Entry) → 4 * length es ≤ s .room
+  stops-say : (why : Refusal) (p : BitPlace) (o : LastOrder) (es : List Entry) → wordsPerEntry * length es ≤ s .room
       → readFields again d t at n env s ≡ stop es (stopAt why p) → LeavesSay again d t b u f at n s (stopsAt why at n p o es)
   unfolding stopsAt stoppedLeaves
   stops-say why p o es room reads = record { counted = refl; room = room; stops = λ off. reads; goes = λ on. absurd (clash on) }
@@ -258,7 +259,7 @@ module _ (again : Bool) (d : ℕ) (t b u : List ℕ) (f : Frame) (x : Content) (
     }
 
     -- it is not the last
-    module _ (on : Onward t next (n - 1) (s .room - 4) (q .slot) (q .role)) where
+    module _ (on : Onward t next (n - 1) (s .room - wordsPerEntry) (q .slot) (q .role)) where
       onward-reads : readFields again d t at n env s ≡ onto (q .entry ∷ []) (rest behind)
       unfolding after
       onward-reads = due-reads
@@ -297,7 +298,7 @@ module _ (again : Bool) (d : ℕ) (t b u : List ℕ) (f : Frame) (x : Content) (
         stops = λ off. onward-reads ∙ ap (onto (q .entry ∷ [])) (say .stops off);
         goes = λ went.
             let g = say .goes went in
-            let left : s .room - 4 - y .leaves .used ≡ s .room - (4 + y .leaves .used) = omega arith in
+            let left : s .room - wordsPerEntry - y .leaves .used ≡ s .room - (wordsPerEntry + y .leaves .used) = omega arith in
             record {
               some = omega (arith, g .some);
               less = omega (arith, g .less);
@@ -308,7 +309,7 @@ module _ (again : Bool) (d : ℕ) (t b u : List ℕ) (f : Frame) (x : Content) (
               rest = g .rest;
               stamp = g .stamp;
               reads = onward-reads ∙ ap (onto (q .entry ∷ [])) (g .reads) ∙ onto-onto (q .entry ∷ []) (y .entries)
-                  (dueThen again d t env (y .leaves) (roomed (y .leaves) (s .room - 4 - y .leaves .used)))
+                  (dueThen again d t env (y .leaves) (roomed (y .leaves) (s .room - wordsPerEntry - y .leaves .used)))
                   ∙ ap (λ (z : ℕ). onto (q .entry ∷ y .entries) (dueThen again d t env (y .leaves) (roomed (y .leaves) z))) left;
             };
       }
@@ -346,7 +347,7 @@ leaves-say again d t b u f x bytes (suc n) at s h =
 
 -- the same of what the loops know: the classes stand whole, and the slots hold x where the first leaf reads
 pub leaves-read : (again : Bool) (d : ℕ) (t b u : List ℕ) (f : Frame) (x : Content) → Bytes b → (at n : ℕ) (s : State)
-    → wholeFields again d t at n → 0 < n → u8 t at < 28 → Framed b f (s .place) → 4 ≤ s .room → length (s .slots) ≡ slotCount
+    → wholeFields again d t at n → 0 < n → u8 t at < 28 → Framed b f (s .place) → wordsPerEntry ≤ s .room → length (s .slots) ≡ slotCount
     → slotAt (s .slots) (leafSlot t at) ≡ x
     → LeavesSay again d t b u f at n s (leavesRead again t b u f x at n (s .place) (s .order) (s .room))
 leaves-read again d t b u f x bytes at n s stands some kind framed room many told = leaves-say again d t b u f x bytes n at s record {

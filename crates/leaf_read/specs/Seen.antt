@@ -10,7 +10,7 @@ use Rattle.rules.specs.declared.LastOrder.{LastOrder}
 use Rattle.rules.specs.declared.Content.{Content}
 use Rattle.rules.specs.declared.Content.the-variants.{Unsigned, Signed}
 use Rattle.rules.specs.declared.Refusal.the-variants.{PastBound}
-use Rattle.rules.specs.Limits.{slotCount, noSlot}
+use Rattle.rules.specs.Limits.{slotCount, noSlot, wordsPerEntry}
 use Rattle.rules.specs.Verdict.{stopAt}
 use Rattle.rules.specs.Class.{Sort, bitArray, boolean, unsignedInt, signedInt, float}
 use Rattle.rules.specs.Record.{Shape, bitField, lebField, signedLebField, zeroString, text, blob, textOf, blobOf, u8, u16}
@@ -29,7 +29,7 @@ use Rattle.class_layout.specs.Trees.{shapeOf}
 
 -- to do what is seen is m, whatever the slots hold but the one that is read
 pub record LeafSeen (m : Step) (i : ℕ) (x : Content) (p : BitPlace) (o : LastOrder) (r : Seen) : Type 0 where
-  pub same : (s : State) → 4 ≤ s .room → length (s .slots) ≡ slotCount → slotAt (s .slots) i ≡ x → s .place ≡ p → s .order ≡ o
+  pub same : (s : State) → wordsPerEntry ≤ s .room → length (s .slots) ≡ slotCount → slotAt (s .slots) i ≡ x → s .place ≡ p → s .order ≡ o
       → m s ≡ done r s
   pub fits : Fits r
 

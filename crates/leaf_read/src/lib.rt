@@ -18,6 +18,7 @@ use leaf_see_number::fixed::signed;
 use leaf_see_number::fixed::unsigned;
 use leaf_see_number::leb::signed_leb;
 use leaf_see_number::leb::unsigned_leb;
+use listing::entry::is_full;
 use listing::entry::write;
 use numbers::kinds;
 use numbers::limits;
@@ -37,6 +38,7 @@ use table_bytes::wide64;
 ghost use mathlib.Core.Path.{_≡_};
 ghost use Prim.Native.Nat.{_+_, _≤_, _<_};
 ghost use lib.ListN.{length, getD};
+ghost use Rattle.rules.specs.Limits.{wordsPerEntry};
 ghost use Rattle.rules.specs.Record.{u8};
 ghost use Rattle.rules.specs.Parse.{orderOf};
 ghost use Rattle.frame.specs.Framed.{Framed};
@@ -79,7 +81,7 @@ pub fn read_leaves(
     list: &mut [u64],
 ) -> Leaves
     requires { ⌜ Standing again (now table) from count ⌝ }
-    requires { ⌜ (u8 (now table) from < 28) × (1 ≤ count) × (4 ≤ length (now list)) ⌝ }
+    requires { ⌜ (u8 (now table) from < 28) × (1 ≤ count) × (wordsPerEntry ≤ length (now list)) ⌝ }
     requires { ⌜ (length (now table) ≤ length (now sizes)) × SizedClasses (now table) (now sizes) ⌝ }
     requires { ⌜ Framed (now stream) frame begun ⌝ }
     requires { ⌜ Held (leafSlot (now table) from) content ⌝ }
@@ -111,13 +113,13 @@ pub fn read_leaves(
                     todo,
                     places::further(entry.place, entry.bits),
                     order,
-                    used + 4,
+                    used + limits::WORDS_PER_ENTRY,
                 );
             }
             Seen::Field(due) => {
                 let entry = due.entry;
                 write(&mut list[used..], entry);
-                used = used + 4;
+                used = used + limits::WORDS_PER_ENTRY;
                 todo = todo - 1;
                 place = places::further(entry.place, entry.bits);
                 order = due.order;
@@ -200,7 +202,7 @@ fn ends(table: &[u8], next: usize, todo: usize, room: usize, slot: u8, role: u8)
     if todo == 0 {
         return true;
     }
-    if room < 4 {
+    if is_full(room) {
         return true;
     }
     if kinds::DYNAMIC_STRING <= table[next] {

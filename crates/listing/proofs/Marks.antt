@@ -21,7 +21,7 @@ pub check-on : (q : State → Bool) (r : Refusal) (m : Step) (s : State) → q s
 unfolding _⨾_ after
 check-on q r m s h = ap (λ o. after o m) (check-goes q r s h) ∙ onto-nil (m s)
 
-pub due-stop : (m : Step) (s : State) → s .room < 4 → (due ⨾ m) s ≡ stop [] (stopAt ListFull (s .place))
+pub due-stop : (m : Step) (s : State) → s .room < wordsPerEntry → (due ⨾ m) s ≡ stop [] (stopAt ListFull (s .place))
 unfolding refuse
 due-stop m s h = no-room-first m s h
 

@@ -1,15 +1,25 @@
 // The list: "Lent 64-bit words, four an entry, each entry written into what remains of the list: kind, place, bits, value."
+use numbers::limits;
 use rules::Entry;
 ghost use mathlib.Core.Path.{_≡_};
 ghost use mathlib.Core.List.{[], _∷_, _++_};
 ghost use Prim.Native.Nat.{_≤_};
+ghost use lib.Dec.{ltb};
 ghost use lib.ListN.{length, drop};
+ghost use Rattle.rules.specs.Limits.{wordsPerEntry};
 ghost use Rattle.rules.specs.Entry.{words};
+
+// The one place where room for an entry is asked for: "under four words left" (40). `left` words remain of the list.
+pub fn is_full(left: usize) -> bool
+    ensures { λ r. ⌜ r ≡ ltb left wordsPerEntry ⌝ }
+{
+    left < limits::WORDS_PER_ENTRY
+}
 
 // The one place where an entry is written.
 pub fn write(list: &mut [u64], entry: Entry)
-    requires { ⌜ 4 ≤ length (now list) ⌝ }
-    ensures { λ _. ⌜ now (list .exit) ≡ words (entry ∷ []) ++ drop 4 (now (list .entry)) ⌝ }
+    requires { ⌜ wordsPerEntry ≤ length (now list) ⌝ }
+    ensures { λ _. ⌜ now (list .exit) ≡ words (entry ∷ []) ++ drop wordsPerEntry (now (list .entry)) ⌝ }
 {
     list[0] = entry.kind;
     list[1] = entry.place.0;

@@ -8,6 +8,7 @@ use lib.ListN.{length, drop}
 use Rattle.rules.specs.declared.BitPlace.{BitPlace}
 use Rattle.rules.specs.declared.Stop.{Stop}
 use Rattle.rules.specs.declared.Refusal.the-variants.{ListFull, LengthsContradict, ClocksContradict}
+use Rattle.rules.specs.Limits.{wordsPerEntry}
 use Rattle.rules.specs.Verdict.{stopAt}
 use Rattle.rules.specs.Place.{further}
 use Rattle.rules.specs.Slots.{Slots, packetSlots}
@@ -44,14 +45,14 @@ module _ (t b : List ℕ) (class : ℕ) (p : BitPlace) (total content : ℕ) (st
   EventsLeft u k ws₁ bound to =
       Part Contents
       (readEvents (askedAt t) (streamClassAt t k) (envOf b u (record { start = p; bound = bound })) to 0 (bound .0 - st .place .0))
-      ws ws₁ 4 st l
+      ws ws₁ wordsPerEntry st l
 
-  pub content-ran-full : length ws < 4 → RanDid Contents st (stoppedRan (stopAt ListFull (st .place)) 0 st) ws ws
+  pub content-ran-full : length ws < wordsPerEntry → RanDid Contents st (stoppedRan (stopAt ListFull (st .place)) 0 st) ws ws
   content-ran-full h =
       refused-ran Contents st l ws _ (content-full (askedAt t) (streamClassAt t class) b p total content (full st l (length ws)) h)
 
   -- the stream's end as the code has it, and how its tests went
-  module _ (room : 4 ≤ length ws) (f : Frame) (e : f ≡ wholeFrame b p) (x : Bool)
+  module _ (room : wordsPerEntry ≤ length ws) (f : Frame) (e : f ≡ wholeFrame b p) (x : Bool)
       (k : x ≡ contradicts total content p (st .place) (f .bound .0)) where
     told : (y : Bool) → x ≡ y → contradicts total content p (st .place) (8 * length b) ≡ y
     told y h = ap (λ g. contradicts total content p (st .place) (g .bound .0)) (sym e) ∙ sym k ∙ h
@@ -78,7 +79,8 @@ module _ (t b : List ℕ) (class : ℕ) (p : BitPlace) (total content : ℕ) (st
             refused-ran Contents st l ws _
             (content-clocks (askedAt t) (streamClassAt t class) b p total content (full st l (length ws)) room (told false ok) (sym j ∙ h))
 
-        pub content-part : y ≡ false → {ws₁ : List ℕ} → ws₁ ≡ words (entry lengthsSettled (st .place) total content ∷ []) ++ drop 4 ws
+        pub content-part : y ≡ false → {ws₁ : List ℕ}
+            → ws₁ ≡ words (entry lengthsSettled (st .place) total content ∷ []) ++ drop wordsPerEntry ws
             → (u : List ℕ) → u ≡ (askedAt t) .uuid → (k : ℕ) → k ≡ class
             → (bound to : BitPlace) → bound ≡ further p content → to ≡ further p total → EventsLeft u k ws₁ bound to
         content-part h w u v k q bound to x y = rw (v, q, x, y)

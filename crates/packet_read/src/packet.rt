@@ -6,8 +6,10 @@ use clock::Clock;
 use contradictions::differs;
 use listing::Progress;
 use listing::Went;
+use listing::entry::is_full;
 use listing::entry::write;
 use numbers::entries;
+use numbers::limits::WORDS_PER_ENTRY;
 use outcome::Ran;
 use outcome::refused;
 use outcome::stopped;
@@ -58,7 +60,7 @@ pub fn read_packet(
         ⌝ }
 {
     let place = begun.place;
-    if list.len() < 4 {
+    if is_full(list.len()) {
         return refused(Refusal::ListFull, place, 0, begun);
     }
     write(
@@ -81,9 +83,9 @@ pub fn read_packet(
         header,
         fresh(begun),
         no_slots(),
-        &mut list[4..],
+        &mut list[WORDS_PER_ENTRY..],
     );
-    let used = 4 + h.used;
+    let used = WORDS_PER_ENTRY + h.used;
     let went = h.went;
     match went {
         Went::Stopped(stop) => {
@@ -137,7 +139,7 @@ fn read_behind_header(
     if differs(id, first) {
         return refused(Refusal::StreamClassChanged, place, 0, st);
     }
-    if list.len() < 4 {
+    if is_full(list.len()) {
         return refused(Refusal::ListFull, place, 0, st);
     }
     match find_stream_class(table, sizes, id) {
@@ -164,9 +166,9 @@ fn read_behind_header(
                 id,
                 st,
                 slots,
-                &mut list[4..],
+                &mut list[WORDS_PER_ENTRY..],
             );
-            with_last(4, r, st)
+            with_last(WORDS_PER_ENTRY, r, st)
         }
     }
 }

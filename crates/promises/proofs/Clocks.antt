@@ -29,7 +29,7 @@ use Rattle.rules.specs.declared.Refusal.the-variants.{SlotOfWrongSort, LengthTo
 use Rattle.rules.specs.declared.Refusal.the-variants.{StreamClassChanged, StreamClassUnknown, LengthsContradict, ClocksContradict}
 use Rattle.rules.specs.declared.Refusal.the-variants.{EventClassUnknown, EventTookNoBits, ClockWentBack, ListFull, NotText}
 use Rattle.rules.specs.declared.Verdict.the-variants.{Refused}
-use Rattle.rules.specs.Limits.{streamLimit}
+use Rattle.rules.specs.Limits.{wordsPerEntry, streamLimit}
 use Rattle.rules.specs.Bits.{bits}
 use Rattle.rules.specs.Leb128.{lebUnsigned, lebSigned, lebWidth}
 use Rattle.rules.specs.Clock.{advance, clockAfter}
@@ -254,7 +254,7 @@ at-change p f h k {m} g = record {
 at-clock : (l : ℕ) (p : Entry) → FieldKind (p .kind) → l ≡ stampBits p
     → TickAt p (due ⨾ λ s. newClock l (clockAfter (s .clock) l (p .value)) s)
 unfolding due check _⨾_ pass refuse after refusalNumber
-at-clock l p f k = record { at = λ s g. by s g (ltb (s .room) 4) }
+at-clock l p f k = record { at = λ s g. by s g (ltb (s .room) wordsPerEntry) }
   where
     stamped : Step
     stamped s = newClock l (clockAfter (s .clock) l (p .value)) s

@@ -17,7 +17,7 @@ use Rattle.rules.specs.declared.Result.{Result}
 use Rattle.rules.specs.Slots.{Slots}
 use Rattle.rules.specs.declared.Stated.the-variants.{Missing}
 use Rattle.rules.specs.declared.Refusal.the-variants.{StreamSize}
-use Rattle.rules.specs.Limits.{streamLimit}
+use Rattle.rules.specs.Limits.{streamLimit, wordsPerEntry}
 use Rattle.rules.specs.Place.{byteLength, bitPlace}
 use Rattle.rules.specs.Verdict.{stopAt, numberOf, placeOf, firstOf, secondOf}
 use Rattle.rules.specs.Entry.{words}
@@ -117,9 +117,9 @@ module _ (t : List ℕ) (x : Notes) (b : List ℕ) (g : Ready t x) (n : length b
 
 -- The result
 
-module _ (es : List Entry) (used : ℕ) (n : used ≡ 4 * length es) (ws ws′ : List ℕ) (k : ws′ ≡ words es ++ drop used ws) (y : Result)
-    (st : Progress) where
-  entries : used / 4 ≡ length es
+module _ (es : List Entry) (used : ℕ) (n : used ≡ wordsPerEntry * length es) (ws ws′ : List ℕ) (k : ws′ ≡ words es ++ drop used ws)
+    (y : Result) (st : Progress) where
+  entries : used / wordsPerEntry ≡ length es
   entries = omega arith
 
   on-answers : (s : State) → s .place ≡ st .place → y ≡ answerOf On used st → Answers (ended (go es s)) y ws ws′
@@ -130,9 +130,9 @@ module _ (es : List Entry) (used : ℕ) (n : used ≡ 4 * length es) (ws ws′ :
   unfolding answerOf refusedWith resultOf ended numberOf placeOf firstOf secondOf listAfter
   stopped-answers v e = record { result = e ∙ rw (entries) refl; list = k ∙ ap (λ m. words es ++ drop m ws) n }
 
-out-answers : (es : List Entry) (went : Went) (used : ℕ) → used ≡ 4 * length es → (ws ws′ : List ℕ) → ws′ ≡ words es ++ drop used ws
-    → (y : Result) (st : Progress) (l : Slots) (room : ℕ)
-    → y ≡ answerOf went used st → Answers (ended (outOf es went st l room)) y ws ws′
+out-answers : (es : List Entry) (went : Went) (used : ℕ) → used ≡ wordsPerEntry * length es → (ws ws′ : List ℕ)
+    → ws′ ≡ words es ++ drop used ws → (y : Result) (st : Progress) (l : Slots) (room : ℕ) → y ≡ answerOf went used st
+    → Answers (ended (outOf es went st l room)) y ws ws′
 unfolding outOf
 out-answers es On used n ws ws′ k y st l room e = on-answers es used n ws ws′ k y st (full st l room) refl e
 out-answers es (Stopped v) used n ws ws′ k y st l room e = stopped-answers es used n ws ws′ k y st v e

@@ -15,6 +15,7 @@ use mathlib.Core.List.{_∷_, [], _++_}
 use Prim.Native.Nat.{_+_, _*_, _^_, _<_, _≤_}
 use native.Mathlib.Omega.{arith}
 use lib.ListN.{length}
+use Rattle.rules.specs.Limits.{wordsPerEntry}
 use Rattle.facts.specs.Bytes.{Bytes}
 use Rattle.listing.proofs.Parts.{Listed, one-more, listed-length, lent-room, merged}
 use Rattle.leaf_after.specs.Seeing.{Fits}
@@ -100,7 +101,7 @@ due-listed c = c .before .before .before
 within : (c : AtLeaf) →
     let l = c .loop in
     let ws = start c .args .list .now in
-    (l .used + 4 ≤ length (l .list)) × (length (l .list) ≡ length ws) × (8 * length ws < 2 ^ 63)
+    (l .used + wordsPerEntry ≤ length (l .list)) × (length (l .list) ≡ length ws) × (8 * length ws < 2 ^ 63)
 within c =
     let h = c .loop .inv in
     (omega (arith, reading-length h, h .room), reading-length h, omega (arith, start c .good))
@@ -122,14 +123,14 @@ other-list : (c : AtOtherListed) →
     let l = leaf (other (other-told c)) in
     let entry = other-told c .entry .given .0 .0 in
     let ws = merged (l .loop .used) (l .loop .list) (c .before .write .last .0) in
-    Listed (l .loop .inv .listed ++ (entry ∷ [])) (start l .args .list .now) ws (l .loop .used + 4)
+    Listed (l .loop .inv .listed ++ (entry ∷ [])) (start l .args .list .now) ws (l .loop .used + wordsPerEntry)
 other-list c = let h = leaf (other (other-told c)) .loop .inv in one-more (h .list) _ (h .room) (c .before .write .ensures)
 
 due-list : (c : AtListed) →
     let l = leaf (due (due-told c)) in
     let entry = due-told c .due .given .0 .0 .entry in
     let ws = merged (l .loop .used) (l .loop .list) (c .before .write2 .last .0) in
-    Listed (l .loop .inv .listed ++ (entry ∷ [])) (start l .args .list .now) ws (l .loop .used + 4)
+    Listed (l .loop .inv .listed ++ (entry ∷ [])) (start l .args .list .now) ws (l .loop .used + wordsPerEntry)
 due-list c = let h = leaf (due (due-told c)) .loop .inv in one-more (h .list) _ (h .room) (c .before .write2 .ensures)
 
 -- the next leaf's class stands where the sizes say

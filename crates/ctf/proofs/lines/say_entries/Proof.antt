@@ -1,4 +1,4 @@
--- Four words an entry, and never past the list.
+-- The words of each entry, and never past the list.
 use borrow.Author.Needs.{needs}
 use Rattle.ctf.proofs.lines.say_entries.Statement.{statement}
 use Rattle.ctf.proofs.lines.say_entries.Tie as tie

@@ -9,14 +9,16 @@ use mathlib.Core.List.{List, [], _∷_}
 use Prim.Native.Nat.{ℕ, _≤_}
 use native.Mathlib.Omega.{arith}
 use lib.ListN.{length, drop, set, length-set}
+use Rattle.rules.specs.Limits.{wordsPerEntry}
 use Rattle.rules.specs.Entry.{words}
 
-four : (l : List ℕ) (a b c d : ℕ) → 4 ≤ length l → set (set (set (set l 0 a) 1 b) 2 c) 3 d ≡ a ∷ b ∷ c ∷ d ∷ drop 4 l
-four [] a b c d h = absurd (omega arith)
-four (w ∷ []) a b c d h = absurd (omega arith)
-four (w ∷ x ∷ []) a b c d h = absurd (omega arith)
-four (w ∷ x ∷ y ∷ []) a b c d h = absurd (omega arith)
-four (w ∷ x ∷ y ∷ z ∷ l) a b c d h = refl
+written : (l : List ℕ) (a b c d : ℕ) → wordsPerEntry ≤ length l
+    → set (set (set (set l 0 a) 1 b) 2 c) 3 d ≡ a ∷ b ∷ c ∷ d ∷ drop wordsPerEntry l
+written [] a b c d h = absurd (omega arith)
+written (w ∷ []) a b c d h = absurd (omega arith)
+written (w ∷ x ∷ []) a b c d h = absurd (omega arith)
+written (w ∷ x ∷ y ∷ []) a b c d h = absurd (omega arith)
+written (w ∷ x ∷ y ∷ z ∷ l) a b c d h = refl
 
 slice-write-list : tie.Need-slice-write-list
 slice-write-list c = search needs
@@ -35,7 +37,7 @@ same-length c = search needs
 
 returns : tie.Need-returns
 unfolding words
-returns c = let e = c .args .entry in four (c .args .list .now) (e .kind) (e .place .0) (e .bits) (e .value) (c .pre)
+returns c = let e = c .args .entry in written (c .args .list .now) (e .kind) (e .place .0) (e .bits) (e .value) (c .pre)
 
 pub write-spec : {M : Type 1} → statement M
 write-spec =
