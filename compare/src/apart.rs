@@ -5,7 +5,7 @@
 //! is and how long.
 
 use crate::case::{Answer, Case};
-use crate::reader::Reading;
+use crate::reader::{Entry, Reading};
 use std::ops::Range;
 
 const PACKET_STARTS: u64 = 1;
@@ -18,7 +18,7 @@ struct Packet {
     total: u64,
 }
 
-fn packets(list: &[[u64; 4]]) -> Vec<Packet> {
+fn packets(list: &[Entry]) -> Vec<Packet> {
     let kinds = list.iter().enumerate();
     let starts: Vec<usize> =
         kinds.filter(|(_, entry)| entry[0] == PACKET_STARTS).map(|(index, _)| index).collect();
@@ -38,9 +38,9 @@ fn removed(case: &Case, full: &Answer, packet: &Packet) -> (Case, Answer) {
     let (from, to) = (packet.place / 8, (packet.place + packet.total) / 8);
     let stream = [&case.stream[..from as usize], &case.stream[to as usize..]].concat();
     let mut entries = full.entries[..packet.entries.start].to_vec();
-    for &[kind, place, bits, value] in &full.entries[packet.entries.end..] {
+    for &[kind, place, bits, value, record] in &full.entries[packet.entries.end..] {
         let number = if kind == PACKET_STARTS { value - 1 } else { value };
-        entries.push([kind, place - packet.total, bits, number]);
+        entries.push([kind, place - packet.total, bits, number, record]);
     }
     let reading = Reading {
         number: 0,

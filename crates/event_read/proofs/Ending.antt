@@ -73,20 +73,20 @@ mark-keeps k n v s es s′ e = let p : packetSlots (s .slots) ≡ packetSlots (s
 
 module _ (a : Asked) (c : StreamClass) (i : ℕ) (e : Env) (keeps : KeepsSlots a) (found : a .stream i ≡ some c) where
   roots-keep : (d : EventClass) (j k v : ℕ) → a .event j k ≡ some d
-      → Keeps (mark eventClassFound 0 v ⨾ partsOf e (c .common) (d .specific) (d .payload))
+      → Keeps (mark eventClassFound 0 v ⨾ partsOf e c d)
   unfolding partsOf
   roots-keep d j k v q =
       then-keeps _ _ (mark-keeps _ _ _)
-      (then-keeps _ _ (keeps .common i c found e) (then-keeps _ _ (keeps .specific j k d q e) (keeps .payload j k d q e)))
+      (then-keeps _ _ (keeps .common i c found e _) (then-keeps _ _ (keeps .specific j k d q e _) (keeps .payload j k d q e _)))
 
   look-keeps : Keeps (λ s. withEvent (c .id) (s .said .event) (a .event (c .id) (s .said .event))
-      (λ d. mark eventClassFound 0 (s .said .event) ⨾ partsOf e (c .common) (d .specific) (d .payload)) s)
+      (λ d. mark eventClassFound 0 (s .said .event) ⨾ partsOf e c d) s)
   unfolding withEvent refuse
   look-keeps s es s′ q = by (a .event (c .id) (s .said .event)) refl q
     where
       by : (x : Option EventClass) → a .event (c .id) (s .said .event) ≡ x
           → withEvent (c .id) (s .said .event) x
-          (λ d. mark eventClassFound 0 (s .said .event) ⨾ partsOf e (c .common) (d .specific) (d .payload)) s ≡ go es s′
+          (λ d. mark eventClassFound 0 (s .said .event) ⨾ partsOf e c d) s ≡ go es s′
           → packetSlots (s′ .slots) ≡ packetSlots (s .slots)
       by none k q = let z : _≡_ {A = ℕ} 0 1 = cc in absurd (omega arith)
       by (some d) k q = roots-keep d (c .id) (s .said .event) (s .said .event) k s es s′ q
@@ -97,7 +97,7 @@ module _ (a : Asked) (c : StreamClass) (i : ℕ) (e : Env) (keeps : KeepsSlots a
 
   behind-keeps : (st : Progress) → Keeps (behindStart a c e st)
   unfolding behindStart moved
-  behind-keeps st = then-keeps _ _ (keeps .header i c found e) (then-keeps _ _ body-keeps (check-keeps _ _))
+  behind-keeps st = then-keeps _ _ (keeps .header i c found e _) (then-keeps _ _ body-keeps (check-keeps _ _))
 
   pub event-keeps : (n : ℕ) (st : Progress) (l : Slots) (room : ℕ) → wordsPerEntry ≤ room → length l ≡ slotCount
       → (es : List Entry) (s′ : State) → readEvent a c e n (full st l room) ≡ go es s′ → packetSlots (s′ .slots) ≡ packetSlots l

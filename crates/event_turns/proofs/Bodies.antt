@@ -59,7 +59,7 @@ module _ (a : Asked) (c : StreamClass) (e : Env) (st : Progress) (l : Slots) (ro
   looked : Back false → wordsPerEntry ≤ room
       → bodyOf a c e (full st l room)
       ≡ withEvent (c .id) (st .said .event) (a .event (c .id) (st .said .event))
-      (λ d. mark eventClassFound 0 (st .said .event) ⨾ partsOf e (c .common) (d .specific) (d .payload)) (full (settled st) l room)
+      (λ d. mark eventClassFound 0 (st .said .event) ⨾ partsOf e c d) (full (settled st) l room)
   unfolding bodyOf withLast
   looked h k = check-on _ ClockWentBack _ (full st l room) h ∙ change-on _ _ (full st l room) ∙ room-first _ (full (settled st) l room) k
 
@@ -70,7 +70,7 @@ module _ (a : Asked) (c : StreamClass) (e : Env) (st : Progress) (l : Slots) (ro
 
   pub body-found : (d : EventClass) → Back false → wordsPerEntry ≤ room → a .event (c .id) (st .said .event) ≡ some d
       → bodyOf a c e (full st l room)
-      ≡ (mark eventClassFound 0 (st .said .event) ⨾ partsOf e (c .common) (d .specific) (d .payload)) (full (settled st) l room)
+      ≡ (mark eventClassFound 0 (st .said .event) ⨾ partsOf e c d) (full (settled st) l room)
   unfolding withEvent
   body-found d h k n = looked h k ∙ rw (n) refl
 

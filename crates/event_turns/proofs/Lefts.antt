@@ -98,7 +98,7 @@ gives-refused o why r ws left e = rw (left) (e, refl)
 
 pub gives-found : (o : LookupLeft) (w : Asking) (p : BitPlace) (clock id class : ℕ) (r : LookedUp) (ws ws′ : List ℕ)
     → o ≡ classLeft w p clock id (At class) → r ≡ lookedOn class clock 2 wordsPerEntry
-    → ws′ ≡ words (entry eventClassFound p 0 id ∷ []) ++ drop wordsPerEntry ws → LookupGives o r ws ws′
+    → ws′ ≡ words (entry eventClassFound p 0 id 0 ∷ []) ++ drop wordsPerEntry ws → LookupGives o r ws ws′
 unfolding classLeft
 gives-found o w p clock id class r ws ws′ left e list = rw (left) (e, list)
 

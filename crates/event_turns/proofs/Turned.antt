@@ -19,7 +19,7 @@ use Rattle.rules.specs.Entry.{entry, words, eventClassFound}
 use Rattle.rules.specs.Step.{Out, stop, go, Step, onto, after, _⨾_, pass}
 use Rattle.rules.specs.Field.{Env}
 use Rattle.rules.specs.Table.{StreamClass}
-use Rattle.rules.specs.Packet.{mark, readRoot}
+use Rattle.rules.specs.Packet.{mark, readRoot, headerNumber}
 use Rattle.facts.proofs.Steps.{after-onto, seq-assoc, pass-seq}
 use Rattle.listing.specs.declared.Progress.{Progress}
 use Rattle.listing.specs.declared.Went.the-variants.{On, Stopped}
@@ -46,7 +46,7 @@ use Rattle.event_turns.specs.Turns.{turnsFrom, turnsAt, Known}
 use Rattle.event_turns.proofs.Bodies.{behind-first, settled, body-back, body-full, body-unknown, body-found}
 use Rattle.event_turns.proofs.Bodies.{event-unknown, event-found, event-stands, back-is}
 use Rattle.event_turns.proofs.Lefts.{left-back, left-full, left-unknown, left-found, left-lookup, left-other}
-use Rattle.event_turns.proofs.Dues.{run-reads, run-stands, due-from}
+use Rattle.event_turns.proofs.Dues.{run-numbered, run-stands, due-from}
 
 -- a turn at a state, by what it gave back and the list before and behind it
 pub record TurnAt (t s : List ℕ) (w : Asking) (e : Env) (turn class : ℕ) (st : Progress) (l : Slots) (r : Turn) (ws ws′ : List ℕ)
@@ -108,9 +108,8 @@ module _ (t s : List ℕ) (w : Asking) (sized : Sized t s) (of : OfStream t w) (
 
   found-at-state : (p : ℕ) (ws′ : List ℕ) → SizedFragment t s p → wordsPerEntry ≤ length ws
       → bodyOf (askedAt t) Class e (full st l (length ws))
-      ≡ (mark eventClassFound 0 Id ⨾ partsOf e (Class .common) ((eventClassAt t p) .specific) ((eventClassAt t p) .payload))
-      (full (settled st) l (length ws))
-      → ws′ ≡ words (entry eventClassFound (st .place) 0 Id ∷ []) ++ drop wordsPerEntry ws
+      ≡ (mark eventClassFound 0 Id ⨾ partsOf e Class (eventClassAt t p)) (full (settled st) l (length ws))
+      → ws′ ≡ words (entry eventClassFound (st .place) 0 Id 0 ∷ []) ++ drop wordsPerEntry ws
       → TurnAt t s w e 1 class st l (dueTurn (lookedOn p (st .clock .value) 2 wordsPerEntry) (nextDue t w p 2)) ws ws′
   unfolding turnsFrom
   found-at-state p ws′ stands room h list =
@@ -118,7 +117,7 @@ module _ (t s : List ℕ) (w : Asking) (sized : Sized t s) (of : OfStream t w) (
     where
       entered : Part (turnsAt t w e class 1 (full st l (length ws))) (turnsAt t w e p 2) ws ws′ wordsPerEntry (settled st) l
       entered = record {
-        listed = entry eventClassFound (st .place) 0 Id ∷ [];
+        listed = entry eventClassFound (st .place) 0 Id 0 ∷ [];
         list = list;
         counted = refl;
         room = room;
@@ -167,7 +166,7 @@ module _ (t s : List ℕ) (w : Asking) (sized : Sized t s) (of : OfStream t w) (
           left = left-found t w (st .place) (st .clock .value) (st .last) Id (length ws) on holds is p refl
 
           g : (r ≡ dueTurn (lookedOn p (st .clock .value) 2 wordsPerEntry) (nextDue t w p 2))
-              × (ws′ ≡ words (entry eventClassFound (st .place) 0 Id ∷ []) ++ drop wordsPerEntry ws)
+              × (ws′ ≡ words (entry eventClassFound (st .place) 0 Id 0 ∷ []) ++ drop wordsPerEntry ws)
           g = gave-by (classLeft w (st .place) (st .clock .value) Id (At p)) left
 
       with-room : Looked
@@ -229,10 +228,11 @@ header-stands t w of = run-stands t (w .header) (of .headerStands)
 
 -- behind entry 4
 pub header-begins : (t : List ℕ) (w : Asking) (e : Env) (class : ℕ) (g : Step) → OfStream t w
-    → (readRoot e ((streamClassAt t (w .class)) .header) ⨾ (bodyOf (askedAt t) (streamClassAt t (w .class)) e ⨾ g))
+    → (readRoot e (headerNumber (streamClassAt t (w .class))) ((streamClassAt t (w .class)) .header)
+    ⨾ (bodyOf (askedAt t) (streamClassAt t (w .class)) e ⨾ g))
     ≡ (ahead depthLimit t e (headerRun w) ⨾ (turnsAt t w e class 1 ⨾ g))
 unfolding headerRun turnsFrom
-header-begins t w e class g of = rw (run-reads t e (w .header), of .header) refl
+header-begins t w e class g of = rw (run-numbered t e (w .header) _ (of .headerNumbered), of .header) refl
 
 -- An event's loop: a run, then the turns that are left, then g
 

@@ -86,7 +86,7 @@ refusedLeft why = record { result = notLooked why; listed = [] }
 unfoldable pub classLeft : Asking → BitPlace → ℕ → ℕ → TablePlace → LookupLeft
 classLeft w p clock id Nothing = refusedLeft (EventClassUnknown (w .id) id)
 classLeft w p clock id (At class) =
-    record { result = lookedOn class clock 2 wordsPerEntry; listed = entry eventClassFound p 0 id ∷ [] }
+    record { result = lookedOn class clock 2 wordsPerEntry; listed = entry eventClassFound p 0 id 0 ∷ [] }
 
 -- 39, room (40), the lookup (37)
 unfoldable pub lookupLeft : List ℕ → Asking → BitPlace → ℕ → ℕ → ℕ → ℕ → LookupLeft

@@ -19,4 +19,4 @@ length-words (e ∷ es) = omega (arith, length-words es)
 pub words-append : (es fs : List Entry) → words (es ++ fs) ≡ words es ++ words fs
 unfolding words
 words-append [] fs = refl
-words-append (e ∷ es) fs = ap (λ l. e .kind ∷ e .place .0 ∷ e .bits ∷ e .value ∷ l) (words-append es fs)
+words-append (e ∷ es) fs = ap (λ l. e .kind ∷ e .place .0 ∷ e .bits ∷ e .value ∷ e .number ∷ l) (words-append es fs)

@@ -17,8 +17,9 @@ use Rattle.rules.specs.Record.{u8}
 use Rattle.rules.specs.Class.{sets}
 use Rattle.rules.specs.Step.{State, Step, after, _⨾_, refuseAt, listed}
 use Rattle.facts.proofs.Truth.{clash}
+use Rattle.class_layout.specs.Numbers.{numberAt}
 use Rattle.class_layout.specs.Trees.{whole, wholeMembers, stoodAt, classAt}
-use Rattle.class_layout.specs.Notes.{Notes, Prepared}
+use Rattle.class_layout.specs.Notes.{Notes, Prepared, numberNoted}
 use Rattle.field_inside.specs.declared.look.Inside.{Inside}
 use Rattle.field_inside.specs.declared.look.Inside.the-variants.{Members, Elements, Refused}
 use Rattle.field_inside.specs.declared.opening.Opened.{Opened}
@@ -115,7 +116,10 @@ module _ {b u : List ℕ} {f : Frame} {t : List ℕ} {x : Notes} {d at : ℕ} {c
   abbrev s : State
   s = full st l (length ws)
 
-  opened-read : outcome this ≡ opened (envOf b u f) (u8 t at) (d - 1) t (insideOf t x at f (st .place) c) s
+  abbrev number : ℕ
+  number = numberAt t at
+
+  opened-read : outcome this ≡ opened (envOf b u f) number (u8 t at) (d - 1) t (insideOf t x at f (st .place) c) s
   opened-read = ap (λ (e : ℕ). classRead e t at (envOf b u f) s) (depth-some t at d (h .stands))
       ∙ inside-read b u f (d - 1) t x at c s deep (h .holds) (h .room) (sym (h .told)) (h .framed) (h .noted)
 
@@ -130,11 +134,11 @@ module _ {b u : List ℕ} {f : Frame} {t : List ℕ} {x : Notes} {d at : ℕ} {c
 
   -- the field is its entry, and then m
   module _ {p : BitPlace} (v : ℕ) {m : Step} {ws₁ ys : List ℕ} {r : Field}
-      (o : outcome this ≡ (listed (entry (u8 t at) p 0 v) p ⨾ m) s) (e : ws₁ ≡ listHolder (u8 t at) p v ws)
+      (o : outcome this ≡ (listed (entry (u8 t at) p 0 v number) p ⨾ m) s) (e : ws₁ ≡ listHolder (u8 t at) p v number ws)
       (did : FieldReads m (atPlace p st) l r (lent wordsPerEntry ws₁) ys) where
     entry-part : Part (outcome this) m ws ws₁ wordsPerEntry (atPlace p st) l
     unfolding _⨾_ after listed
-    entry-part = record { listed = entry (u8 t at) p 0 v ∷ []; list = e; counted = refl; room = h .room; rest = o }
+    entry-part = record { listed = entry (u8 t at) p 0 v number ∷ []; list = e; counted = refl; room = h .room; rest = o }
 
     closed : Closed this (merged wordsPerEntry ws₁ ys) r
     closed = record {
@@ -149,14 +153,14 @@ module _ {b u : List ℕ} {f : Frame} {t : List ℕ} {x : Notes} {d at : ℕ} {c
     }
 
   pub members-closed : {o : Inside} {p : BitPlace} {v at′ n : ℕ} {ws₁ ys : List ℕ} {r : Field}
-      → o ≡ insideOf t x at f (st .place) c → o ≡ Members p v at′ n → ws₁ ≡ listHolder (u8 t at) p v ws
+      → o ≡ insideOf t x at f (st .place) c → o ≡ Members p v at′ n → ws₁ ≡ listHolder (u8 t at) p v number ws
       → FieldReads (membersRead (d - 1) t at′ n (envOf b u f)) (atPlace p st) l r (lent wordsPerEntry ws₁) ys
       → Closed this (merged wordsPerEntry ws₁ ys) r
   unfolding opened
   members-closed look e = closed _ (opened-read ∙ rw (sym look ∙ e) refl)
 
   pub elements-closed : {o : Inside} {p : BitPlace} {v at′ n : ℕ} {ws₁ ys : List ℕ} {r : Field}
-      → o ≡ insideOf t x at f (st .place) c → o ≡ Elements p v at′ n → ws₁ ≡ listHolder (u8 t at) p v ws
+      → o ≡ insideOf t x at f (st .place) c → o ≡ Elements p v at′ n → ws₁ ≡ listHolder (u8 t at) p v number ws
       → FieldReads (elementsRead (d - 1) t at′ n (envOf b u f)) (atPlace p st) l r (lent wordsPerEntry ws₁) ys
       → Closed this (merged wordsPerEntry ws₁ ys) r
   unfolding opened
@@ -168,7 +172,7 @@ module _ {b u : List ℕ} {f : Frame} {t : List ℕ} {x : Notes} {d at : ℕ} {c
 
   refused-told : (j : Inside) → told ≡ j →
       let o = openedAs (x .aligns) j in
-      o .on ≡ false → CallReads this (stoppedCall this (stopAt (o .why) (o .place)) 0) (listOpened (u8 t at) j ws)
+      o .on ≡ false → CallReads this (stoppedCall this (stopAt (o .why) (o .place)) 0) (listOpened (u8 t at) number j ws)
   unfolding openedAs wentIn listOpened
   refused-told (Members p v from n) e off = absurd (clash (sym off))
   refused-told (Elements p v from n) e off = absurd (clash (sym off))
@@ -196,8 +200,8 @@ module _ {b u : List ℕ} {f : Frame} {t : List ℕ} {x : Notes} {d at : ℕ} {c
       let o = openedAs (x .aligns) j in
       o .on ≡ true → o .elements ≡ false
       → FieldReads (membersRead (d - 1) t (o .from) (o .count) (envOf b u f)) (atPlace (o .place) st) l r
-      (lent wordsPerEntry (listOpened (u8 t at) j ws)) ys
-      → Closed this (merged wordsPerEntry (listOpened (u8 t at) j ws) ys) r
+      (lent wordsPerEntry (listOpened (u8 t at) number j ws)) ys
+      → Closed this (merged wordsPerEntry (listOpened (u8 t at) number j ws) ys) r
   unfolding openedAs wentIn listOpened
   members-did (Members p v from n) e on one did = members-closed (sym e) refl refl did
   members-did (Elements p v from n) e on one did = absurd (clash (sym one))
@@ -207,15 +211,19 @@ module _ {b u : List ℕ} {f : Frame} {t : List ℕ} {x : Notes} {d at : ℕ} {c
       let o = openedAs (x .aligns) j in
       o .on ≡ true → o .elements ≡ true
       → FieldReads (elementsRead (d - 1) t (o .from) (o .count) (envOf b u f)) (atPlace (o .place) st) l r
-      (lent wordsPerEntry (listOpened (u8 t at) j ws)) ys
-      → Closed this (merged wordsPerEntry (listOpened (u8 t at) j ws) ys) r
+      (lent wordsPerEntry (listOpened (u8 t at) number j ws)) ys
+      → Closed this (merged wordsPerEntry (listOpened (u8 t at) number j ws) ys) r
   unfolding openedAs wentIn listOpened
   elements-did (Members p v from n) e on one did = absurd (clash one)
   elements-did (Elements p v from n) e on one did = elements-closed (sym e) refl refl did
   elements-did (Refused v) e on one did = absurd (clash on)
 
   -- the same of what the code says
-  module _ {o : Opened} {ws₁ : List ℕ} (e : o ≡ openedAs (x .aligns) told) (list : ws₁ ≡ listOpened (u8 t at) told ws) where
+  module _ {o : Opened} {ws₁ : List ℕ} (e : o ≡ openedAs (x .aligns) told)
+      (noted : ws₁ ≡ listOpened (u8 t at) (numberNoted (x .aligns) at) told ws) where
+    list : ws₁ ≡ listOpened (u8 t at) number told ws
+    list = noted ∙ ap (λ n. listOpened (u8 t at) n told ws) (h .noted .numbers d at (h .stands))
+
     pub open-refused : o .on ≡ false → CallReads this (stoppedCall this (stopAt (o .why) (o .place)) 0) ws₁
     open-refused off = rw (list, e) (refused-told told refl (rw e at off))
 

@@ -22,6 +22,8 @@ use Rattle.facts.proofs.Numbers.{lt-or-ge}
 use Rattle.facts.proofs.Truth.{clash, and-right}
 use Rattle.facts.proofs.Steps.{seq-assoc, pass-seq}
 use Rattle.facts.proofs.Slots.{no-slot}
+use Rattle.class_layout.specs.Numbers.{numberAt}
+use Rattle.class_layout.specs.Notes.{numberNoted}
 use Rattle.class_layout.specs.Trees.{whole, classAt}
 use Rattle.class_slots.specs.Named.{slotsOf}
 use Rattle.class_slots.proofs.Sets.{unset-at, forgets-at}
@@ -193,9 +195,14 @@ module _ {w : Loop} {r : Run} {ws : List ℕ} {used : ℕ} {st : Progress} {l : 
   abbrev inside : Inside
   inside = insideOf t (w .notes) n (w .frame) (st .place) x
 
+  -- its record's number, as it is noted
+  abbrev noted : ℕ
+  noted = numberNoted (w .notes .aligns) n
+
   -- a structure that was entered
   pub entered-did : u8 t n ≡ 28 → {o : Entered} {ys : List ℕ} → o ≡ enteredAt (w .frame) (bitsNoted (w .notes) n) (st .place)
-      → ys ≡ listEntered (w .frame) (bitsNoted (w .notes) n) (st .place) (u8 t (n + 1)) (lent used ws) → EnterRound w r ws used st l o ys
+      → ys ≡ listEntered (w .frame) (bitsNoted (w .notes) n) (st .place) (u8 t (n + 1)) noted (lent used ws)
+      → EnterRound w r ws used st l o ys
   entered-did k e f = enter-round h (rw (first .1) k) (rw (first .1) e) (rw (first .1) f)
 
   pub entered-run : {o : Entered} {ys : List ℕ} {q : Run} {k : ℕ} → EnterRound w r ws used st l o ys → q ≡ openedRun r (n + 3) k
@@ -204,7 +211,7 @@ module _ {w : Loop} {r : Run} {ws : List ℕ} {used : ℕ} {st : Progress} {l : 
 
   -- a field that was opened in its run
   pub inside-did : canOpen (u8 t n) r ≡ true → {o : Opened} {ys : List ℕ} → o ≡ openedAs (w .notes .aligns) inside
-      → ys ≡ listOpened (u8 t n) inside (lent used ws) → CodeRound w r ws used st l o ys
+      → ys ≡ listOpened (u8 t n) noted inside (lent used ws) → CodeRound w r ws used st l o ys
   inside-did can e f = code-round h (λ y z. sym (open-free _ _ (rw (first .1) at z)) ∙ can) (rw (first .1) e) (rw (first .1) f)
 
   pub inside-run : {o : Opened} {ys : List ℕ} {q : Run} → CodeRound w r ws used st l o ys
@@ -213,7 +220,7 @@ module _ {w : Loop} {r : Run} {ws : List ℕ} {used : ℕ} {st : Progress} {l : 
   inside-run d e on = rw (e, sym (first .1)) (d .goes on)
 
   -- or in a run of its own
-  pub apart-did : {o : Opened} {ys : List ℕ} → o ≡ openedAs (w .notes .aligns) inside → ys ≡ listOpened (u8 t n) inside (lent used ws)
+  pub apart-did : {o : Opened} {ys : List ℕ} → o ≡ openedAs (w .notes .aligns) inside → ys ≡ listOpened (u8 t n) noted inside (lent used ws)
       → ApartRound w r ws used st l o ys
   apart-did e f = apart-round h (rw (first .1) e) (rw (first .1) f)
 
@@ -225,7 +232,7 @@ module _ {w : Loop} {r : Run} {ws : List ℕ} {used : ℕ} {st : Progress} {l : 
 
   -- a field that was read by itself
   pub field-did : {q : Field} {ys : List ℕ} {st′ : Progress} → st′ ≡ st
-      → FieldReads (read (env w) (classAt (w .depths) t n)) st′ l q (lent used ws) ys → FieldRound w r ws used q ys
+      → FieldReads (read (env w) (numberAt t n) (classAt (w .depths) t n)) st′ l q (lent used ws) ys → FieldRound w r ws used q ys
   field-did e did = field-round h (rw (first .1) (rw e at did))
 
   pub field-run : {q : Field} {ys : List ℕ} {rest : Run} → FieldRound w r ws used q ys

@@ -51,6 +51,7 @@ ghost use Rattle.rules.specs.Class.{sets};
 ghost use Rattle.rules.specs.Verdict.{stopAt};
 ghost use Rattle.rules.specs.Field.{read, readMembers, times};
 ghost use Rattle.frame.specs.Framed.{Framed, envOf};
+ghost use Rattle.class_layout.specs.Numbers.{numberAt};
 ghost use Rattle.class_layout.specs.Trees.{whole, wholeMembers, stoodAt, classAt, membersAt};
 ghost use Rattle.class_layout.specs.Notes.{notes, Prepared};
 ghost use Rattle.field_inside.specs.Inside.{elementOf};
@@ -61,7 +62,7 @@ ghost use Rattle.field_read.specs.Reads.{FieldReads, stoppedField, enter
 pub fn read_field(
     table: &[u8],
     sizes: &[u16],
-    aligns: &[u16],
+    aligns: &[u32],
     uuid: &[u8],
     stream: &[u8],
     frame: Frame,
@@ -76,7 +77,9 @@ pub fn read_field(
     requires { ⌜ Prepared (now table) (notes (now sizes) (now aligns)) ⌝ }
     requires { ⌜ Framed (now stream) frame (st .place) ⌝ }
     ensures { λ r. ⌜
-        FieldReads (read (envOf (now (stream .entry)) (now (uuid .entry)) frame) (classAt left (now (table .entry)) at)) st slots r
+        FieldReads
+        (read (envOf (now (stream .entry)) (now (uuid .entry)) frame) (numberAt (now (table .entry)) at) (classAt left (now (table .entry)) at))
+        st slots r
         (now (list .entry)) (now (list .exit))
         ⌝ }
 {
@@ -152,7 +155,7 @@ fn behind_entry(inside: Field, st: Progress, slots: [Slot; 64]) -> Field
 pub fn walk_members(
     table: &[u8],
     sizes: &[u16],
-    aligns: &[u16],
+    aligns: &[u32],
     uuid: &[u8],
     stream: &[u8],
     frame: Frame,
@@ -168,7 +171,8 @@ pub fn walk_members(
     requires { ⌜ Framed (now stream) frame (st .place) ⌝ }
     ensures { λ r. ⌜
         FieldReads
-        (readMembers (envOf (now (stream .entry)) (now (uuid .entry)) frame) (membersAt (stoodAt left (now (table .entry))) at count))
+        (readMembers (envOf (now (stream .entry)) (now (uuid .entry)) frame) (numberAt (now (table .entry)) at)
+        (membersAt (stoodAt left (now (table .entry))) at count))
         st given r (now (list .entry)) (now (list .exit))
         ⌝ }
 {
@@ -191,7 +195,7 @@ pub fn walk_members(
 fn walk_elements(
     table: &[u8],
     sizes: &[u16],
-    aligns: &[u16],
+    aligns: &[u32],
     uuid: &[u8],
     stream: &[u8],
     frame: Frame,
@@ -208,7 +212,8 @@ fn walk_elements(
     requires { ⌜ Prepared (now table) (notes (now sizes) (now aligns)) ⌝ }
     requires { ⌜ Framed (now stream) frame (st .place) ⌝ }
     ensures { λ r. ⌜
-        FieldReads (times count (elementOf (envOf (now (stream .entry)) (now (uuid .entry)) frame) (classAt left (now (table .entry)) at)))
+        FieldReads (times count (elementOf (envOf (now (stream .entry)) (now (uuid .entry)) frame) (numberAt (now (table .entry)) at)
+        (classAt left (now (table .entry)) at)))
         st given r (now (list .entry)) (now (list .exit))
         ⌝ }
 {
@@ -234,7 +239,7 @@ fn walk_elements(
 fn walk(
     table: &[u8],
     sizes: &[u16],
-    aligns: &[u16],
+    aligns: &[u32],
     uuid: &[u8],
     stream: &[u8],
     frame: Frame,
@@ -292,6 +297,7 @@ fn walk(
             let r = read_leaves(
                 table,
                 sizes,
+                aligns,
                 uuid,
                 stream,
                 frame,

@@ -35,6 +35,7 @@ use Rattle.leaf_after.specs.declared.Leaves.{Leaves}
 use Rattle.leaf_after.specs.declared.Seen.{Seen}
 use Rattle.leaf_after.specs.declared.Seen.the-variants.{Field, OtherUuid, Stops}
 use Rattle.leaf_after.specs.Seeing.{Fits, DueFits, done}
+use Rattle.class_layout.specs.Numbers.{numberAt}
 use Rattle.class_layout.specs.Trees.{classAt, nextAt, whole}
 use Rattle.class_layout.specs.Fields.{readFields, wholeFields, onward}
 use Rattle.class_layout.proofs.Standing.{leaf-whole, leaf-class}
@@ -54,7 +55,8 @@ pub record LeafFirst (again : Bool) (d : ℕ) (t : List ℕ) (at n : ℕ) : Type
   pub ends : nextAt d t at ≡ nextAt 1 t at
   pub rest : wholeFields again d t (onward again at (nextAt 1 t at)) (n - 1)
   pub reads : (e : Env)
-      → readFields again d t at n e ≡ (read e (classAt 1 t at) ⨾ readFields again d t (onward again at (nextAt 1 t at)) (n - 1) e)
+      → readFields again d t at n e
+      ≡ (read e (numberAt t at) (classAt 1 t at) ⨾ readFields again d t (onward again at (nextAt 1 t at)) (n - 1) e)
 
 pub leaf-first : (again : Bool) (d : ℕ) (t : List ℕ) (at n : ℕ) → 0 < n → wholeFields again d t at n → u8 t at < 28
     → LeafFirst again d t at n
@@ -144,14 +146,14 @@ pub record LeavesSay (again : Bool) (d : ℕ) (t b u : List ℕ) (f : Frame) (at
 
 -- what is due of a leaf in a frame ends within it; s is a state in which its slot holds x
 pub due-framed : (b u : List ℕ) (f : Frame) (t : List ℕ) (at : ℕ) (x : Content) (s : State) (q : Due) {y : Seen}
-    → SeesAt b u f t at x (s .place) (s .order) y → y ≡ Field q → Framed b f (s .place) → wordsPerEntry ≤ s .room
+    → SeesAt (numberAt t at) b u f t at x (s .place) (s .order) y → y ≡ Field q → Framed b f (s .place) → wordsPerEntry ≤ s .room
     → length (s .slots) ≡ slotCount
     → slotAt (s .slots) (leafSlot t at) ≡ x → Framed b f (behindEntry (q .entry))
 unfolding done
 due-framed b u f t at x s q sees is framed room many told =
     let e = envOf b u f in
     let reads = sees .same s room many told refl refl ∙ ap (λ z. done z s) is in
-    let between = due-between e (classAt 1 t at) q s (framed .begun, framed .within) reads in
+    let between = due-between e (numberAt t at) (classAt 1 t at) q s (framed .begun, framed .within) reads in
     record { whole = framed .whole; begun = between .0; within = between .1; ends = framed .ends; small = framed .small }
 
 -- one leaf in front: it is read as what is seen of it is done
@@ -169,8 +171,11 @@ module _ (again : Bool) (d : ℕ) (t b u : List ℕ) (f : Frame) (x : Content) (
   abbrev env : Env
   env = envOf b u f
 
+  abbrev number : ℕ
+  number = numberAt t at
+
   abbrev this : Seen
-  this = seenAt t b u f at (s .place) (s .order) x
+  this = seenAt number t b u f at (s .place) (s .order) x
 
   abbrev next : ℕ
   next = onward again at (nextAt 1 t at)
@@ -182,16 +187,16 @@ module _ (again : Bool) (d : ℕ) (t b u : List ℕ) (f : Frame) (x : Content) (
   held = slotAt (s .slots) (leafSlot t at)
 
   -- what is seen, by what the slot holds
-  same-seen : seenAt t b u f at (s .place) (s .order) held ≡ this
+  same-seen : seenAt number t b u f at (s .place) (s .order) held ≡ this
   same-seen = ⊎-elim
-      (λ (k : u8 t at < 26). seen-alike t b u f at (s .place) (s .order) held x (h .first .leaf) k)
-      (λ (k : 26 ≤ u8 t at). ap (seenAt t b u f at (s .place) (s .order)) (h .told k))
+      (λ (k : u8 t at < 26). seen-alike number t b u f at (s .place) (s .order) held x (h .first .leaf) k)
+      (λ (k : 26 ≤ u8 t at). ap (seenAt number t b u f at (s .place) (s .order)) (h .told k))
       (lt-or-ge (u8 t at) 26)
 
-  sees : SeesAt b u f t at held (s .place) (s .order) this
-  sees = rw (same-seen) at (leaf-sees b u f t at (s .place) (s .order) held (h .framed) bytes (h .first .leaf) (h .kind))
+  sees : SeesAt number b u f t at held (s .place) (s .order) this
+  sees = rw (same-seen) at (leaf-sees number b u f t at (s .place) (s .order) held (h .framed) bytes (h .first .leaf) (h .kind))
 
-  reads-first : {y : Seen} → this ≡ y → read env (classAt 1 t at) s ≡ done y s
+  reads-first : {y : Seen} → this ≡ y → read env number (classAt 1 t at) s ≡ done y s
   reads-first is = sees .same s (h .room) (h .many) refl refl refl ∙ ap (λ z. done z s) is
 
   reads-all : {y : Seen} → this ≡ y → readFields again d t at n env s ≡ after (done y s) rest
@@ -224,7 +229,7 @@ module _ (again : Bool) (d : ℕ) (t b u : List ℕ) (f : Frame) (x : Content) (
         → setSlot l (q .slot) (q .content) ≡ setSlot l (q .slot) (contentOf (u8 t at) (q .entry .value))
     content l long = ⊎-elim
         (λ (k : q .slot < slotCount).
-        ap (setSlot l (q .slot)) (content-due t b u f at (s .place) (s .order) x (h .first .leaf) (h .kind) q is k))
+        ap (setSlot l (q .slot)) (content-due number t b u f at (s .place) (s .order) x (h .first .leaf) (h .kind) q is k))
         (λ (k : slotCount ≤ q .slot). no-slot l (q .slot) _ long k ∙ sym (no-slot l (q .slot) _ long k))
         (lt-or-ge (q .slot) slotCount)
 
@@ -341,7 +346,7 @@ leaves-say again d t b u f x bytes zero at s h = absurd (omega (arith, h .some))
 leaves-say again d t b u f x bytes (suc n) at s h =
     let e : suc n - 1 ≡ n = omega arith in
     let next = onward again at (nextAt 1 t at) in
-    rw (e) at (leaf-says again d t b u f x bytes at (suc n) s h (seenAt t b u f at (s .place) (s .order) x) refl
+    rw (e) at (leaf-says again d t b u f x bytes at (suc n) s h (seenAt (numberAt t at) t b u f at (s .place) (s .order) x) refl
     (λ q. leavesRead again t b u f x next n (behindEntry (q .entry)) (q .order) (s .room - wordsPerEntry))
     (λ q one. rw (e) (leaves-say again d t b u f x bytes n next (behindDue q s) (rw (e) at one))))
 

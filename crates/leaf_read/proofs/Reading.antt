@@ -32,9 +32,11 @@ use Rattle.leaf_after.specs.declared.Leaves.{Leaves}
 use Rattle.leaf_after.specs.declared.Seen.{Seen}
 use Rattle.leaf_after.specs.declared.Seen.the-variants.{Field, OtherUuid, Stops}
 use Rattle.leaf_after.specs.Seeing.{Fits}
+use Rattle.class_layout.specs.Numbers.{numberAt}
+use Rattle.class_layout.specs.Words.{numberOfWord}
 use Rattle.class_layout.specs.Trees.{nextAt, whole}
 use Rattle.class_layout.specs.Fields.{wholeFields, onward}
-use Rattle.class_layout.specs.Notes.{SizedClasses}
+use Rattle.class_layout.specs.Notes.{SizedClasses, numberNoted, NumberedClasses}
 use Rattle.class_layout.proofs.Fields.{foremost}
 use Rattle.class_layout.proofs.Turns.{whole-inside}
 use Rattle.leaf_read.specs.Reads.{Held, leafSlot}
@@ -178,7 +180,7 @@ reading-start w s kind some room framed held =
 unfold-leaves : (again : Bool) (t b u : List ℕ) (f : Frame) (x : Content) (at n : ℕ) (p : BitPlace) (o : LastOrder) (room : ℕ) → 0 < n →
     let next = onward again at (nextAt 1 t at) in
     leavesRead again t b u f x at n p o room
-    ≡ leafThen (seenAt t b u f at p o x) at n o (λ q. leavesEnd t next (n - 1) (room - wordsPerEntry) (q .slot) (q .role))
+    ≡ leafThen (seenAt (numberAt t at) t b u f at p o x) at n o (λ q. leavesEnd t next (n - 1) (room - wordsPerEntry) (q .slot) (q .role))
     (λ q. leavesRead again t b u f x next (n - 1) (behindEntry (q .entry)) (q .order) (room - wordsPerEntry))
 unfolding leavesRead
 unfold-leaves again t b u f x at zero p o room h = absurd (omega arith)
@@ -201,8 +203,15 @@ module _ {w : Asked} {ws : List ℕ} {at n : ℕ} {p : BitPlace} {o : LastOrder}
   abbrev next : ℕ
   next = onward (w .again) at (nextAt 1 t at)
 
+  abbrev number : ℕ
+  number = numberAt t at
+
+  -- what is seen of the leaf, by a number and what its slot holds; and by its own
+  abbrev seenBy : ℕ → Content → Seen
+  seenBy m x = seenAt m t (w .stream) (w .uuid) (w .frame) at p o x
+
   abbrev this : Seen
-  this = seenAt t (w .stream) (w .uuid) (w .frame) at p o (w .content)
+  this = seenBy number (w .content)
 
   abbrev left : ℕ
   left = length (w .list) - used
@@ -229,29 +238,36 @@ module _ {w : Asked} {ws : List ℕ} {at n : ℕ} {p : BitPlace} {o : LastOrder}
   pub reading-onward : (s : List ℕ) {m : ℕ} → SizedClasses t s → m ≡ onward (w .again) at (at + getD s at 0) → m ≡ next
   reading-onward s sized e = rw (← sized 1 at (reading-first .leaf)) e
 
+  -- what is seen with the number that the notes give
+  pub reading-seen : (a : List ℕ) {m : ℕ} {y : Seen} → NumberedClasses t a → m ≡ numberOfWord (getD a at 0) → y ≡ seenBy m (w .content)
+      → y ≡ this
+  unfolding numberNoted
+  reading-seen a numbered word is = is ∙ ap (λ m. seenBy m (w .content)) (word ∙ numbered 1 at (reading-first .leaf))
+
   pub next-inside : 0 < n - 1 → next < length t
   next-inside some = whole-inside _ t _ (foremost (w .again) (h .depth) t _ (n - 1) some (reading-first .rest) .stands)
 
   module _ (bytes : Bytes (w .stream)) where
-    reading-sees : SeesAt (w .stream) (w .uuid) (w .frame) t at (w .content) p o this
-    reading-sees = leaf-sees (w .stream) (w .uuid) (w .frame) t at p o (w .content) (h .framed) bytes (reading-first .leaf) (h .kind)
+    reading-sees : SeesAt number (w .stream) (w .uuid) (w .frame) t at (w .content) p o this
+    reading-sees =
+        leaf-sees number (w .stream) (w .uuid) (w .frame) t at p o (w .content) (h .framed) bytes (reading-first .leaf) (h .kind)
 
     pub reading-fits : {y : Seen} → y ≡ this → Fits y
     reading-fits is = rw (is) (reading-sees .fits)
 
-    framed-by : (q : Due) (x : Content) → Held (leafSlot t at) x → seenAt t (w .stream) (w .uuid) (w .frame) at p o x ≡ Field q
+    framed-by : (q : Due) (x : Content) → Held (leafSlot t at) x → seenBy number x ≡ Field q
         → Framed (w .stream) (w .frame) (behindEntry (q .entry))
     framed-by q x held is =
         let i = leafSlot t at in
         due-framed (w .stream) (w .uuid) (w .frame) t at x (holding i x held p o) q
-        (leaf-sees (w .stream) (w .uuid) (w .frame) t at p o x (h .framed) bytes (reading-first .leaf) (h .kind)) is
+        (leaf-sees number (w .stream) (w .uuid) (w .frame) t at p o x (h .framed) bytes (reading-first .leaf) (h .kind)) is
         (h .framed) (omega arith) (slots-many i x held) (slot-holds i x held)
 
     -- a leaf ends within the frame
     reading-framed : (q : Due) {y : Seen} → y ≡ this → y ≡ Field q → Framed (w .stream) (w .frame) (behindEntry (q .entry))
     reading-framed q is e = ⊎-elim
         (λ (k : u8 t at < 26).
-        let same = seen-alike t (w .stream) (w .uuid) (w .frame) at p o Unset (w .content) (reading-first .leaf) k in
+        let same = seen-alike number t (w .stream) (w .uuid) (w .frame) at p o Unset (w .content) (reading-first .leaf) k in
         framed-by q Unset (λ z. refl) (same ∙ sym is ∙ e))
         (λ (k : 26 ≤ u8 t at). framed-by q (w .content) (h .held k) (sym is ∙ e))
         (lt-or-ge (u8 t at) 26)

@@ -49,7 +49,7 @@ advancedBy w v c room = elim (ltb room wordsPerEntry) [ true ↦ heldAt ListFull
 -- the list behind it: entry 6, "place after the field, L, clock"
 unfoldable pub listAdvanced : BitPlace → ℕ → Advanced → List ℕ → List ℕ
 listAdvanced p w a ws =
-    elim (a .on) [ true ↦ words (entry clockAdvanced p w (a .clock .value) ∷ []) ++ drop wordsPerEntry ws | false ↦ ws ]
+    elim (a .on) [ true ↦ words (entry clockAdvanced p w (a .clock .value) 0 ∷ []) ++ drop wordsPerEntry ws | false ↦ ws ]
 
 -- the same with a state
 unfoldable pub advancedRole : Progress → Advanced → Roled

@@ -84,6 +84,7 @@ pub fn advance(place: BitPlace, width: u64, value: u64, clock: Clock, list: &mut
                     place,
                     bits: width,
                     value: next.value,
+                    number: 0,
                 },
             );
             Advanced {

@@ -46,8 +46,8 @@ pub const STREAM_LIMIT: usize = 536_870_911;
 // "A length needs an unsigned number", of 65,535 at most (28)
 pub const LENGTH_LIMIT: u64 = 65_535;
 
-// "Lent 64-bit words, four an entry" (The list)
-pub const WORDS_PER_ENTRY: usize = 4;
+// "Lent 64-bit words, four an entry" (The list); "Each entry grows to five words" (02, 7)
+pub const WORDS_PER_ENTRY: usize = 5;
 
 // "validate that V is 0xc1fc1fc1" (000 6.1)
 pub const MAGIC_NUMBER: u64 = 0xC1FC_1FC1;

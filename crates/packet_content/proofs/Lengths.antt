@@ -62,7 +62,7 @@ module _ (t : Asked) (c : StreamClass) (b : List ℕ) (p : BitPlace) (total cont
       content-clocks h = room-first _ s room ∙ check-on _ LengthsContradict _ s fine ∙ check-stop _ ClocksContradict _ s h
 
       pub content-marked : above (s .clock) (s .said .ending) ≡ false
-          → readContent t c b p total content s ≡ onto (entry lengthsSettled (s .place) total content ∷ []) (eventsOf (less s))
+          → readContent t c b p total content s ≡ onto (entry lengthsSettled (s .place) total content 0 ∷ []) (eventsOf (less s))
       unfolding readContent
       content-marked h =
           room-first _ s room ∙ check-on _ LengthsContradict _ s fine ∙ check-on _ ClocksContradict _ s h

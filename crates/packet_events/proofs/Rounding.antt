@@ -96,10 +96,10 @@ module _ (a : Asked) (c : StreamClass) (b u : List ℕ) (f : Frame) (to : BitPla
 
       behind : (l : Slots) → wordsPerEntry ≤ room
           → readEvent a c e n (full st l room)
-          ≡ onto (entry 4 (st .place) 0 n ∷ []) (behindStart a c e st (full (startState st) (packetSlots l) (room - wordsPerEntry)))
+          ≡ onto (entry 4 (st .place) 0 n 0 ∷ []) (behindStart a c e st (full (startState st) (packetSlots l) (room - wordsPerEntry)))
       behind l k = unfold _⨾_ after mark listed startEvent in
           event-starts a c e n st l room k
-          ∙ ap (onto (entry 4 (st .place) 0 n ∷ [])) (change-on startEvent (behindStart a c e st) (full st l (room - wordsPerEntry)))
+          ∙ ap (onto (entry 4 (st .place) 0 n 0 ∷ [])) (change-on startEvent (behindStart a c e st) (full st l (room - wordsPerEntry)))
 
       by : (x : Bool) → ltb room wordsPerEntry ≡ x → readEvent a c e n (full st l room) ≡ readEvent a c e n (full st l′ room)
       by true k =
@@ -107,7 +107,7 @@ module _ (a : Asked) (c : StreamClass) (b u : List ℕ) (f : Frame) (to : BitPla
           ∙ sym (event-full a c e n st l′ room (ltb-true room wordsPerEntry k))
       by false k =
           behind l (ltb-false room wordsPerEntry k)
-          ∙ ap (λ s. onto (entry 4 (st .place) 0 n ∷ []) (behindStart a c e st (full (startState st) s (room - wordsPerEntry)))) h
+          ∙ ap (λ s. onto (entry 4 (st .place) 0 n 0 ∷ []) (behindStart a c e st (full (startState st) s (room - wordsPerEntry)))) h
           ∙ sym (behind l′ (ltb-false room wordsPerEntry k))
 
   module _ (o : Out) (given : Slots) {ws₀ ws : List ℕ} {used : ℕ} {st : Progress} {n : ℕ} (w : Rounding a c b u f to o given ws₀ ws used st n) where
@@ -179,7 +179,7 @@ module _ (a : Asked) (c : StreamClass) (b u : List ℕ) (f : Frame) (to : BitPla
       }
 
       pub end-listed : (came : Progress) (ys : List ℕ) → wordsPerEntry ≤ length ws - used
-          → ys ≡ words (entry packetEnds to (to .0 - st .place .0) n ∷ []) ++ drop wordsPerEntry (lent used ws)
+          → ys ≡ words (entry packetEnds to (to .0 - st .place .0) n 0 ∷ []) ++ drop wordsPerEntry (lent used ws)
           → RanDid o came (record { went = On; used = used + wordsPerEntry; state = atPlace to st }) ws₀ (merged used ws ys)
       unfolding endPacket listed
       end-listed came ys h e =
@@ -187,6 +187,6 @@ module _ (a : Asked) (c : StreamClass) (b u : List ℕ) (f : Frame) (to : BitPla
           record {
             slots = w .slots;
             did = part-last-on (endPacket to n) last
-                (went-listing _ st (atPlace to st) (w .slots) (entry packetEnds to (to .0 - st .place .0) n) (lent used ws) ys
+                (went-listing _ st (atPlace to st) (w .slots) (entry packetEnds to (to .0 - st .place .0) n 0) (lent used ws) ys
                 (room-first _ (full st (w .slots) (length (lent used ws))) long) e long) came refl;
           }

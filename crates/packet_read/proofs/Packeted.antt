@@ -13,7 +13,7 @@ use Rattle.rules.specs.Entry.{entry, packetStarts, streamClassFound}
 use Rattle.rules.specs.Step.{State, stop, Step, onto, _⨾_, refuse}
 use Rattle.rules.specs.Table.{StreamClass, Asked}
 use Rattle.clock.specs.declared.Clock.{Clock}
-use Rattle.rules.specs.Packet.{mark, readRoot, readPacket, differs, withStream, startPacket}
+use Rattle.rules.specs.Packet.{mark, readRoot, firstRoot, readPacket, differs, withStream, startPacket}
 use Rattle.packet_content.specs.Pieces.{packetEnv, behindFound}
 use Rattle.packet_read.specs.Pieces.{behindHeader}
 use Rattle.listing.proofs.Checks.{room-first}
@@ -41,7 +41,7 @@ module _ (t : Asked) (b : List ℕ) (p : BitPlace) (i : Stated) (s : State) wher
           ∙ ap (λ x. withStream (s .said .stream) x (λ c. mark streamClassFound 0 (s .said .stream) ⨾ behindFound t b p c) s) h
 
       pub header-marked : (c : StreamClass) → t .stream (s .said .stream) ≡ some c
-          → behindHeader t b p i s ≡ onto (entry streamClassFound (s .place) 0 (s .said .stream) ∷ []) (behindFound t b p c (less s))
+          → behindHeader t b p i s ≡ onto (entry streamClassFound (s .place) 0 (s .said .stream) 0 ∷ []) (behindFound t b p c (less s))
       unfolding behindHeader withStream
       header-marked c h = check-on _ StreamClassChanged _ s same ∙ room-first _ s room
           ∙ ap (λ x. withStream (s .said .stream) x (λ c. mark streamClassFound 0 (s .said .stream) ⨾ behindFound t b p c) s) h
@@ -49,14 +49,14 @@ module _ (t : Asked) (b : List ℕ) (p : BitPlace) (i : Stated) (s : State) wher
 
 module _ (t : Asked) (b : List ℕ) (k : ℕ) (i : Stated) (s : State) where
   abbrev pub behindStart : Step
-  behindStart = readRoot (packetEnv t b (s .place)) (t .header) ⨾ behindHeader t b (s .place) i
+  behindStart = readRoot (packetEnv t b (s .place)) firstRoot (t .header) ⨾ behindHeader t b (s .place) i
 
   pub packet-full : s .room < wordsPerEntry → readPacket t b k i s ≡ stop [] (stopAt ListFull (s .place))
   unfolding readPacket
   packet-full h = due-stop _ s h
 
   pub packet-marked : wordsPerEntry ≤ s .room
-      → readPacket t b k i s ≡ onto (entry packetStarts (s .place) 0 k ∷ []) (behindStart (startPacket (less s)))
+      → readPacket t b k i s ≡ onto (entry packetStarts (s .place) 0 k 0 ∷ []) (behindStart (startPacket (less s)))
   unfolding readPacket behindHeader behindFound
   packet-marked h = room-first _ s h ∙ mark-on packetStarts 0 k _ s
-      ∙ ap (onto (entry packetStarts (s .place) 0 k ∷ [])) (change-on startPacket _ (less s))
+      ∙ ap (onto (entry packetStarts (s .place) 0 k 0 ∷ [])) (change-on startPacket _ (less s))

@@ -42,7 +42,7 @@ ghost use Rattle.packet_read.specs.Pieces.{behindHeader, freshState, Len
 pub fn read_packet(
     table: &[u8],
     sizes: &[u16],
-    aligns: &[u16],
+    aligns: &[u32],
     index: &[u32],
     uuid: &[u8],
     header: TablePlace,
@@ -70,6 +70,7 @@ pub fn read_packet(
             place,
             bits: 0,
             value: number,
+            number: 0,
         },
     );
     let frame = whole_frame(stream, place);
@@ -115,7 +116,7 @@ pub fn read_packet(
 fn read_behind_header(
     table: &[u8],
     sizes: &[u16],
-    aligns: &[u16],
+    aligns: &[u32],
     index: &[u32],
     uuid: &[u8],
     stream: &[u8],
@@ -152,6 +153,7 @@ fn read_behind_header(
                     place,
                     bits: 0,
                     value: id,
+                    number: 0,
                 },
             );
             let r = read_of_stream(

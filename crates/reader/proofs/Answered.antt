@@ -25,7 +25,7 @@ use Rattle.rules.specs.Record.{u8}
 use Rattle.rules.specs.Step.{State, stop, go}
 use Rattle.rules.specs.Table.{Table, Asked}
 use Rattle.rules.specs.Parse.{Parsed, bad, good, parse, byteOf, checkedOf, checked}
-use Rattle.rules.specs.Packet.{readPackets}
+use Rattle.rules.specs.Packet.{firstRoot, readPackets}
 use Rattle.rules.specs.Read.{resultOf, listAfter, ended, begin, readStream, readParsed, readAll}
 use Rattle.listing.specs.declared.Progress.{Progress}
 use Rattle.listing.specs.declared.Went.{Went}
@@ -37,29 +37,37 @@ use Rattle.class_layout.specs.Fragments.{askedAt, findTraceAt, fragmentsOf, hea
 use Rattle.class_layout.specs.Sizes.{foundOf, SizedFragment, uuidPlace}
 use Rattle.class_layout.specs.Notes.{Notes}
 use Rattle.class_layout.proofs.Lookups.{found-some, found-none, first-holds, sixteen, uuid-bytes}
+use Rattle.class_layout.proofs.RootNumbers.{first-number}
 use Rattle.class_layout.proofs.Asked.{checked-accepts, asked-at}
 use Rattle.class_lookup.specs.Index.{places, indexed, Hints}
 use Rattle.class_lookup.proofs.Index.{accepted-hints, empty-hints}
 use Rattle.laws.specs.Kept.{KeepsSlots}
 use Rattle.laws.proofs.Kept.{accepted-keeps}
 use Rattle.outcome.specs.declared.Ran.{Ran}
-use Rattle.event_turns.specs.Roots.{classOf, RootStands}
+use Rattle.event_turns.specs.Roots.{classOf, Numbered, RootStands}
 use Rattle.event_turns.specs.Ready.{Ready}
 use Rattle.outcome.specs.Ran.{RanDid}
 use Rattle.packet_read.specs.Pieces.{firstState, Lent}
 use Rattle.reader_result.specs.Answer.{refusedWith, answerOf}
 use Rattle.reader.specs.Answers.{Answers}
-use Rattle.event_turns.proofs.Looked.{root-class, root-stands}
+use Rattle.event_turns.proofs.Looked.{root-class, root-stands, root-numbered}
 
 -- What the trace class lends
 
 module _ (t : List ℕ) (x : Notes) (b : List ℕ) (g : Ready t x) (n : length b ≤ streamLimit) (y : TablePlace)
     (e : y ≡ foundOf (findTraceAt t (fragmentsOf t))) where
   pub lent-none : y ≡ Nothing → Lent t x [] Nothing b
-  unfolding askedAt classOf RootStands headerAt uuidAt
+  unfolding askedAt classOf Numbered RootStands headerAt uuidAt
   lent-none h =
       let q : findTraceAt t (fragmentsOf t) ≡ none = found-none _ (sym h ∙ e) in
-      record { ready = g; stands = tt; header = sym (ap (headerAt t) q); uuid = sym (ap (uuidAt t) q); small = n }
+      record {
+        ready = g;
+        stands = tt;
+        header = sym (ap (headerAt t) q);
+        numbered = tt;
+        uuid = sym (ap (uuidAt t) q);
+        small = n;
+      }
 
   module _ (o : ℕ) (h : y ≡ At o) where
     trace-at : findTraceAt t (fragmentsOf t) ≡ some o
@@ -80,6 +88,9 @@ module _ (t : List ℕ) (x : Notes) (b : List ℕ) (g : Ready t x) (n : length b
       unfolding askedAt headerAt
       header-is = root-class t o 0 r j ∙ sym (ap (headerAt t) trace-at)
 
+      header-numbered : Numbered t r firstRoot
+      header-numbered = root-numbered t o 0 firstRoot r j (λ p h. first-number t o p (trace-sized .stands) h)
+
       uuid-is : (p : Option ℕ) → uuidPlace t o ≡ p → sixteen t p ≡ (askedAt t) .uuid
       unfolding askedAt
       uuid-is p q = ap (sixteen t) (sym q) ∙ sym (uuid-bytes t o) ∙ sym (ap (uuidAt t) trace-at)
@@ -90,6 +101,7 @@ module _ (t : List ℕ) (x : Notes) (b : List ℕ) (g : Ready t x) (n : length b
         ready = g;
         stands = root-stands t o 0 r (trace-sized .stands) j;
         header = header-is;
+        numbered = header-numbered;
         uuid = uuid-is none (found-none _ (sym k ∙ v));
         small = n;
       }
@@ -111,6 +123,7 @@ module _ (t : List ℕ) (x : Notes) (b : List ℕ) (g : Ready t x) (n : length b
               ready = g;
               stands = root-stands t o 0 r (trace-sized .stands) j;
               header = header-is;
+              numbered = header-numbered;
               uuid = rw (m) (uuid-is (some p) (found-some _ p (sym k ∙ v)));
               small = n;
             }

@@ -130,7 +130,8 @@ fn say_entries(list: &[u64], entries: usize) {
         say_number(list[at], b" ");
         say_number(list[at + 1], b" ");
         say_number(list[at + 2], b" ");
-        say_number(list[at + 3], b"\n");
+        say_number(list[at + 3], b" ");
+        say_number(list[at + 4], b"\n");
         at += WORDS_PER_ENTRY;
         left -= 1;
     }

@@ -923,7 +923,10 @@ module _ (t : ℕ) where
           ),
           (
             (noted .sized .room, λ d p v. noted .classes d p v .size),
-            (h .framed, past-unset (leaf-border past .if1 .slots) _ (h .many) (leaf-told past)),
+            (
+              (noted .room, noted .numbers),
+              (h .framed, past-unset (leaf-border past .if1 .slots) _ (h .many) (leaf-told past)),
+            ),
           ),
         ),
       )
@@ -934,7 +937,7 @@ module _ (t : ℕ) where
       let l = leaves-loop c .loop in
       LeavesRound (walk-of (leaves-loop c)) (field-forward k .forward .result) (l .list) (l .used)
       (stateAt (l .place) (l .order) (l .state)) (leaves-border c .if1 .slots)
-      (c .read-leaves .result) (c .read-leaves .last .1 .1 .1 .1 .1 .1 .1 .1 .1 .1 .1 .0)
+      (c .read-leaves .result) (c .read-leaves .last .1 .1 .1 .1 .1 .1 .1 .1 .1 .1 .1 .1 .0)
   unfolding u8
   leaves c =
       let k = leaves-field c in
@@ -1005,7 +1008,7 @@ module _ (t : ℕ) where
       let r = due-behind c .behind .result in
       let w = walk-of (due-loop c) in
       Kept w (role (roleOf (q .role)) (q .width) (q .value) ⨾ left w r) r
-      (merged (l .used) (l .list) (y .last .1 .1 .1 .1 .1 .1 .1 .1 .1 .1 .1 .0)) (l .used + q .used)
+      (merged (l .used) (l .list) (y .last .1 .1 .1 .1 .1 .1 .1 .1 .1 .1 .1 .1 .0)) (l .used + q .used)
       (stateAt (q .place) (q .order) (l .state)) (c .if8 .slots)
   due c =
       leaves-due (leaves (due-leaves c)) (leaves-on c) (here (leaves-field (due-leaves c)) .many) (due-behind c .behind .ensures)
@@ -1050,7 +1053,7 @@ module _ (t : ℕ) where
       let q = y .result in
       let r = applied-behind c .behind .result in
       let w = walk-of (applied-loop c) in
-      RoleRound w (left w r) r (merged (l .used) (l .list) (y .last .1 .1 .1 .1 .1 .1 .1 .1 .1 .1 .1 .0)) (l .used + q .used)
+      RoleRound w (left w r) r (merged (l .used) (l .list) (y .last .1 .1 .1 .1 .1 .1 .1 .1 .1 .1 .1 .1 .0)) (l .used + q .used)
       (stateAt (q .place) (q .order) (l .state)) (applied-due c .if8 .slots) (c .apply .result) (c .apply .last .1 .1 .1 .1 .0)
   applied c = role-did _ _ _ (due (applied-due c)) (c .before .before .at2 .ensures) (c .apply .ensures)
 
