@@ -4,7 +4,7 @@
 //! and later packet numbers lower by one. The list itself shows where a packet
 //! is and how long.
 
-use crate::case::{Answer, Case};
+use crate::case::{next_bytes, next_number, Answer, Case};
 use crate::reader::{Entry, Reading};
 use std::ops::Range;
 
@@ -33,10 +33,28 @@ fn packets(list: &[Entry]) -> Vec<Packet> {
         .collect()
 }
 
-/// The case without a packet, and the answer that is due.
-fn removed(case: &Case, full: &Answer, packet: &Packet) -> (Case, Answer) {
+/// The case without the bytes of a packet.
+fn cut(case: &Case, packet: &Packet) -> Case {
     let (from, to) = (packet.place / 8, (packet.place + packet.total) / 8);
     let stream = [&case.stream[..from as usize], &case.stream[to as usize..]].concat();
+    Case::new(case.table.clone(), stream, case.words)
+}
+
+/// The next case of a file with the number of a packet in its head; `None` at its end or if it is
+/// cut.
+pub fn next_removal(file: &mut &[u8]) -> Option<(Case, usize)> {
+    let (table, stream, words) = (next_number(file)?, next_number(file)?, next_number(file)?);
+    let number = next_number(file)?;
+    Some((Case::new(next_bytes(file, table)?, next_bytes(file, stream)?, words), number))
+}
+
+/// The case without the packet that has a number, as the list of its answer shows it.
+pub fn without(case: &Case, full: &Answer, number: usize) -> Option<Case> {
+    packets(&full.entries).get(number).map(|packet| cut(case, packet))
+}
+
+/// The case without a packet, and the answer that is due.
+fn removed(case: &Case, full: &Answer, packet: &Packet) -> (Case, Answer) {
     let mut entries = full.entries[..packet.entries.start].to_vec();
     for &[kind, place, bits, value, record] in &full.entries[packet.entries.end..] {
         let number = if kind == PACKET_STARTS { value - 1 } else { value };
@@ -50,7 +68,7 @@ fn removed(case: &Case, full: &Answer, packet: &Packet) -> (Case, Answer) {
         second: 0,
     };
     let answer = Answer { check: full.check, reading, entries };
-    (Case::new(case.table.clone(), stream, case.words), answer)
+    (cut(case, packet), answer)
 }
 
 /// Each packet of an accepted case of two or more removed once.

@@ -67,25 +67,37 @@ pub fn write_file(cases: &[Case]) -> Vec<u8> {
     file
 }
 
+/// The next number of a head.
+pub fn next_number(file: &mut &[u8]) -> Option<usize> {
+    let (head, rest) = file.split_first_chunk::<4>()?;
+    *file = rest;
+    Some(u32::from_le_bytes(*head) as usize)
+}
+
+/// The next bytes, so many.
+pub fn next_bytes(file: &mut &[u8], count: usize) -> Option<Vec<u8>> {
+    let (bytes, rest) = file.split_at_checked(count)?;
+    *file = rest;
+    Some(bytes.to_vec())
+}
+
 /// The next case of a file, which is moved on; `None` at its end or if it is cut.
 pub fn next_case(file: &mut &[u8]) -> Option<Case> {
-    let mut number = || {
-        let (head, rest) = file.split_first_chunk::<4>()?;
-        *file = rest;
-        Some(u32::from_le_bytes(*head) as usize)
-    };
-    let (table, stream, words) = (number()?, number()?, number()?);
-    let (table, rest) = file.split_at_checked(table)?;
-    let (stream, rest) = rest.split_at_checked(stream)?;
-    *file = rest;
-    Some(Case::new(table.to_vec(), stream.to_vec(), words))
+    let (table, stream, words) = (next_number(file)?, next_number(file)?, next_number(file)?);
+    Some(Case::new(next_bytes(file, table)?, next_bytes(file, stream)?, words))
 }
 
 impl Answer {
     pub fn write(&self, text: &mut String) {
-        let Reading { number, entries, place, first, second } = self.reading;
         let (refusal, byte) = self.check;
-        let _ = writeln!(text, "{refusal} {byte}\n{number} {entries} {place} {first} {second}");
+        let _ = writeln!(text, "{refusal} {byte}");
+        self.write_reading(text);
+    }
+
+    /// The answer without the table's check.
+    pub fn write_reading(&self, text: &mut String) {
+        let Reading { number, entries, place, first, second } = self.reading;
+        let _ = writeln!(text, "{number} {entries} {place} {first} {second}");
         for [kind, place, bits, value, record] in &self.entries {
             let _ = writeln!(text, "{kind} {place} {bits} {value} {record}");
         }
