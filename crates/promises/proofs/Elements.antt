@@ -11,7 +11,6 @@ use Rattle.rules.specs.declared.Content.{Content}
 use Rattle.rules.specs.declared.Content.the-variants.{Unsigned}
 use Rattle.rules.specs.declared.Stop.{Stop}
 use Rattle.rules.specs.declared.Refusal.the-variants.{ListFull}
-use Rattle.rules.specs.Limits.{wordsPerEntry}
 use Rattle.rules.specs.Slots.{slotAt}
 use Rattle.rules.specs.Step.{State, Out, stop, go, Step, _⨾_, onto, after, pass, refuse, check, due, change, withSlots}
 use Rattle.rules.specs.Class.{Class, staticArray, dynamicArray, sets}
