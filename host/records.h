@@ -62,8 +62,10 @@ enum { NO_ROLE, IS_MAGIC, STREAM_CLASS_ID, IS_UUID = 4, TOTAL, CONTENT, STAMP, E
 /* The kinds of a field's entry that are named in answers. */
 enum { UNSIGNED_FIELD = 18, STRUCTURE_FIELD = 28 };
 
-/* An entry of the list, by the names of its words. */
-#define ENTRY(kind, place, bits, value) \
-    {[TREVOSKEL_ENTRY_KIND] = kind, [TREVOSKEL_ENTRY_PLACE] = place, [TREVOSKEL_ENTRY_BITS] = bits, [TREVOSKEL_ENTRY_VALUE] = value}
+/* An entry of the list, by the names of its words; of a field with its record's number. */
+#define ENTRY(kind, place, bits, value) FIELD(kind, place, bits, value, 0)
+#define FIELD(kind, place, bits, value, number) \
+    {[TREVOSKEL_ENTRY_KIND] = kind, [TREVOSKEL_ENTRY_PLACE] = place, [TREVOSKEL_ENTRY_BITS] = bits, [TREVOSKEL_ENTRY_VALUE] = value, \
+     [TREVOSKEL_ENTRY_NUMBER] = number}
 
 #endif

@@ -19,7 +19,7 @@
  * Nothing is kept: there is no state between calls, nothing is allocated, no lock is taken and no system call is made. So any number of
  * threads may call at once, with the same table and stream. The archive calls nothing but the C library's memcpy, memset and their like.
  *
- * A reading takes up to 370 KiB of stack beside what is lent, and a check up to 98 KiB (at -O3 on x86-64). host/run measures both over the
+ * A reading takes up to 498 KiB of stack beside what is lent, and a check up to 98 KiB (at -O3 on x86-64). host/run measures both over the
  * shared cases and the deepest tables, and fails at 1 MiB.
  *
  * The archive is for Linux on x86-64, or on the machine that host/run built it on; size_t has 64 bits. */
@@ -75,7 +75,7 @@ enum trevoskel_number {
     TREVOSKEL_EVENT_CLASS_UNKNOWN = 37,   /* first id: the stream class's; second id: the event class's */
     TREVOSKEL_EVENT_TOOK_NO_BITS = 38,
     TREVOSKEL_CLOCK_WENT_BACK = 39,
-    TREVOSKEL_LIST_FULL = 40,             /* under four words left where an entry is due */
+    TREVOSKEL_LIST_FULL = 40,             /* under five words left where an entry is due */
     TREVOSKEL_NOT_TEXT = 41               /* bytes of a string before its first zero byte that are no UTF-8 (RFC 3629) */
 };
 
@@ -103,6 +103,8 @@ enum trevoskel_entry {
     TREVOSKEL_ENTRY_PLACE,                /* in bits from the stream's start */
     TREVOSKEL_ENTRY_BITS,
     TREVOSKEL_ENTRY_VALUE,                /* of a signed field in two's complement; of a float its bits */
+    TREVOSKEL_ENTRY_NUMBER,               /* of a field the number of its class's record in its fragment, from 0 at the record that
+                                             opens it; 0 for the kinds below */
     TREVOSKEL_ENTRY_WORDS
 };
 

@@ -4,8 +4,8 @@
 //! and later packet numbers lower by one. The list itself shows where a packet
 //! is and how long.
 
-use crate::case::{Answer, Case};
-use crate::reader::Reading;
+use crate::case::{next_bytes, next_number, Answer, Case};
+use crate::reader::{Entry, Reading};
 use std::ops::Range;
 
 const PACKET_STARTS: u64 = 1;
@@ -18,7 +18,7 @@ struct Packet {
     total: u64,
 }
 
-fn packets(list: &[[u64; 4]]) -> Vec<Packet> {
+fn packets(list: &[Entry]) -> Vec<Packet> {
     let kinds = list.iter().enumerate();
     let starts: Vec<usize> =
         kinds.filter(|(_, entry)| entry[0] == PACKET_STARTS).map(|(index, _)| index).collect();
@@ -33,14 +33,32 @@ fn packets(list: &[[u64; 4]]) -> Vec<Packet> {
         .collect()
 }
 
-/// The case without a packet, and the answer that is due.
-fn removed(case: &Case, full: &Answer, packet: &Packet) -> (Case, Answer) {
+/// The case without the bytes of a packet.
+fn cut(case: &Case, packet: &Packet) -> Case {
     let (from, to) = (packet.place / 8, (packet.place + packet.total) / 8);
     let stream = [&case.stream[..from as usize], &case.stream[to as usize..]].concat();
+    Case::new(case.table.clone(), stream, case.words)
+}
+
+/// The next case of a file with the number of a packet in its head; `None` at its end or if it is
+/// cut.
+pub fn next_removal(file: &mut &[u8]) -> Option<(Case, usize)> {
+    let (table, stream, words) = (next_number(file)?, next_number(file)?, next_number(file)?);
+    let number = next_number(file)?;
+    Some((Case::new(next_bytes(file, table)?, next_bytes(file, stream)?, words), number))
+}
+
+/// The case without the packet that has a number, as the list of its answer shows it.
+pub fn without(case: &Case, full: &Answer, number: usize) -> Option<Case> {
+    packets(&full.entries).get(number).map(|packet| cut(case, packet))
+}
+
+/// The case without a packet, and the answer that is due.
+fn removed(case: &Case, full: &Answer, packet: &Packet) -> (Case, Answer) {
     let mut entries = full.entries[..packet.entries.start].to_vec();
-    for &[kind, place, bits, value] in &full.entries[packet.entries.end..] {
+    for &[kind, place, bits, value, record] in &full.entries[packet.entries.end..] {
         let number = if kind == PACKET_STARTS { value - 1 } else { value };
-        entries.push([kind, place - packet.total, bits, number]);
+        entries.push([kind, place - packet.total, bits, number, record]);
     }
     let reading = Reading {
         number: 0,
@@ -50,7 +68,7 @@ fn removed(case: &Case, full: &Answer, packet: &Packet) -> (Case, Answer) {
         second: 0,
     };
     let answer = Answer { check: full.check, reading, entries };
-    (Case::new(case.table.clone(), stream, case.words), answer)
+    (cut(case, packet), answer)
 }
 
 /// Each packet of an accepted case of two or more removed once.

@@ -5,7 +5,7 @@
 //! answer is a line with the table's check, a line with the reading, a line for
 //! each entry and an empty line.
 
-use crate::reader::{self, Reading};
+use crate::reader::{self, Entry, Reading};
 use crate::table::{self, Elements};
 use std::fmt::Write;
 
@@ -29,7 +29,7 @@ pub struct Case {
 pub struct Answer {
     pub check: (u64, u64),
     pub reading: Reading,
-    pub entries: Vec<[u64; 4]>,
+    pub entries: Vec<Entry>,
 }
 
 /// What lies in the list before a reading.
@@ -48,12 +48,8 @@ impl Case {
         let mut list = vec![PATTERN; self.words];
         let table = table::parse_by(&self.table, elements);
         let reading = reader::with_table(table, &self.stream, &mut list);
-        let entries = list.chunks_exact(4).take(reading.entries as usize);
-        Answer {
-            check: table::check_by(&self.table, elements),
-            reading,
-            entries: entries.map(|e| [e[0], e[1], e[2], e[3]]).collect(),
-        }
+        let entries = &list.as_chunks().0[..reading.entries as usize];
+        Answer { check: table::check_by(&self.table, elements), reading, entries: entries.to_vec() }
     }
 
     pub fn write(&self, file: &mut Vec<u8>) {
@@ -71,27 +67,39 @@ pub fn write_file(cases: &[Case]) -> Vec<u8> {
     file
 }
 
+/// The next number of a head.
+pub fn next_number(file: &mut &[u8]) -> Option<usize> {
+    let (head, rest) = file.split_first_chunk::<4>()?;
+    *file = rest;
+    Some(u32::from_le_bytes(*head) as usize)
+}
+
+/// The next bytes, so many.
+pub fn next_bytes(file: &mut &[u8], count: usize) -> Option<Vec<u8>> {
+    let (bytes, rest) = file.split_at_checked(count)?;
+    *file = rest;
+    Some(bytes.to_vec())
+}
+
 /// The next case of a file, which is moved on; `None` at its end or if it is cut.
 pub fn next_case(file: &mut &[u8]) -> Option<Case> {
-    let mut number = || {
-        let (head, rest) = file.split_first_chunk::<4>()?;
-        *file = rest;
-        Some(u32::from_le_bytes(*head) as usize)
-    };
-    let (table, stream, words) = (number()?, number()?, number()?);
-    let (table, rest) = file.split_at_checked(table)?;
-    let (stream, rest) = rest.split_at_checked(stream)?;
-    *file = rest;
-    Some(Case::new(table.to_vec(), stream.to_vec(), words))
+    let (table, stream, words) = (next_number(file)?, next_number(file)?, next_number(file)?);
+    Some(Case::new(next_bytes(file, table)?, next_bytes(file, stream)?, words))
 }
 
 impl Answer {
     pub fn write(&self, text: &mut String) {
-        let Reading { number, entries, place, first, second } = self.reading;
         let (refusal, byte) = self.check;
-        let _ = writeln!(text, "{refusal} {byte}\n{number} {entries} {place} {first} {second}");
-        for [kind, place, bits, value] in &self.entries {
-            let _ = writeln!(text, "{kind} {place} {bits} {value}");
+        let _ = writeln!(text, "{refusal} {byte}");
+        self.write_reading(text);
+    }
+
+    /// The answer without the table's check.
+    pub fn write_reading(&self, text: &mut String) {
+        let Reading { number, entries, place, first, second } = self.reading;
+        let _ = writeln!(text, "{number} {entries} {place} {first} {second}");
+        for [kind, place, bits, value, record] in &self.entries {
+            let _ = writeln!(text, "{kind} {place} {bits} {value} {record}");
         }
         text.push('\n');
     }
@@ -130,14 +138,14 @@ mod tests {
     fn figure() -> Case {
         let mut records = Records::new();
         records.stream(0, 255).event(0, 0).root(5, 1).unsigned(8, NO_SLOT, 0);
-        Case::new(records.bytes, vec![42], 31)
+        Case::new(records.bytes, vec![42], 39)
     }
 
     #[test]
     fn files_come_back() {
         let cases = [figure(), Case::new(vec![], vec![], 0), Case::new(vec![1, 2], vec![3], 9)];
         let file = write_file(&cases);
-        assert_eq!(file[..12], [40, 0, 0, 0, 1, 0, 0, 0, 31, 0, 0, 0]);
+        assert_eq!(file[..12], [40, 0, 0, 0, 1, 0, 0, 0, 39, 0, 0, 0]);
         let mut rest = &file[..];
         for case in &cases {
             let back = next_case(&mut rest).unwrap();
@@ -155,7 +163,7 @@ mod tests {
         let answer = figure().answer();
         let mut text = String::new();
         answer.write(&mut text);
-        let start = "0 40\n40 7 8 0 0\n1 0 0 0\n2 0 0 0\n3 0 8 8\n4 0 0 0\n5 0 0 0\n28 0 0 1\n18 0 8 42\n\n";
+        let start = "0 40\n40 7 8 0 0\n1 0 0 0 0\n2 0 0 0 0\n3 0 8 8 0\n4 0 0 0 0\n5 0 0 0 0\n28 0 0 1 2\n18 0 8 42 3\n\n";
         assert_eq!(text, start);
         assert_eq!(next_answer(&mut text.lines()), Some(answer));
         assert_eq!(next_answer(&mut "0 40\n1 2 3\n\n".lines()), None);

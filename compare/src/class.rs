@@ -98,14 +98,23 @@ pub enum When {
 #[derive(Clone, Debug, PartialEq, Eq)]
 pub struct Choice {
     pub ranges: Vec<Range>,
+    pub class: Numbered,
+}
+
+/// A class within another, with its record's number in its fragment, from 0 at the record that opens it.
+#[derive(Clone, Debug, PartialEq, Eq)]
+pub struct Numbered {
+    pub number: u64,
     pub class: Class,
 }
 
 #[derive(Clone, Debug, PartialEq, Eq)]
 pub struct Structure {
+    /// Its record's number in its fragment.
+    pub number: u64,
     /// The largest of its own align and that of its members.
     pub requirement: u64,
-    pub members: Vec<Class>,
+    pub members: Vec<Numbered>,
 }
 
 /// What both kinds of arrays have.
@@ -115,7 +124,7 @@ pub struct Array {
     pub requirement: u64,
     /// One bit for each slot that becomes unset where an element starts and where it ends.
     pub forgets: u64,
-    pub element: Box<Class>,
+    pub element: Box<Numbered>,
 }
 
 /// A field class. A slot that is set is `None` where the table has 255.
@@ -136,7 +145,7 @@ pub enum Class {
     Structure(Structure),
     StaticArray { elements: u16, array: Array },
     DynamicArray { slot: u8, array: Array },
-    Optional { slot: u8, when: When, class: Box<Class> },
+    Optional { slot: u8, when: When, class: Box<Numbered> },
     Variant { slot: u8, sign: Sign, options: Vec<Choice> },
 }
 
@@ -179,14 +188,14 @@ impl Class {
             | Class::DynamicString { .. }
             | Class::DynamicBlob { .. } => 0,
             Class::Structure(structure) => {
-                structure.members.iter().fold(0, |slots, member| slots | member.can_set())
+                structure.members.iter().fold(0, |slots, member| slots | member.class.can_set())
             }
             Class::StaticArray { array, .. } | Class::DynamicArray { array, .. } => {
-                array.element.can_set()
+                array.element.class.can_set()
             }
-            Class::Optional { class, .. } => class.can_set(),
+            Class::Optional { class, .. } => class.class.can_set(),
             Class::Variant { options, .. } => {
-                options.iter().fold(0, |slots, option| slots | option.class.can_set())
+                options.iter().fold(0, |slots, option| slots | option.class.class.can_set())
             }
         }
     }

@@ -2,15 +2,15 @@
 //! the finding of the first such class stays, and there the class is unknown.
 
 use crate::case::{Answer, LeftOut};
-use crate::reader::Reading;
+use crate::reader::{Entry, Reading};
 
 const STREAM_CLASS_FOUND: u64 = 2;
 const EVENT_CLASS_FOUND: u64 = 5;
 
 /// The index of the first entry that finds a left-out class and the verdict due there.
-pub fn first_left_out(full: &[[u64; 4]], left_out: &LeftOut) -> Option<(usize, Reading)> {
+pub fn first_left_out(full: &[Entry], left_out: &LeftOut) -> Option<(usize, Reading)> {
     let mut stream_class = 0;
-    for (index, &[kind, place, _, id]) in full.iter().enumerate() {
+    for (index, &[kind, place, _, id, _]) in full.iter().enumerate() {
         let entries = index as u64;
         match kind {
             STREAM_CLASS_FOUND => {
@@ -60,9 +60,9 @@ mod tests {
     fn answers(short_bytes: usize) -> (Answer, Answer) {
         let mut records = Records::new();
         records.stream(0, 255).event(0, 0).root(5, 1).unsigned(8, NO_SLOT, 0);
-        let full = Case::new(records.bytes.clone(), vec![42], 32);
+        let full = Case::new(records.bytes.clone(), vec![42], 40);
         records.bytes.truncate(short_bytes);
-        (full.answer(), Case::new(records.bytes, vec![42], 32).answer())
+        (full.answer(), Case::new(records.bytes, vec![42], 40).answer())
     }
 
     #[test]

@@ -246,7 +246,7 @@ impl Encoder<'_> {
     fn root(&mut self, root: &Option<Structure>) {
         if let Some(structure) = root {
             self.align(structure.requirement);
-            structure.members.iter().for_each(|member| self.field(member));
+            structure.members.iter().for_each(|member| self.field(&member.class));
         }
     }
 
@@ -266,7 +266,7 @@ impl Encoder<'_> {
             if self.full() {
                 break;
             }
-            self.field(&array.element);
+            self.field(&array.element.class);
             for (number, slot) in self.slots.iter_mut().enumerate() {
                 if array.forgets >> number & 1 == 1 {
                     *slot = Slot::Unset;
@@ -332,12 +332,14 @@ impl Encoder<'_> {
             Class::DynamicBlob { slot } => {
                 (0..self.count(*slot)).for_each(|_| self.any_byte());
             }
-            Class::Structure(structure) => structure.members.iter().for_each(|m| self.field(m)),
+            Class::Structure(structure) => {
+                structure.members.iter().for_each(|m| self.field(&m.class))
+            }
             Class::StaticArray { elements, array } => self.elements((*elements).into(), array),
             Class::DynamicArray { slot, array } => self.elements(self.count(*slot), array),
             Class::Optional { slot, when, class } => {
                 if self.is_there(*slot, when) {
-                    self.field(class);
+                    self.field(&class.class);
                 }
             }
             Class::Variant { slot, sign, options } => {
@@ -345,7 +347,7 @@ impl Encoder<'_> {
                     let key = sign.key(word);
                     let holds = |o: &&Choice| own == *sign && o.ranges.iter().any(|r| r.holds(key));
                     if let Some(option) = options.iter().find(holds) {
-                        self.field(&option.class);
+                        self.field(&option.class.class);
                     }
                 }
             }

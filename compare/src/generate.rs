@@ -8,6 +8,7 @@ use crate::elements::element_case;
 use crate::encode::encode;
 use crate::make_table::make_table;
 use crate::random::Random;
+use crate::reader::WORDS_PER_ENTRY;
 use crate::records::fragments;
 use crate::table;
 
@@ -64,7 +65,7 @@ pub fn generate(seed: u64, count: usize) -> Vec<Case> {
 fn finish(random: &mut Random, mut case: Case) -> Case {
     case.stream.truncate(MOST_STREAM);
     case.words = MOST_WORDS;
-    let needed = 4 * case.answer().reading.entries as usize;
+    let needed = WORDS_PER_ENTRY * case.answer().reading.entries as usize;
     case.words = match random.below(20) {
         0..=10 => MOST_WORDS,
         11..=13 => needed,
@@ -104,7 +105,10 @@ fn wished(random: &mut Random, number: u64) -> Case {
             20 => damage_table(random, &mut case.table),
             21 => case.stream.clear(),
             22 => case.stream.truncate(random.between(1, case.stream.len().max(1))),
-            40 => case.words = random.below(4 * case.answer().reading.entries as usize + 1),
+            40 => {
+                case.words =
+                    random.below(WORDS_PER_ENTRY * case.answer().reading.entries as usize + 1)
+            }
             _ => {}
         }
         let answer = case.answer();
@@ -115,7 +119,8 @@ fn wished(random: &mut Random, number: u64) -> Case {
     }
     // Now and then the list ends just where the fault is, so that room and fault compete.
     if (22..=41).contains(&number) && number != 40 && random.chance(20) {
-        let words = 4 * case.answer().reading.entries as usize + random.below(4);
+        let words = WORDS_PER_ENTRY * case.answer().reading.entries as usize
+            + random.below(WORDS_PER_ENTRY);
         case.words = words.min(MOST_WORDS);
     }
     case

@@ -1,6 +1,7 @@
-//! `compare answers`, `compare cases`, `compare run` and `compare soak`.
+//! `compare answers`, `compare apart`, `compare cases`, `compare run` and `compare soak`.
 
-use compare::case::{next_case, write_file};
+use compare::apart::{next_removal, without};
+use compare::case::{next_case, write_file, Answer, Case};
 use compare::generate::generate;
 use compare::program::Program;
 use compare::trial::{try_cases, Tally};
@@ -10,6 +11,7 @@ use std::time::{Duration, Instant, SystemTime, UNIX_EPOCH};
 
 const USE: &str = "use:
   compare answers < case file
+  compare apart PROGRAM [ARGS...] < file of cases, each with the number of a packet
   compare cases SEED COUNT > case file
   compare run [--each N] [--removed N] [--elements N] [--bounds N] SEED COUNT PROGRAM [ARGS...]
   compare soak SECONDS PROGRAM [ARGS...]";
@@ -21,6 +23,7 @@ fn main() -> ExitCode {
     let words: Vec<&str> = args.iter().map(String::as_str).collect();
     let done = match words[..] {
         ["answers"] => answers(),
+        ["apart", ref program @ ..] => apart(program),
         ["cases", seed, count] => cases(seed, count),
         ["run", ref rest @ ..] => run(rest),
         ["soak", seconds, ref program @ ..] => soak(seconds, program),
@@ -58,6 +61,46 @@ fn answers() -> Option<ExitCode> {
         return Some(ExitCode::FAILURE);
     }
     Some(ExitCode::SUCCESS)
+}
+
+/// What the program reads of each stream without a packet, which is cut out by the program's own
+/// list: the reading and its entries.
+fn apart(words: &[&str]) -> Option<ExitCode> {
+    let program = program(words)?;
+    let mut file = Vec::new();
+    if let Err(error) = std::io::stdin().lock().read_to_end(&mut file) {
+        eprintln!("the file of cases could not be read: {error}");
+        return Some(ExitCode::FAILURE);
+    }
+    let mut rest = &file[..];
+    let removals: Vec<(Case, usize)> = std::iter::from_fn(|| next_removal(&mut rest)).collect();
+    if !rest.is_empty() {
+        eprintln!("the file of cases is cut");
+        return Some(ExitCode::FAILURE);
+    }
+    let (full, numbers): (Vec<Case>, Vec<usize>) = removals.into_iter().unzip();
+    let Some(lists) = answers_of(&program, &full) else { return Some(ExitCode::FAILURE) };
+    let triples = full.iter().zip(&lists).zip(numbers);
+    let shorter: Option<Vec<Case>> =
+        triples.map(|((case, answer), number)| without(case, answer, number)).collect();
+    let Some(shorter) = shorter else {
+        eprintln!("a case's list does not show its packet");
+        return Some(ExitCode::FAILURE);
+    };
+    let Some(answers) = answers_of(&program, &shorter) else { return Some(ExitCode::FAILURE) };
+    let mut text = String::new();
+    answers.iter().for_each(|answer| answer.write_reading(&mut text));
+    let written = std::io::stdout().lock().write_all(text.as_bytes());
+    Some(if written.is_ok() { ExitCode::SUCCESS } else { ExitCode::FAILURE })
+}
+
+fn answers_of(program: &Program, cases: &[Case]) -> Option<Vec<Answer>> {
+    let run = program.run(cases, Duration::from_secs(60));
+    if let Some(fault) = run.fault {
+        eprintln!("{fault}");
+        return None;
+    }
+    Some(run.answers)
 }
 
 fn cases(seed: &str, count: &str) -> Option<ExitCode> {

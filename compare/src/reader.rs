@@ -8,6 +8,9 @@ use crate::text::is_text;
 pub const MOST_STREAM_BYTES: usize = 536_870_911;
 const MAGIC: u64 = 0xc1fc_1fc1;
 const MOST_LENGTH: u64 = 65_535;
+pub const WORDS_PER_ENTRY: usize = 5;
+/// Kind, place, bits, value, and the class record's number.
+pub type Entry = [u64; WORDS_PER_ENTRY];
 /// The bits of the slots 0 to 15, which events leave as they are.
 const PACKET_SLOTS: u64 = 0xffff;
 
@@ -87,8 +90,8 @@ struct Known {
 struct Reader<'a> {
     table: &'a Table,
     stream: &'a [u8],
-    /// The list's room for entries; a rest of under four words is no room.
-    list: &'a mut [[u64; 4]],
+    /// The list's room for entries; a rest of under five words is no room.
+    list: &'a mut [Entry],
     entries: usize,
     /// The stream's end in bits.
     end: u64,
@@ -139,9 +142,16 @@ impl<'a> Reader<'a> {
         Ok(())
     }
 
+    /// An entry of the kinds 1 to 7, behind which no class stands.
     #[inline]
-    fn enter(&mut self, kind: u64, place: u64, bits: u64, value: u64) {
-        self.list[self.entries] = [kind, place, bits, value];
+    fn mark(&mut self, kind: u64, place: u64, bits: u64, value: u64) {
+        self.enter(0, kind, place, bits, value);
+    }
+
+    /// A field's entry; `number` is that of its class's record.
+    #[inline]
+    fn enter(&mut self, number: u64, kind: u64, place: u64, bits: u64, value: u64) {
+        self.list[self.entries] = [kind, place, bits, value, number];
         self.entries += 1;
     }
 
@@ -161,7 +171,7 @@ impl<'a> Reader<'a> {
         self.order = None;
         self.known = Known::default();
         self.room()?;
-        self.enter(1, self.packet, 0, number);
+        self.mark(1, self.packet, 0, number);
         self.root(&self.table.trace.header)?;
         let stream_class = self.stream_class()?;
         self.root(&stream_class.context)?;
@@ -173,7 +183,7 @@ impl<'a> Reader<'a> {
         }
         self.room()?;
         let after = self.packet + total;
-        self.enter(7, after, after - self.place, events);
+        self.mark(7, after, after - self.place, events);
         self.place = after;
         Ok(())
     }
@@ -187,7 +197,7 @@ impl<'a> Reader<'a> {
         let Some(class) = self.table.stream(id) else {
             return Err(Stop { number: 33, place: self.place, first: id, second: 0 });
         };
-        self.enter(2, self.place, 0, id);
+        self.mark(2, self.place, 0, id);
         Ok(class)
     }
 
@@ -209,7 +219,7 @@ impl<'a> Reader<'a> {
         if end_clock.is_some_and(|end| clock > end) {
             return stop(35, self.place);
         }
-        self.enter(3, self.place, total, content);
+        self.mark(3, self.place, total, content);
         self.bound = self.packet + content;
         Ok(total)
     }
@@ -219,7 +229,7 @@ impl<'a> Reader<'a> {
         self.set_slots &= PACKET_SLOTS;
         self.known.event_class = 0;
         self.room()?;
-        self.enter(4, start, 0, number);
+        self.mark(4, start, 0, number);
         self.root(&stream_class.header)?;
         if stream_class.has_clock {
             if self.known.clock < self.event_clock {
@@ -233,7 +243,7 @@ impl<'a> Reader<'a> {
             let first = stream_class.id;
             return Err(Stop { number: 37, place: self.place, first, second: id });
         };
-        self.enter(5, self.place, 0, id);
+        self.mark(5, self.place, 0, id);
         self.root(&stream_class.common)?;
         self.root(&class.specific)?;
         self.root(&class.payload)?;
@@ -260,45 +270,46 @@ impl<'a> Reader<'a> {
         Ok(place)
     }
 
-    fn field(&mut self, class: &'a Class) -> Step {
-        match class {
+    fn field(&mut self, numbered: &'a Numbered) -> Step {
+        let number = numbered.number;
+        match &numbered.class {
             Class::BitArray(fixed) => {
-                self.fixed(16, fixed, |value| value)?;
+                self.fixed(number, 16, fixed, |value| value)?;
             }
             Class::Boolean { fixed, slot } => {
-                let value = self.fixed(17, fixed, |value| (value != 0) as u64)?;
+                let value = self.fixed(number, 17, fixed, |value| (value != 0) as u64)?;
                 self.set(*slot, Slot::Flag(value != 0));
             }
             Class::Unsigned { fixed, slot, role } => {
-                let value = self.fixed(18, fixed, |value| value)?;
+                let value = self.fixed(number, 18, fixed, |value| value)?;
                 self.set(*slot, Slot::Unsigned(value));
                 self.role(*role, value, fixed.length)?;
             }
             Class::Signed { fixed, slot } => {
                 let value =
-                    self.fixed(19, fixed, |value| bits::extend_sign(value, fixed.length))?;
+                    self.fixed(number, 19, fixed, |value| bits::extend_sign(value, fixed.length))?;
                 self.set(*slot, Slot::Signed(value));
             }
             Class::Float(fixed) => {
-                self.fixed(20, fixed, |value| value)?;
+                self.fixed(number, 20, fixed, |value| value)?;
             }
             Class::LebUnsigned { slot, role } => {
-                let (value, bytes) = self.leb(21)?;
+                let (value, bytes) = self.leb(number, 21)?;
                 self.set(*slot, Slot::Unsigned(value));
                 self.role(*role, value, 7 * bytes as u32)?;
             }
             Class::LebSigned { slot } => {
-                let (value, _) = self.leb(22)?;
+                let (value, _) = self.leb(number, 22)?;
                 self.set(*slot, Slot::Signed(value));
             }
-            Class::NullTerminatedString => self.null_terminated_string()?,
+            Class::NullTerminatedString => self.null_terminated_string(number)?,
             Class::StaticString { bytes } => {
                 self.room()?;
-                self.string(24, *bytes as u64)?;
+                self.string(number, 24, *bytes as u64)?;
             }
             Class::StaticBlob { bytes, role } => {
                 self.room()?;
-                let blob = self.blob(25, *bytes as u64)?;
+                let blob = self.blob(number, 25, *bytes as u64)?;
                 let uuid = &self.table.trace.uuid;
                 if *role == Role::Uuid && uuid.as_ref().map(|uuid| &uuid[..]) != Some(blob) {
                     return stop(31, self.place);
@@ -307,27 +318,27 @@ impl<'a> Reader<'a> {
             Class::DynamicString { slot } => {
                 self.room()?;
                 let length = self.length(*slot)?;
-                self.string(26, length)?;
+                self.string(number, 26, length)?;
             }
             Class::DynamicBlob { slot } => {
                 self.room()?;
                 let length = self.length(*slot)?;
-                self.blob(27, length)?;
+                self.blob(number, 27, length)?;
             }
             Class::Structure(structure) => self.structure(structure)?,
             Class::StaticArray { elements, array } => {
                 self.room()?;
-                self.elements(29, *elements as u64, array)?;
+                self.elements(number, 29, *elements as u64, array)?;
             }
             Class::DynamicArray { slot, array } => {
                 self.room()?;
                 let length = self.length(*slot)?;
-                self.elements(30, length, array)?;
+                self.elements(number, 30, length, array)?;
             }
             Class::Optional { slot, when, class } => {
                 self.room()?;
                 let is_there = self.is_there(*slot, when)?;
-                self.enter(31, self.place, 0, is_there as u64);
+                self.enter(number, 31, self.place, 0, is_there as u64);
                 if is_there {
                     self.field(class)?;
                 }
@@ -336,11 +347,11 @@ impl<'a> Reader<'a> {
                 self.room()?;
                 let key = self.selector(*slot, *sign)?;
                 let holds = |option: &Choice| option.ranges.iter().any(|range| range.holds(key));
-                let Some(number) = options.iter().position(holds) else {
+                let Some(option) = options.iter().position(holds) else {
                     return stop(29, self.place);
                 };
-                self.enter(32, self.place, 0, number as u64);
-                self.field(&options[number].class)?;
+                self.enter(number, 32, self.place, 0, option as u64);
+                self.field(&options[option].class)?;
             }
         }
         Ok(())
@@ -348,7 +359,13 @@ impl<'a> Reader<'a> {
 
     /// A field of the kinds 16 to 20; `mean` turns its bits into its value.
     #[inline]
-    fn fixed(&mut self, kind: u64, fixed: &Fixed, mean: impl Fn(u64) -> u64) -> Step<u64> {
+    fn fixed(
+        &mut self,
+        number: u64,
+        kind: u64,
+        fixed: &Fixed,
+        mean: impl Fn(u64) -> u64,
+    ) -> Step<u64> {
         self.room()?;
         let place = self.aligned(fixed.align)?;
         let offset = place - self.packet;
@@ -360,21 +377,21 @@ impl<'a> Reader<'a> {
         }
         let value = mean(bits::take(self.stream, place, fixed.length, fixed.order));
         self.order = Some(fixed.order);
-        self.enter(kind, place, fixed.length as u64, value);
+        self.enter(number, kind, place, fixed.length as u64, value);
         self.place = place + fixed.length as u64;
         Ok(value)
     }
 
-    fn leb(&mut self, kind: u64) -> Step<(u64, u64)> {
+    fn leb(&mut self, number: u64, kind: u64) -> Step<(u64, u64)> {
         self.room()?;
         let place = self.aligned(8)?;
         let bytes = &self.stream[(place / 8) as usize..(self.bound / 8) as usize];
         let (value, count) = match bits::leb(bytes, kind == 22) {
-            Ok(number) => number,
+            Ok(read) => read,
             Err(LebFault::PastBound) => return stop(22, self.bound),
             Err(LebFault::TooLong(index)) => return stop(24, place + 8 * index),
         };
-        self.enter(kind, place, 8 * count, value);
+        self.enter(number, kind, place, 8 * count, value);
         self.place = place + 8 * count;
         Ok((value, count))
     }
@@ -386,7 +403,7 @@ impl<'a> Reader<'a> {
         }
     }
 
-    fn null_terminated_string(&mut self) -> Step {
+    fn null_terminated_string(&mut self, number: u64) -> Step {
         self.room()?;
         let place = self.aligned(8)?;
         let bytes = &self.stream[(place / 8) as usize..(self.bound / 8) as usize];
@@ -395,7 +412,7 @@ impl<'a> Reader<'a> {
         };
         self.text(&bytes[..count])?;
         let bits = 8 * (count as u64 + 1);
-        self.enter(23, place, bits, count as u64);
+        self.enter(number, 23, place, bits, count as u64);
         self.place = place + bits;
         Ok(())
     }
@@ -410,18 +427,18 @@ impl<'a> Reader<'a> {
         Ok((place, &self.stream[first..first + count as usize]))
     }
 
-    fn string(&mut self, kind: u64, count: u64) -> Step {
+    fn string(&mut self, number: u64, kind: u64, count: u64) -> Step {
         let (place, bytes) = self.bytes(count)?;
         let value = bytes.iter().position(|&byte| byte == 0).map_or(count, |zero| zero as u64);
         self.text(&bytes[..value as usize])?;
-        self.enter(kind, place, 8 * count, value);
+        self.enter(number, kind, place, 8 * count, value);
         self.place = place + 8 * count;
         Ok(())
     }
 
-    fn blob(&mut self, kind: u64, count: u64) -> Step<&'a [u8]> {
+    fn blob(&mut self, number: u64, kind: u64, count: u64) -> Step<&'a [u8]> {
         let (place, bytes) = self.bytes(count)?;
-        self.enter(kind, place, 8 * count, count);
+        self.enter(number, kind, place, 8 * count, count);
         self.place = place + 8 * count;
         Ok(bytes)
     }
@@ -429,7 +446,7 @@ impl<'a> Reader<'a> {
     fn structure(&mut self, structure: &'a Structure) -> Step {
         self.room()?;
         let place = self.aligned(structure.requirement)?;
-        self.enter(28, place, 0, structure.members.len() as u64);
+        self.enter(structure.number, 28, place, 0, structure.members.len() as u64);
         self.place = place;
         for member in &structure.members {
             self.field(member)?;
@@ -437,9 +454,9 @@ impl<'a> Reader<'a> {
         Ok(())
     }
 
-    fn elements(&mut self, kind: u64, count: u64, array: &'a Array) -> Step {
+    fn elements(&mut self, number: u64, kind: u64, count: u64, array: &'a Array) -> Step {
         let place = self.aligned(array.requirement)?;
-        self.enter(kind, place, 0, count);
+        self.enter(number, kind, place, 0, count);
         self.place = place;
         // Most elements set no slot, and have nothing to pay for those that do.
         if array.forgets == 0 {
@@ -522,7 +539,7 @@ impl<'a> Reader<'a> {
                 let Some(clock) = bits::advance_clock(self.known.clock, value, length) else {
                     return stop(36, self.place);
                 };
-                self.enter(6, self.place, length as u64, clock);
+                self.mark(6, self.place, length as u64, clock);
                 self.known.clock = clock;
             }
         }

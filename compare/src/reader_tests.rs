@@ -3,13 +3,18 @@ use crate::records::{Records, NO_SLOT};
 
 const PATTERN: u64 = 0xdead_beef_0bad_cafe;
 
-/// The reading and its entries; words behind them must be untouched.
+/// The reading and its entries, without the records' numbers; words behind them must be untouched.
 fn run(records: &Records, stream: &[u8], words: usize) -> (Reading, Vec<[u64; 4]>) {
+    let (reading, entries) = run_numbered(records, stream, words);
+    (reading, entries.iter().map(|e| [e[0], e[1], e[2], e[3]]).collect())
+}
+
+fn run_numbered(records: &Records, stream: &[u8], words: usize) -> (Reading, Vec<Entry>) {
     let mut list = vec![PATTERN; words];
     let reading = read(&records.bytes, stream, &mut list);
-    let (entries, rest) = list.split_at(4 * reading.entries as usize);
+    let (entries, rest) = list.split_at(WORDS_PER_ENTRY * reading.entries as usize);
     assert!(rest.iter().all(|&word| word == PATTERN));
-    (reading, entries.chunks(4).map(|entry| entry.try_into().unwrap()).collect())
+    (reading, entries.as_chunks().0.to_vec())
 }
 
 fn result(number: u64, entries: u64, place: u64) -> Reading {
@@ -42,22 +47,59 @@ fn first_figure() {
         [18, 0, 8, 42],
         [7, 8, 0, 1],
     ];
-    let (reading, entries) = run(&records, &[42], 32);
+    let (reading, entries) = run(&records, &[42], 40);
     assert_eq!((reading, &entries[..]), (result(0, 8, 8), &expected[..]));
-    let (reading, entries) = run(&records, &[42], 31);
+    let (reading, entries) = run(&records, &[42], 39);
     assert_eq!((reading, &entries[..]), (result(40, 7, 8), &expected[..7]));
     records.bytes.truncate(12);
-    let (reading, entries) = run(&records, &[42], 32);
+    let (reading, entries) = run(&records, &[42], 40);
     assert_eq!((reading, &entries[..]), (result(37, 4, 0), &expected[..4]));
+}
+
+/// Each record counts, from 0 at the one that opens the fragment: roots, ranges, options and what an absent class holds too.
+#[test]
+fn numbers_of_records() {
+    let mut records = Records::new();
+    // Stream class 0, context 1 and 2 with a number 3, header 4 and 5 with a number 6.
+    records.stream(0, 255).root(1, 1).unsigned(8, NO_SLOT, 0).root(2, 1).unsigned(8, 16, 0);
+    // Event class 0, payload 1 and 2: a variant 3, its option 4 with two ranges 5 and 6 and a string 7, its option 8 with a
+    // range 9 and an array 10 of a structure 11 with a number 12; behind it an optional 13 with a range 14 and a number 15; a number 16.
+    records.event(0, 0).root(5, 3);
+    records.put(&[32, 16, 2, 34, 2]).range(0, 1, 1).range(0, 2, 2).put(&[23]);
+    records.put(&[34, 1]).range(0, 3, 3).put(&[29, 2, 0, 0, 28, 1, 0]).unsigned(8, NO_SLOT, 0);
+    records.put(&[31, 16, 1]).range(0, 9, 9).unsigned(8, NO_SLOT, 0).unsigned(8, NO_SLOT, 0);
+    let (reading, entries) = run_numbered(&records, &[0, 3, 0, 0, 0, 1, 0, 0], 8000);
+    assert_eq!(reading.number, 0);
+    let numbers: Vec<_> = entries.iter().map(|entry| (entry[0], entry[4])).collect();
+    let first = [
+        (1, 0),
+        (2, 0),
+        (28, 2),
+        (18, 3),
+        (3, 0),
+        (4, 0),
+        (28, 5),
+        (18, 6),
+        (5, 0),
+        (28, 2),
+        (32, 3),
+    ];
+    assert_eq!(numbers[..11], first);
+    let array = [(29, 10), (28, 11), (18, 12), (28, 11), (18, 12), (31, 13), (18, 16), (4, 0)];
+    assert_eq!(numbers[11..19], array);
+    assert_eq!(
+        numbers[19..],
+        [(28, 5), (18, 6), (5, 0), (28, 2), (32, 3), (23, 7), (31, 13), (18, 16), (7, 0)]
+    );
 }
 
 #[test]
 fn every_shorter_list() {
     let mut records = payload(1);
     records.unsigned(8, NO_SLOT, 0);
-    for words in 0..32 {
+    for words in 0..40 {
         let (reading, _) = run(&records, &[42], words);
-        assert_eq!((reading.number, reading.entries), (40, words as u64 / 4));
+        assert_eq!((reading.number, reading.entries), (40, words as u64 / 5));
     }
 }
 
@@ -66,12 +108,12 @@ fn table_and_stream_refused() {
     let reading = Reading { number: 20, entries: 0, place: 0, first: 5, second: 0 };
     assert_eq!(run(&Records { bytes: vec![1, 3] }, &[], 0).0, reading);
     assert_eq!(run(&Records::new(), &[], 0).0, result(21, 0, 0));
-    assert_eq!(run(&Records::new(), &[1], 3).0, result(40, 0, 0));
-    assert_eq!(run(&Records::new(), &[1], 7).0, result(40, 1, 0));
-    assert_eq!(run(&Records::new(), &[1], 8).0, result(33, 1, 0));
+    assert_eq!(run(&Records::new(), &[1], 4).0, result(40, 0, 0));
+    assert_eq!(run(&Records::new(), &[1], 9).0, result(40, 1, 0));
+    assert_eq!(run(&Records::new(), &[1], 10).0, result(33, 1, 0));
     let large = vec![0; MOST_STREAM_BYTES + 1];
-    assert_eq!(run(&Records::new(), &large, 8).0, result(21, 0, 0));
-    assert_eq!(run(&Records::new(), &large[1..], 8).0, result(33, 1, 0));
+    assert_eq!(run(&Records::new(), &large, 10).0, result(21, 0, 0));
+    assert_eq!(run(&Records::new(), &large[1..], 10).0, result(33, 1, 0));
 }
 
 #[test]
@@ -81,7 +123,7 @@ fn the_longest_stream() {
     let bits = 8 * stream.len() as u64;
     let mut records = payload(1);
     records.static_blob(65_535, 0);
-    let (reading, entries) = run(&records, &stream, 4 * 33_000);
+    let (reading, entries) = run(&records, &stream, WORDS_PER_ENTRY * 33_000);
     assert_eq!(reading, result(22, 3 + 4 * 8192 + 3, bits));
     assert_eq!(entries.last(), Some(&[28, 8 * 65_535 * 8192, 0, 1]));
     // A structure in which they all stand, and at its end one that would be aligned to 2 to the 32.
@@ -89,7 +131,7 @@ fn the_longest_stream() {
         let mut records = payload(3);
         records.static_array(8192, 0).static_blob(65_535, 0).static_blob(8191, 0);
         records.structure(0, align);
-        assert_eq!(run(&records, &stream, 4 * 9000).0, expected);
+        assert_eq!(run(&records, &stream, WORDS_PER_ENTRY * 9000).0, expected);
     }
 }
 
@@ -173,10 +215,10 @@ fn slots_are_unset_behind_the_root() {
 fn lengths_up_to_65535() {
     let mut records = payload(2);
     records.unsigned(32, 16, 0).put(&[30, 16, 0]).structure(0, 0);
-    let (reading, entries) = run(&records, &65_535u32.to_le_bytes(), 4 * 65_550);
+    let (reading, entries) = run(&records, &65_535u32.to_le_bytes(), WORDS_PER_ENTRY * 65_550);
     assert_eq!((reading.number, reading.entries), (0, 65_544));
     assert_eq!(entries[7], [30, 32, 0, 65_535]);
-    let (reading, _) = run(&records, &65_536u32.to_le_bytes(), 4 * 65_550);
+    let (reading, _) = run(&records, &65_536u32.to_le_bytes(), WORDS_PER_ENTRY * 65_550);
     assert_eq!(reading, result(28, 7, 32));
 }
 

@@ -138,6 +138,6 @@ mod tests {
         let case = case.expect("a long reading");
         let small = shrink(&case, MINUTE, |case| case.answer().reading.entries > 5);
         assert_eq!(small.answer().reading.entries, 6);
-        assert!(small.table.len() < case.table.len() && small.words == 24);
+        assert!(small.table.len() < case.table.len() && small.words == 30);
     }
 }

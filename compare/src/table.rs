@@ -121,6 +121,8 @@ impl Fragment {
 #[derive(Clone, Copy)]
 struct Record<'a> {
     at: usize,
+    /// Counted in its fragment, from 0 at the record that opens it.
+    number: u64,
     kind: u8,
     body: &'a [u8],
 }
@@ -211,6 +213,8 @@ fn slot_in_range(slot: u8) -> bool {
 struct Parser<'a> {
     bytes: &'a [u8],
     next: usize,
+    /// How many records the open fragment has so far.
+    records: u64,
     fragment: Fragment,
     last_root: Option<u8>,
     has_trace: bool,
@@ -228,6 +232,7 @@ impl<'a> Parser<'a> {
         Parser {
             bytes,
             next: 0,
+            records: 0,
             fragment: Fragment::Preamble,
             last_root: None,
             has_trace: false,
@@ -248,7 +253,8 @@ impl<'a> Parser<'a> {
         let Some(&kind) = self.bytes.get(at) else { return refuse(3) };
         let Some(length) = body_length(kind) else { return refuse(2) };
         let Some(body) = self.bytes.get(at + 1..at + 1 + length) else { return refuse(3) };
-        let record = Record { at, kind, body };
+        let opens = (1..=5).contains(&kind);
+        let record = Record { at, number: if opens { 0 } else { self.records }, kind, body };
         record.demand((at == 0) == (kind == 1), 4)?;
         match kind {
             1 => record.demand(body[0] == 2, 5)?,
@@ -272,6 +278,7 @@ impl<'a> Parser<'a> {
             record.demand(in_turn && self.fragment.owns(body[0]), 9)?;
         }
         self.next = at + 1 + length;
+        self.records = record.number + 1;
         Ok(record)
     }
 
@@ -379,22 +386,27 @@ impl<'a> Parser<'a> {
         let mut members = Vec::with_capacity(count as usize);
         for index in 0..count {
             let member = self.class(scope, spot.member(index))?;
-            requirement = requirement.max(member.requirement());
+            requirement = requirement.max(member.class.requirement());
             members.push(member);
         }
-        Ok(Structure { requirement, members })
+        Ok(Structure { number: record.number, requirement, members })
     }
 
-    fn class(&mut self, scope: Scope, spot: Spot) -> Result<Class, Refusal> {
+    fn class(&mut self, scope: Scope, spot: Spot) -> Result<Numbered, Refusal> {
         let record = self.take(Expected::Class)?;
+        let class = self.class_of(&record, scope, spot)?;
+        Ok(Numbered { number: record.number, class })
+    }
+
+    fn class_of(&mut self, record: &Record, scope: Scope, spot: Spot) -> Result<Class, Refusal> {
         let body = record.body;
         match record.kind {
-            16..=20 => self.fixed(&record, scope, spot),
+            16..=20 => self.fixed(record, scope, spot),
             21 | 22 => {
                 let role = if record.kind == 21 { body[1] } else { 0 };
                 record.demand(slot_in_range(body[0]), 10)?;
-                let role = numbered_role(&record, role)?;
-                let slot = self.set_slot(&record, scope, spot, body[0])?;
+                let role = numbered_role(record, role)?;
+                let slot = self.set_slot(record, scope, spot, body[0])?;
                 record.demand(scope.allows(role) && role != Role::Magic, 12)?;
                 record.demand(spot.depth <= MOST_DEPTH, 14)?;
                 Ok(match record.kind {
@@ -402,11 +414,11 @@ impl<'a> Parser<'a> {
                     _ => Class::LebSigned { slot },
                 })
             }
-            23..=27 => self.bytes_class(&record, scope, spot),
-            28 => Ok(Class::Structure(self.structure(&record, scope, spot)?)),
-            29 | 30 => self.array(&record, scope, spot),
-            31 => self.optional(&record, scope, spot),
-            _ => self.variant(&record, scope, spot),
+            23..=27 => self.bytes_class(record, scope, spot),
+            28 => Ok(Class::Structure(self.structure(record, scope, spot)?)),
+            29 | 30 => self.array(record, scope, spot),
+            31 => self.optional(record, scope, spot),
+            _ => self.variant(record, scope, spot),
         }
     }
 
@@ -495,10 +507,11 @@ impl<'a> Parser<'a> {
         record.demand(spot.depth <= MOST_DEPTH, 14)?;
         let element = Box::new(self.class(scope, spot.element(record))?);
         let forgets = match self.elements {
-            Elements::Forget => element.can_set(),
+            Elements::Forget => element.class.can_set(),
             Elements::Remember => 0,
         };
-        let array = Array { requirement: element.requirement().max(1 << align), forgets, element };
+        let requirement = element.class.requirement().max(1 << align);
+        let array = Array { requirement, forgets, element };
         Ok(match record.kind {
             29 => Class::StaticArray { elements: record.half(0), array },
             _ => Class::DynamicArray { slot: body[0], array },

@@ -24,7 +24,7 @@ const ROUNDS: usize = 7;
 /// What lies in a list before a reading.
 const PATTERN: u64 = 0xa5a5_5a5a_c3c3_3c3c;
 
-const WORDS_PER_ENTRY: usize = 4;
+const WORDS_PER_ENTRY: usize = 5;
 const EVENT_STARTS: u64 = 4;
 
 /// Room for an entry a byte, which no sample needs.

@@ -20,10 +20,12 @@ use Rattle.rules.specs.Parse.{Parsed, bad, good, Parser, then, one, sound, miss
 use Rattle.rules.specs.Parse.{rootOf, add, parseFragment, parseOpened, parseFragments, parseTable, parse, checkedOf, checked}
 use Rattle.rules.specs.Faults.{Ids, noIds, seen, recordFault, openFault, firstFault}
 use Rattle.facts.proofs.Truth.{or-false}
+use Rattle.class_layout.specs.Numbers.{Begins}
 use Rattle.class_layout.specs.Fragments.{isTrace, isStream, isEvent, firstOf, openingSize, rootsOf, rootPlaces, behindRoots}
 use Rattle.class_layout.specs.Fragments.{rootPlace, behindFragment, fragmentsFrom, fragmentsOf, findTraceAt, findStreamAt}
 use Rattle.class_layout.specs.Fragments.{findEventAt, mapOption, rootClass, streamClassAt, eventClassAt, uuidAt, headerAt, askedAt}
 use Rattle.class_layout.specs.Fragments.{Fragment, AllFragments}
+use Rattle.class_layout.proofs.Numbers.{begins-first, begins-behind}
 use Rattle.class_layout.proofs.Records.{preamble-at, trace-at, clock-at, stream-at, event-at}
 use Rattle.facts.proofs.Faults.{pick-false, pick-zero}
 use Rattle.facts.proofs.Parsed.{parse-table}
@@ -178,11 +180,12 @@ module _ (t : List ℕ) where
   abbrev rootsAt : ℕ → ℕ
   rootsAt at = at + openingSize (u8 t at)
 
-  fragment-stands : (at : ℕ) (g : Opening) (cs : List (Option Class)) (x : List ℕ) → Opened at g → at + size (drop at t) ≤ length t
+  fragment-stands : (at : ℕ) (g : Opening) (cs : List (Option Class)) (x : List ℕ) → Begins t at → Opened at g
+      → at + size (drop at t) ≤ length t
       → RootsStand t (rootPlaces t (rootsAt at) (rootsOf (u8 t at))) (rootsAt at) (behindRoots t (rootsAt at) (rootsOf (u8 t at))) cs x
       → Fragment t at
   unfolding rootPlace behindFragment
-  fragment-stands at g cs x o l r =
+  fragment-stands at g cs x begun o l r =
       let s : 1 ≤ size (drop at t) = unfold size in omega arith in
       record {
         low = o .low;
@@ -191,21 +194,23 @@ module _ (t : List ℕ) where
         roots = r .wholes;
         onward = omega (arith, o .bytes, r .onward);
         within = r .within;
+        begins = begun;
       }
 
   -- what the table says is had from these fragments, and no two event classes have the same ids
   abbrev Asks : Ids → Table → List ℕ → Type 0
   Asks q T os = Tabled os T × Once t q os
 
-  fragments-stand : (left : ℕ) (q : Ids) (at : ℕ) (T : Table) (y : List ℕ) → at ≤ length t → parseFragments left q (drop at t) ≡ good T y
+  fragments-stand : (left : ℕ) (q : Ids) (at : ℕ) (T : Table) (y : List ℕ) → at ≤ length t → Begins t at
+      → parseFragments left q (drop at t) ≡ good T y
       → Asks q T (fragmentsFrom left t at)
   unfolding parseFragments fragmentsFrom parseOpened parseFragment openFault behindFragment rootClass rootPlace
-  fragments-stand zero q at T y l e = (rw (← good-value e) none-tabled, none-once t q)
-  fragments-stand (suc left) q at T y l e =
-      by (ltb at (length t)) (λ q at T y l e. fragments-stand left q at T y l e) (rw (missing-at at, parseFragments) at e)
+  fragments-stand zero q at T y l begun e = (rw (← good-value e) none-tabled, none-once t q)
+  fragments-stand (suc left) q at T y l begun e =
+      by (ltb at (length t)) (λ q at T y l begun e. fragments-stand left q at T y l begun e) (rw (missing-at at, parseFragments) at e)
     where
       Rest : Type 0
-      Rest = (q : Ids) (at : ℕ) (T : Table) (y : List ℕ) → at ≤ length t → parseFragments left q (drop at t) ≡ good T y
+      Rest = (q : Ids) (at : ℕ) (T : Table) (y : List ℕ) → at ≤ length t → Begins t at → parseFragments left q (drop at t) ≡ good T y
           → Asks q T (fragmentsFrom left t at)
 
       opening : Rest → (r : Record) → recordOf (drop at t) ≡ r → (b : Bool) → recordFault b q r (openFault q r) ≡ 0
@@ -222,10 +227,10 @@ module _ (t : List ℕ) where
           let a = then-good (parseRoots (seen q g) (isTimed g) (hasUuid g) (rootsOf (u8 t at)) (drop (rootsAt at) t)) _ T y
           (rw (o .bytes, o .roots) at k) in
           let b = roots-stand t (seen q g) (isTimed g) (hasUuid g) (rootsOf (u8 t at)) (rootsAt at) (a .value) (a .rest)
-          (omega (arith, o .bytes)) (a .first) in
-          let f = fragment-stands at g (a .value) (a .rest) o l b in
+          (omega (arith, o .bytes)) (begins-behind begun _ (o .bytes)) (a .first) in
+          let f = fragment-stands at g (a .value) (a .rest) begun o l b in
           let c = then-good (parseFragments left (seen q g) (drop (behindFragment t at) t)) _ T y (rw (b .rest) at (a .second)) in
-          let w = rec (seen q g) (behindFragment t at) (c .value) (c .rest) (f .within) (c .first) in (
+          let w = rec (seen q g) (behindFragment t at) (c .value) (c .rest) (f .within) (b .begins) (c .first) in (
             rw (← good-value (c .second))
                 (added q g at (a .value) _ (c .value) r z f (λ i. root-class t _ _ _ (a .value) (a .rest) i b) (w .0)),
             fragment-once t u q g _ at _ r v (w .1),
@@ -249,6 +254,7 @@ record FirstRecord (t : List ℕ) : Type 0 where
   kind : u8 t 0 ≡ 1
   there : 2 ≤ length t
   onward : behind t ≡ drop 2 t
+  begins : Begins t 2
 
 first-fine : (t : List ℕ) (s : Bool) (r : Record) → ltb (length t) (size t) ≡ s → recordOf t ≡ r → firstFault s r ≡ 0 → FirstRecord t
 unfolding firstFault behind
@@ -259,6 +265,7 @@ first-fine t s (fragment (preamble v)) b e z =
       kind = n .0;
       there = omega (arith, n .1, ltb-false (length t) (size t) (b ∙ pick-false s 2 _ z));
       onward = ap (λ n. drop n t) (n .1);
+      begins = begins-behind (begins-first t) 2 (n .1);
     }
 first-fine t s (fragment (traceClass u l)) b e z = absurd (omega (arith, pick-zero s 2 4 z))
 first-fine t s (fragment (clockClass i f)) b e z = absurd (omega (arith, pick-zero s 2 4 z))
@@ -288,8 +295,8 @@ module _ (t : List ℕ) (T : Table) (y : List ℕ) (e : parse t ≡ good T y) wh
       behind-first zero z e =
           let f = first-fine t _ (recordOf t) refl refl z in
           let a = then-good (parseRoots noIds false false [] (drop 2 t)) _ T y (rw (f .onward) at e) in
-          let r = roots-stand t noIds false false [] 2 (a .value) (a .rest) (f .there) (a .first) in
-          (f .kind, fragments-stand t (length t - 2) noIds 2 T y (f .there) (rw (r .rest, length-drop 2 t) at (a .second)))
+          let r = roots-stand t noIds false false [] 2 (a .value) (a .rest) (f .there) (f .begins) (a .first) in
+          (f .kind, fragments-stand t (length t - 2) noIds 2 T y (f .there) (f .begins) (rw (r .rest, length-drop 2 t) at (a .second)))
       behind-first (suc n) z e = absurd (bad-good e)
 
       by : (b : Bool) → (missing t || ltb 65536 (length t)) ≡ b

@@ -131,6 +131,9 @@ row-of k a b =
     getD-take 17 (drop 16 layouts) (k - 16) no j ∙ getD-drop 16 layouts (k - 16) no ∙ ap (λ i. getD layouts i no) e in
     rw f at (class-row _ shapes class-rows (k - 16) (unfold shapes in j))
 
+pub class-size : (t : List ℕ) (at : ℕ) → 16 ≤ u8 t at → u8 t at ≤ 32 → size (drop at t) ≡ recordSize (shapeOf (u8 t at))
+class-size t at a b = size-at t at _ refl ∙ row-of (u8 t at) a b .bytes
+
 pub record ClassAt (t : List ℕ) (at : ℕ) (y : Says) : Type 0 where
   pub low : 16 ≤ u8 t at
   pub high : u8 t at ≤ 32
@@ -145,7 +148,7 @@ class-at t at y e =
     let b : u8 t at ≤ 32 = leb→le _ _ (both-right (leb 16 (u8 t at)) _ k) in
     let r = row-of (u8 t at) a b in
     let s : class y ≡ class (saidAt t at (shapeOf (u8 t at))) = sym e ∙ record-at t at _ refl ∙ r .says t at in
-    record { low = a; high = b; bytes = size-at t at _ refl ∙ r .bytes; says = cc }
+    record { low = a; high = b; bytes = class-size t at a b; says = cc }
 
 -- the body's length that the table of lengths has for a kind of a class
 bodies-pass : T (eachRow (λ k l. leb (l .0) 17) 0 layouts)

@@ -64,6 +64,7 @@ whole-more (suc d) t at w = record {
   kinds =
       same-kinds t (whole d t) (stoodAt d t) (stoodAt (suc d) t) (λ p v. ap (λ s. s .next) (one d (suc d) t p v (whole-more d t p v) .0)) at
       (shapeOf (u8 t at)) (w .parts) (w .kinds);
+  begins = w .begins;
 }
 
 -- as many depths, or k more

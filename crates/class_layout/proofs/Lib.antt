@@ -1,4 +1,6 @@
 mod Records
+pub mod Numbers
+pub mod NextRecord
 pub mod Named
 pub mod Setting
 mod ClassRecords
@@ -19,6 +21,11 @@ pub mod Asked
 pub mod Lookups
 pub mod Ahead
 pub mod Turns
+pub mod Numbered
+pub mod NumberedReads
+pub mod RootNumbers
+mod NotedWords
+mod NumbersNoted
 mod Noted
 pub mod Reached
 pub mod Written

@@ -1,5 +1,6 @@
 -- The notes are right: of every class that stands whole, by what is noted behind its record; of every fragment; and later notes undo
--- no earlier one. In order: a record, by what it announces; a byte; the bytes from the back; the fragments.
+-- no earlier one. In order: a record, by what it announces; what it sets; a byte; the bytes from the back; the fragments; all, with
+-- numbers.
 use mathlib.Core.Path.{_≡_, refl, sym, ap, _∙_}
 use Prim.Native.Nat.{ℕ, zero, suc, _+_, _-_, _*_, _≤_, _<_, max}
 use native.Mathlib.Omega.{arith}
@@ -10,10 +11,11 @@ use lib.ListN.{length, getD, set, length-set}
 use lib.Seq.{getD-set-same, getD-set-other, set-getD}
 use lib.Dec.{leb, eqb}
 use borrow.Author.Tests.{le-leb, eqb-true, eqb-false}
-use Rattle.rules.specs.Limits.{depthLimit}
+use Rattle.rules.specs.Limits.{depthLimit, noSlot}
 use Rattle.rules.specs.Record.{Shape, bitField, lebField, signedLebField, zeroString, text, blob, textOf, blobOf, members, elements}
 use Rattle.rules.specs.Record.{elementsOf, option?, options, u8}
 use Rattle.rules.specs.Class.{bitArray, boolean, unsignedInt, signedInt, float, setting, sets, membersSet, optionsSet}
+use Rattle.facts.specs.Bytes.{Bytes}
 use Rattle.facts.proofs.Numbers.{lt-or-ge}
 use Rattle.facts.proofs.Truth.{clash}
 use Rattle.class_layout.specs.Trees.{shapeOf, optionClass, Stood, behindMembers, behindOptions, nextIn, stoodAt, nextAt, alignMembers}
@@ -21,24 +23,18 @@ use Rattle.class_layout.specs.Trees.{alignIn, alignAt, wholeMembers, who
 use Rattle.class_layout.specs.Trees.{rangesAt, signAt, membersAt, optionsAt, classIn, classAt}
 use Rattle.class_layout.specs.Fragments.{behindFragment, fragmentsOf, All, AllFragments}
 use Rattle.class_layout.specs.Notes.{Notes, notes, endNoted, alignNoted, endBy, alignBy, sizeTo, isClass, noteAt, noteBelow}
-use Rattle.class_layout.specs.Notes.{setsNoted, setsMembers, setsOptions, setsIn, setsBy, noteFragments, notesOf, NotedClass, Prepared}
+use Rattle.class_layout.specs.Notes.{setsNoted, setsMembers, setsOptions, setsIn, setsBy, noteFragments, noteNumbers, notesOf}
+use Rattle.class_layout.specs.Notes.{NotedClass, Prepared}
 use Rattle.table_records.specs.Named.{slotPlace, namedAt}
-use Rattle.class_layout.specs.Words.{wordOf, alignOfWord, setsOfWord, setsOne, SaysSet}
+use Rattle.class_layout.specs.Words.{wordOf, setsOne, SaysSet}
 use Rattle.class_layout.proofs.Named.{placeIn, OfShape, of-class, namedIn, named-in, optional-sets}
-use Rattle.class_layout.proofs.Setting.{says-none, says-one, says-both}
+use Rattle.class_layout.proofs.Setting.{one-small, both-small, says-none, says-one, says-both}
+use Rattle.class_layout.proofs.NotedWords.{align-word, sets-word, sets-of-small}
+use Rattle.class_layout.proofs.NumbersNoted.{numbers-length, numbers-align, numbers-sets, numbers-number}
 use Rattle.class_layout.proofs.Aligned.{aligned}
 use Rattle.class_layout.proofs.Ends.{Ends, whole-ends}
 use Rattle.class_layout.proofs.Turns.{whole-inside}
-
--- A word says what it was made of
-
-align-word : (e n : ℕ) → e ≤ 6 → alignOfWord (wordOf e n) ≡ e
-unfolding alignOfWord wordOf
-align-word e n l = omega arith
-
-sets-word : (e n : ℕ) → setsOfWord (wordOf e n) ≡ n
-unfolding setsOfWord wordOf
-sets-word e n = omega arith
+use Rattle.class_layout.proofs.Numbered.{class-opens-none, class-begins}
 
 -- A record: f and h are what stands, f′ and h′ what is noted; they agree on classes behind the byte `at`
 
@@ -124,6 +120,43 @@ module _ (t : List ℕ) (at : ℕ) (g : ℕ → Type 0) (f f′ : ℕ → Stood)
       (same (at + 3 + 18 * u8 t (at + 2)) (omega arith) (w .1) .1)
   shape-says options e w = options-say (at + 3) (u8 t (at + 2)) (omega arith) (w .1)
 
+-- what it sets is a small number, where u says small numbers
+
+module _ (t : List ℕ) (bytes : Bytes t) (f : ℕ → Stood) (u : ℕ → ℕ) (small : (q : ℕ) → u q < 8192) where
+  named-small : (at : ℕ) → namedAt t at < 256
+  unfolding namedAt u8
+  named-small at = by (eqb (slotPlace (u8 t at)) 0)
+    where
+      by : (b : Bool) → elim b [ true ↦ noSlot | false ↦ u8 t (at + slotPlace (u8 t at)) ] < 256
+      by true = omega arith
+      by false = bytes (at + slotPlace (u8 t at))
+
+  members-small : (p n : ℕ) → setsMembers u f p n < 8192
+  unfolding setsMembers
+  members-small p zero = omega arith
+  members-small p (suc n) = both-small _ _ (small p) (members-small ((f p) .next) n)
+
+  options-small : (p n : ℕ) → setsOptions u f t p n < 8192
+  unfolding setsOptions
+  options-small p zero = omega arith
+  options-small p (suc n) = both-small _ _ (small (optionClass t p)) (options-small ((f (optionClass t p)) .next) n)
+
+  shape-small : (at : ℕ) (s : Shape) → setsIn u f t at s < 8192
+  unfolding setsIn
+  shape-small at (bitField k) = one-small _ (named-small at)
+  shape-small at lebField = one-small _ (named-small at)
+  shape-small at signedLebField = one-small _ (named-small at)
+  shape-small at zeroString = one-small _ (named-small at)
+  shape-small at text = one-small _ (named-small at)
+  shape-small at blob = one-small _ (named-small at)
+  shape-small at textOf = one-small _ (named-small at)
+  shape-small at blobOf = one-small _ (named-small at)
+  shape-small at members = members-small (at + 3) (u8 t (at + 1))
+  shape-small at elements = small (at + 4)
+  shape-small at elementsOf = small (at + 3)
+  shape-small at option? = small (at + 3 + 18 * u8 t (at + 2))
+  shape-small at options = options-small (at + 3) (u8 t (at + 2))
+
 module _ (t : List ℕ) where
   -- A byte
 
@@ -154,10 +187,15 @@ module _ (t : List ℕ) where
       (of-class (u8 t p) (w .low) (w .high) .slot) (w .parts) in
       record { end = r .0; align = r .1; says = says }
 
-  noted-here : (x : Notes) (d p : ℕ) → From (suc p) x → whole d t p
+  sets-small : (x : Notes) (p : ℕ) → Bytes t → setsBy t x p < 8192
+  unfolding setsNoted
+  sets-small x p bytes =
+      shape-small t bytes (endNoted (x .sizes)) (setsNoted (x .aligns)) (λ q. sets-of-small (getD (x .aligns) q 0)) p (shapeOf (u8 t p))
+
+  noted-here : (x : Notes) (d p : ℕ) → Bytes t → From (suc p) x → whole d t p
       → NotedClass t (notes (set (x .sizes) p (sizeTo t p (endBy t x p))) (set (x .aligns) p (wordOf (alignBy t x p) (setsBy t x p)))) d p
   unfolding sizeTo alignNoted setsNoted
-  noted-here x d p b w =
+  noted-here x d p bytes b w =
       let n = by-notes x d p b w in
       let e = whole-ends d t p w in
       let l = whole-inside d t p w in
@@ -168,7 +206,7 @@ module _ (t : List ℕ) where
       record {
         size = rw (getD-set-same (x .sizes) p (sizeTo t p (endBy t x p)) 0 s, ← n .end, f, sizeTo) (omega (arith, e .onward));
         align = rw (word) (align-word (alignBy t x p) (setsBy t x p) (rw (n .align) at (aligned d t p w .1))) ∙ sym (n .align);
-        sets = rw (word, sets-word (alignBy t x p) (setsBy t x p)) (n .says);
+        sets = rw (word, sets-word (alignBy t x p) (setsBy t x p) (sets-small x p bytes)) (n .says);
       }
 
   noted-other : (x : Notes) (d p q v a : ℕ) → p < q → NotedClass t x d q
@@ -183,17 +221,20 @@ module _ (t : List ℕ) where
         sets = rw word (n .sets);
       }
 
-  note-at : (p : ℕ) (x : Notes) → From (suc p) x → From p (noteAt t p x)
+  note-at : (p : ℕ) (x : Notes) → Bytes t → From (suc p) x → From p (noteAt t p x)
   unfolding noteAt
-  note-at p x b = by (isClass (u8 t p)) refl
+  note-at p x bytes b = by (isClass (u8 t p)) refl
     where
       by : (c : Bool) → isClass (u8 t p) ≡ c
-          → From p (elim c [ true ↦ notes (set (x .sizes) p (sizeTo t p (endBy t x p))) (set (x .aligns) p (wordOf (alignBy t x p) (setsBy t x p))) | false ↦ x ])
+          → From p (elim c [
+            | true ↦ notes (set (x .sizes) p (sizeTo t p (endBy t x p))) (set (x .aligns) p (wordOf (alignBy t x p) (setsBy t x p)))
+            | false ↦ x
+          ])
       by true e = record {
         room = (rw length-set (b .room .0), rw length-set (b .room .1));
         classes = λ d q l w. ⊎-elim
             (λ (m : p < q). noted-other x d p q _ _ m (b .classes d q m w))
-            (λ (m : q ≤ p). let k : p ≡ q = omega arith in rw (← k) (noted-here x d p b (rw (← k) at w)))
+            (λ (m : q ≤ p). let k : p ≡ q = omega arith in rw (← k) (noted-here x d p bytes b (rw (← k) at w)))
             (lt-or-ge p q);
       }
       by false e = record {
@@ -206,14 +247,14 @@ module _ (t : List ℕ) where
 
   -- The bytes from the back
 
-  note-below : (p : ℕ) (x : Notes) → From p x → From 0 (noteBelow t p x)
+  note-below : (p : ℕ) (x : Notes) → Bytes t → From p x → From 0 (noteBelow t p x)
   unfolding noteBelow
-  note-below zero x b = b
-  note-below (suc p) x b = note-below p (noteAt t p x) (note-at p x b)
+  note-below zero x bytes b = b
+  note-below (suc p) x bytes b = note-below p (noteAt t p x) bytes (note-at p x bytes b)
 
-  pub all-noted : (x : Notes) → length t ≤ length (x .sizes) → length t ≤ length (x .aligns) → From 0 (noteBelow t (length t) x)
-  all-noted x s a =
-      note-below (length t) x (record { room = (s, a); classes = λ d q l w. absurd (omega (arith, whole-inside d t q w)) })
+  pub all-noted : (x : Notes) → Bytes t → length t ≤ length (x .sizes) → length t ≤ length (x .aligns) → From 0 (noteBelow t (length t) x)
+  all-noted x bytes s a =
+      note-below (length t) x bytes (record { room = (s, a); classes = λ d q l w. absurd (omega (arith, whole-inside d t q w)) })
 
   -- The fragments
 
@@ -253,23 +294,22 @@ module _ (t : List ℕ) where
   both [] f p q = tt
   both (o ∷ os) f p q = (f o (p .0) (q .0), both os f (p .1) (q .1))
 
-  pub low-kind : (d p : ℕ) → whole d t p → 5 < u8 t p
-  unfolding whole
-  low-kind zero p w = absurd w
-  low-kind (suc d) p w = omega (arith, w .low)
+  -- All, with numbers
 
-  pub prepared : (x : Notes) → AllFragments t (fragmentsOf t) → length t ≤ 65536 → length t ≤ length (x .sizes)
+  pub prepared : (x : Notes) → Bytes t → AllFragments t (fragmentsOf t) → length t ≤ 65536 → length t ≤ length (x .sizes)
       → length t ≤ length (x .aligns)
       → Prepared t (notesOf t x)
-  unfolding notesOf
-  prepared x h k s a =
-      let b = all-noted x s a in
+  unfolding notesOf noteNumbers
+  prepared x bytes h k s a =
+      let b = all-noted x bytes s a in
       let y = noteBelow t (length t) x in
+      let room = b .room .1 in
       let c : (d p : ℕ) → whole d t p → NotedClass t (notesOf t x) d p = λ d p w.
+      let n = b .classes d p (omega arith) w in
       record {
-        size = rw (not-fragment (fragmentsOf t) (y .sizes) p h (low-kind d p w)) (b .classes d p (omega arith) w .size);
-        align = b .classes d p (omega arith) w .align;
-        sets = b .classes d p (omega arith) w .sets;
+        size = rw (not-fragment (fragmentsOf t) (y .sizes) p h (class-opens-none d t p w)) (n .size);
+        align = numbers-align t (y .aligns) room p ∙ n .align;
+        sets = rw (numbers-sets t (y .aligns) room p) (n .sets);
       } in
       record {
         sized = record {
@@ -283,6 +323,7 @@ module _ (t : List ℕ) where
               })
               h (fragment-sizes (fragmentsOf t) (y .sizes) h (b .room .0));
         };
-        room = b .room .1;
+        room = rw (numbers-length t (length t) 0 0 (y .aligns)) room;
         classes = c;
+        numbers = λ d p w. numbers-number t (y .aligns) p room (class-begins d t p w) (whole-inside d t p w);
       }

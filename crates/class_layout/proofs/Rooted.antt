@@ -16,8 +16,10 @@ use Rattle.rules.specs.Parse.{bad, good, then, one, missing, isRoot, anyRoot, p
 use Rattle.rules.specs.Faults.{Ids, top, Under, rootFault}
 use Rattle.facts.proofs.Numbers.{lt-or-ge}
 use Rattle.facts.proofs.Truth.{and-left, and-right, and-none}
+use Rattle.class_layout.specs.Numbers.{Begins}
 use Rattle.class_layout.specs.Trees.{classAt, nextAt, whole}
 use Rattle.class_layout.specs.Fragments.{rootHere, rootPlaces, behindRoots, mapOption}
+use Rattle.class_layout.proofs.Numbers.{begins-behind}
 use Rattle.class_layout.proofs.Records.{root-kind, root-record, root-size, behind-at}
 use Rattle.class_layout.proofs.Sound.{bad-good, good-value, good-rest, then-good, one-good}
 use Rattle.class_layout.proofs.Stands.{Stands, stands}
@@ -54,7 +56,7 @@ module _ (t : List ℕ) where
           rw (e, no-root n at (recordOf (drop at t)) refl (eqb-false (u8 t at) 6 e))
           (and-none (leb (size (drop at t)) (length (drop at t))) ∙ sym (and-none (ltb (at + 1) (length t))))
 
-  root-byte : (at n : ℕ) → rootHere t at n ≡ true → u8 t at ≡ 6
+  pub root-byte : (at n : ℕ) → rootHere t at n ≡ true → u8 t at ≡ 6
   unfolding rootHere
   root-byte at n h = eqb-true _ 6 (and-left (eqb (u8 t at) 6) _ (and-right (ltb (at + 1) (length t)) _ h))
 
@@ -66,6 +68,7 @@ module _ (t : List ℕ) where
     pub rest : x ≡ drop next t
     pub within : next ≤ length t
     pub onward : at ≤ next
+    pub begins : Begins t next
 
   none-some : {p : ℕ} → none ≡ some p → ⊥
   none-some h = let z : _≡_ {A = ℕ} 0 1 = cc in omega arith
@@ -80,6 +83,7 @@ module _ (t : List ℕ) where
     rest = sym (good-rest e) ∙ b .rest;
     within = b .within;
     onward = omega (arith, a .onward, b .onward);
+    begins = b .begins;
   }
     where
       wholes : (i p : ℕ) → getD (some (at + 2) ∷ ps) i none ≡ some p → whole depthLimit t p
@@ -97,6 +101,7 @@ module _ (t : List ℕ) where
         rest = sym (good-rest e) ∙ b .rest;
         within = b .within;
         onward = b .onward;
+        begins = b .begins;
       }
     where
       wholes : (i p : ℕ) → getD (none ∷ ps) i none ≡ some p → whole depthLimit t p
@@ -104,9 +109,9 @@ module _ (t : List ℕ) where
       wholes (suc i) p e = b .wholes i p e
 
   pub roots-stand : (q : Ids) (timed u : Bool) (ns : List ℕ) (at : ℕ) (cs : List (Option Class)) (x : List ℕ) → at ≤ length t
-      → parseRoots q timed u ns (drop at t) ≡ good cs x → RootsStand (rootPlaces t at ns) at (behindRoots t at ns) cs x
+      → Begins t at → parseRoots q timed u ns (drop at t) ≡ good cs x → RootsStand (rootPlaces t at ns) at (behindRoots t at ns) cs x
   unfolding parseRoots rootPlaces behindRoots
-  roots-stand q timed u [] at cs x l e = by (not (missing (drop at t)) && anyRoot (recordOf (drop at t))) e
+  roots-stand q timed u [] at cs x l begun e = by (not (missing (drop at t)) && anyRoot (recordOf (drop at t))) e
     where
       by : (b : Bool) → elim b [ true ↦ one q rootFault (λ r x. bad 9 x) (drop at t) | false ↦ good [] (drop at t) ] ≡ good cs x
           → RootsStand [] at at cs x
@@ -117,15 +122,17 @@ module _ (t : List ℕ) where
         rest = sym (good-rest e);
         within = l;
         onward = omega arith;
+        begins = begun;
       }
-  roots-stand q timed u (n ∷ ns) at cs x l e =
-      by (rootHere t at n) refl (λ at cs x l e. roots-stand q timed u ns at cs x l e) (rw (root-here at n, parseRoots) at e)
+  roots-stand q timed u (n ∷ ns) at cs x l begun e =
+      by (rootHere t at n) refl (λ at cs x l begun e. roots-stand q timed u ns at cs x l begun e) (rw (root-here at n, parseRoots) at e)
     where
       under : Under
       under = record { root = n; timed = timed; uuid = u }
 
       Rest : Type 0
-      Rest = (at : ℕ) (cs : List (Option Class)) (x : List ℕ) → at ≤ length t → parseRoots q timed u ns (drop at t) ≡ good cs x
+      Rest = (at : ℕ) (cs : List (Option Class)) (x : List ℕ) → at ≤ length t → Begins t at
+          → parseRoots q timed u ns (drop at t) ≡ good cs x
           → RootsStand (rootPlaces t at ns) at (behindRoots t at ns) cs x
 
       by : (b : Bool) → rootHere t at n ≡ b → Rest
@@ -138,15 +145,16 @@ module _ (t : List ℕ) where
           (elim b [ true ↦ some (at + 2) ∷ rootPlaces t (nextAt depthLimit t (at + 2)) ns | false ↦ none ∷ rootPlaces t at ns ]) at
           (elim b [ true ↦ behindRoots t (nextAt depthLimit t (at + 2)) ns | false ↦ behindRoots t at ns ]) cs x
       by true h rec e =
-          let r : behind (drop at t) ≡ drop (at + 2) t = behind-at t at ∙ ap (λ k. drop (at + k) t) (root-size t at (root-byte at n h)) in
+          let size = root-size t at (root-byte at n h) in
+          let r : behind (drop at t) ≡ drop (at + 2) t = behind-at t at ∙ ap (λ k. drop (at + k) t) size in
           let a = then-good (parseClass q under depthLimit top (drop (at + 2) t)) _ cs x (rw r at e) in
-          let b = stands q under depthLimit top t (at + 2) (a .value) (a .rest) (a .first) in
+          let b = stands q under depthLimit top t (at + 2) (a .value) (a .rest) (begins-behind begun 2 size) (a .first) in
           let c = then-good (parseRoots q timed u ns (drop (nextAt depthLimit t (at + 2)) t)) _ cs x (rw (b .rest) at (a .second)) in
-          let d = rec (nextAt depthLimit t (at + 2)) (c .value) (c .rest) (b .within) (c .first) in
+          let d = rec (nextAt depthLimit t (at + 2)) (c .value) (c .rest) (b .within) (b .begins) (c .first) in
           root-there at _ _ (a .value) (c .value) cs (a .rest) (c .rest) x b d (c .second)
       by false h rec e =
           let c = then-good (parseRoots q timed u ns (drop at t)) _ cs x e in
-          root-absent at _ _ (c .value) cs (c .rest) x (rec at (c .value) (c .rest) l (c .first)) (c .second)
+          root-absent at _ _ (c .value) cs (c .rest) x (rec at (c .value) (c .rest) l begun (c .first)) (c .second)
 
   -- the ith root's class
   pub root-class : (ps : List (Option ℕ)) (at next : ℕ) (cs : List (Option Class)) (x : List ℕ) (i : ℕ) → RootsStand ps at next cs x

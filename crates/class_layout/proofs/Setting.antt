@@ -49,6 +49,20 @@ by-same {P} a b y n = by (eqb a b) refl
     by true e = y (eqb-true a b e)
     by false e = n (eqb-false a b e)
 
+-- A number of what is set is small
+
+pub one-small : (i : ℕ) → i < 256 → setsOne i < 8192
+one-small i l = by-same i noSlot
+    (λ e. omega (arith, one-none i e))
+    (λ n. omega (arith, one-there i n))
+
+pub both-small : (a b : ℕ) → a < 8192 → b < 8192 → setsBoth a b < 8192
+both-small a b l h = by-same a 0
+    (λ e. omega (arith, both-first a b e))
+    (λ n. by-same b 0
+    (λ e. omega (arith, both-second a b n e))
+    (λ k. by-same a b (λ s. omega (arith, both-same a b n k s)) (λ d. omega (arith, both-several a b n k d))))
+
 -- Three classes
 
 pub both-none : (a : ℕ) → setsBoth a 0 ≡ a

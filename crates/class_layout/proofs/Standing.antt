@@ -109,6 +109,7 @@ module _ (t : List ℕ) (p : ℕ) where
     there = w .there;
     parts = leaf-stands (stoodAt d t) (stoodAt 0 t) t p (whole d t) (whole 0 t) (shapeOf (u8 t p)) (leafy (u8 t p) h) (w .parts);
     kinds = leaf-kinds (stoodAt d t) (stoodAt 0 t) t p (shapeOf (u8 t p)) (leafy (u8 t p) h);
+    begins = w .begins;
   }
 
   pub leaf-class : (d : ℕ) → whole d t p → u8 t p < 28 → classAt d t p ≡ classAt 1 t p

@@ -1,4 +1,5 @@
 -- What the rules' parse accepts at a byte of a table is the class that stands there, whole, and the parse goes on where that class ends.
+-- It goes from record to record: where one begins at that byte, one begins behind the class too.
 -- In order: ranges; members and options, whose classes are one depth less; a class.
 use mathlib.Core.Path.{_≡_, refl, sym, ap, _∙_}
 use Prim.Native.Nat.{ℕ, zero, suc, _+_, _*_, _≤_, _<_}
@@ -18,21 +19,25 @@ use Rattle.rules.specs.Parse.{good, Parser, then, Ranges, rangeOf, countOf, the
 use Rattle.rules.specs.Parse.{parseShape, parseBody, parseClass}
 use Rattle.rules.specs.Faults.{Ids, Spot, inside, memberSpot, Under, signOf, otherSign, meets, rangeFault, optionFault, out, classFault}
 use Rattle.facts.proofs.Truth.{or-false, clash}
+use Rattle.class_layout.specs.Numbers.{Begins}
 use Rattle.class_layout.specs.Trees.{shapeOf, recordSize, rangesAt, signAt, optionClass, optionalOf, Stood, membersAt, behindMembers}
 use Rattle.class_layout.specs.Trees.{optionsAt, behindOptions, classIn, nextIn, stoodAt, classAt, nextAt, wholeMembers, wholeOptions}
 use Rattle.class_layout.specs.Trees.{wholeIn, whole, rangeKinds, optionKinds, kindsIn}
+use Rattle.class_layout.proofs.Numbers.{begins-behind}
 use Rattle.class_layout.proofs.Records.{range-at, option-at}
 use Rattle.class_layout.proofs.ClassRecords.{saidAt, class-at}
 use Rattle.facts.proofs.Faults.{pick-false, pick-zero}
 use Rattle.class_layout.proofs.Sound.{bad-good, good-value, good-rest, then-good, one-good, Sane, class-sane}
 
--- of what stands from a byte on, a by the table's bytes: W holds of it, the parse found it, b, and the rest x begins at `next`
+-- of what stands from a byte on, a by the table's bytes: W holds of it, the parse found it, b, and the rest x begins at `next`, where a
+-- record does
 pub record Took {A : Type 0} (t : List ℕ) (W : Type 0) (a : A) (from next : ℕ) (b : A) (x : List ℕ) : Type 0 where
   pub stands : W
   pub says : a ≡ b
   pub rest : x ≡ drop next t
   pub within : next ≤ length t
   pub onward : from ≤ next
+  pub begins : Begins t next
 
 -- a class that holds what was taken last, m of it
 took-inside : {A : Type 0} (t : List ℕ) {W U : Type 0} (m : A → Class) {a b : A} (at : ℕ) {from next : ℕ} {k c : Class} {x y : List ℕ} → U
@@ -44,6 +49,7 @@ took-inside t m at v w l f e = record {
   rest = sym (good-rest e) ∙ w .rest;
   within = w .within;
   onward = omega (arith, w .onward);
+  begins = w .begins;
 }
 
 -- Ranges
@@ -85,9 +91,9 @@ module _ (t : List ℕ) where
   RangesStand at n o p x = Took t (rangeKinds t at n) (signFrom n (signAt t at) o, rangesAt t at n) at (at + 18 * n) p x
 
   ranges-stand : (q : Ids) (earlier : List Range) (n : ℕ) (o : Option Sign) (at : ℕ) (p : Ranges) (x : List ℕ) → at ≤ length t
-      → parseRanges q earlier n o (drop at t) ≡ good p x → RangesStand at n o p x
+      → Begins t at → parseRanges q earlier n o (drop at t) ≡ good p x → RangesStand at n o p x
   unfolding parseRanges rangesAt signAt rangeFault rangeOf rangeKinds
-  ranges-stand q earlier zero o at p x l h =
+  ranges-stand q earlier zero o at p x l begun h =
       let e : at ≡ at + 18 * 0 = omega arith in
       record {
         stands = tt;
@@ -95,14 +101,15 @@ module _ (t : List ℕ) where
         rest = sym (good-rest h) ∙ ap (λ j. drop j t) e;
         within = omega arith;
         onward = omega arith;
+        begins = rw (← e) begun;
       }
-  ranges-stand q earlier (suc n) o at p x l h =
+  ranges-stand q earlier (suc n) o at p x l begun h =
       let f = one-good q _ _ t at p x h in
-      by (λ o at p x l h. ranges-stand q earlier n o at p x l h) (recordOf (drop at t)) refl (f .fine) (f .there) (f .rest)
+      by (λ o at p x l begun h. ranges-stand q earlier n o at p x l begun h) (recordOf (drop at t)) refl (f .fine) (f .there) (f .rest)
     where
       Rest : Type 0
-      Rest = (o : Option Sign) (at : ℕ) (p : Ranges) (x : List ℕ) → at ≤ length t → parseRanges q earlier n o (drop at t) ≡ good p x
-          → RangesStand at n o p x
+      Rest = (o : Option Sign) (at : ℕ) (p : Ranges) (x : List ℕ) → at ≤ length t → Begins t at
+          → parseRanges q earlier n o (drop at t) ≡ good p x → RangesStand at n o p x
 
       by : Rest → (r : Record) → recordOf (drop at t) ≡ r → rangeFault o earlier r ≡ 0 → at + size (drop at t) ≤ length t
           → then (parseRanges q earlier n ((rangeOf r) .0) (drop (at + size (drop at t)) t)) (λ p x. good (p .0, (rangeOf r) .1 ++ p .1) x)
@@ -116,7 +123,8 @@ module _ (t : List ℕ) where
       by rec (range g a b) e z m k =
           let r = range-at t at g a b e in
           let c = then-good _ _ p x (rw (r .bytes) at k) in
-          let s = rec (some (signOf g)) (at + 18) (c .value) (c .rest) (omega (arith, r .bytes)) (c .first) in
+          let s = rec (some (signOf g)) (at + 18) (c .value) (c .rest) (omega (arith, r .bytes)) (begins-behind begun 18 (r .bytes))
+          (c .first) in
           let g₁ : u8 t (at + 1) ≡ g = cc (r .says) in
           let l₁ : u64 t (at + 2) ≡ a = cc (r .says) in
           let h₁ : u64 t (at + 10) ≡ b = cc (r .says) in
@@ -130,33 +138,37 @@ module _ (t : List ℕ) where
             rest = sym (good-rest (c .second)) ∙ s .rest ∙ ap (λ j. drop j t) d;
             within = omega (arith, s .within);
             onward = omega arith;
+            begins = rw d at (s .begins);
           }
 
   -- Members and options: g says of a byte that a class stands whole there, h what stands there, f parses it
   module _ (q : Ids) (f : Spot → Parser Class) (g : ℕ → Type 0) (h : ℕ → Stood)
-      (deeper : (z : Spot) (p : ℕ) (c : Class) (x : List ℕ) → f z (drop p t) ≡ good c x
+      (deeper : (z : Spot) (p : ℕ) (c : Class) (x : List ℕ) → Begins t p → f z (drop p t) ≡ good c x
       → Took t (g p) ((h p) .class) (p + 1) ((h p) .next) c x) where
-    members-stand : (z : Spot) (n at : ℕ) (cs : Classes) (x : List ℕ) → at ≤ length t → parseMembers f z n (drop at t) ≡ good cs x
+    members-stand : (z : Spot) (n at : ℕ) (cs : Classes) (x : List ℕ) → at ≤ length t → Begins t at
+        → parseMembers f z n (drop at t) ≡ good cs x
         → Took t (wholeMembers g h at n) (membersAt h at n) at (behindMembers h at n) cs x
     unfolding parseMembers wholeMembers membersAt behindMembers
-    members-stand z zero at cs x l e = record {
+    members-stand z zero at cs x l begun e = record {
       stands = tt;
       says = good-value e;
       rest = sym (good-rest e);
       within = l;
       onward = omega arith;
+      begins = begun;
     }
-    members-stand z (suc n) at cs x l e =
+    members-stand z (suc n) at cs x l begun e =
         let a = then-good (f z (drop at t)) _ cs x e in
-        let b = deeper z at (a .value) (a .rest) (a .first) in
+        let b = deeper z at (a .value) (a .rest) begun (a .first) in
         let c = then-good (parseMembers f inside n (drop ((h at) .next) t)) _ cs x (rw (b .rest) at (a .second)) in
-        let d = members-stand inside n ((h at) .next) (c .value) (c .rest) (b .within) (c .first) in
+        let d = members-stand inside n ((h at) .next) (c .value) (c .rest) (b .within) (b .begins) (c .first) in
         record {
           stands = (b .stands, d .stands);
           says = rw (b .says, d .says) (good-value (c .second));
           rest = sym (good-rest (c .second)) ∙ d .rest;
           within = d .within;
           onward = omega (arith, b .onward, d .onward);
+          begins = d .begins;
         }
 
     abbrev OptionsStand : ℕ → ℕ → Option Sign → Option Sign × Options → List ℕ → Type 0
@@ -182,19 +194,26 @@ module _ (t : List ℕ) where
           rest = sym (good-rest e) ∙ w .rest;
           within = w .within;
           onward = omega (arith, d .onward, w .onward);
+          begins = w .begins;
         }
 
-    options-stand : (n : ℕ) (p : Ranges) (at : ℕ) (os : Option Sign × Options) (x : List ℕ) → at ≤ length t
+    options-stand : (n : ℕ) (p : Ranges) (at : ℕ) (os : Option Sign × Options) (x : List ℕ) → at ≤ length t → Begins t at
         → parseOptions q f n p (drop at t) ≡ good os x → OptionsStand at n (p .0) os x
     unfolding parseOptions wholeOptions optionKinds optionsAt behindOptions optionFault countOf out
-    options-stand zero p at os x l e =
-        record { stands = (tt, tt); says = unfold signFrom in good-value e; rest = sym (good-rest e); within = l; onward = omega arith }
-    options-stand (suc n) p at os x l e =
+    options-stand zero p at os x l begun e = record {
+      stands = (tt, tt);
+      says = unfold signFrom in good-value e;
+      rest = sym (good-rest e);
+      within = l;
+      onward = omega arith;
+      begins = begun;
+    }
+    options-stand (suc n) p at os x l begun e =
         let k = one-good q _ _ t at os x e in
-        by (λ p at os x l e. options-stand n p at os x l e) (recordOf (drop at t)) refl (k .fine) (k .there) (k .rest)
+        by (λ p at os x l begun e. options-stand n p at os x l begun e) (recordOf (drop at t)) refl (k .fine) (k .there) (k .rest)
       where
         Rest : Type 0
-        Rest = (p : Ranges) (at : ℕ) (os : Option Sign × Options) (x : List ℕ) → at ≤ length t
+        Rest = (p : Ranges) (at : ℕ) (os : Option Sign × Options) (x : List ℕ) → at ≤ length t → Begins t at
             → parseOptions q f n p (drop at t) ≡ good os x → OptionsStand at n (p .0) os x
 
         by : Rest → (r : Record) → recordOf (drop at t) ≡ r → optionFault r ≡ 0 → at + size (drop at t) ≤ length t
@@ -210,12 +229,14 @@ module _ (t : List ℕ) where
             let r = option-at t at j e in
             let j₁ : j ≡ u8 t (at + 1) = cc (r .says) in
             let a = then-good (parseRanges q (p .1) (u8 t (at + 1)) (p .0) (drop (at + 2) t)) _ os x (rw (r .bytes, j₁) at k) in
-            let b = ranges-stand q (p .1) (u8 t (at + 1)) (p .0) (at + 2) (a .value) (a .rest) (omega (arith, r .bytes)) (a .first) in
+            let b = ranges-stand q (p .1) (u8 t (at + 1)) (p .0) (at + 2) (a .value) (a .rest) (omega (arith, r .bytes))
+            (begins-behind begun 2 (r .bytes)) (a .first) in
             let c = then-good (f inside (drop (optionClass t at) t)) _ os x (rw (b .rest) at (a .second)) in
-            let d = deeper inside (optionClass t at) (c .value) (c .rest) (c .first) in
+            let d = deeper inside (optionClass t at) (c .value) (c .rest) (b .begins) (c .first) in
             let v = then-good (parseOptions q f n (a .value .0, p .1 ++ a .value .1) (drop ((h (optionClass t at)) .next) t)) _ os x
             (rw (d .rest) at (c .second)) in
-            let w = rec (a .value .0, p .1 ++ a .value .1) ((h (optionClass t at)) .next) (v .value) (v .rest) (d .within) (v .first) in
+            let w = rec (a .value .0, p .1 ++ a .value .1) ((h (optionClass t at)) .next) (v .value) (v .rest) (d .within) (d .begins)
+            (v .first) in
             let i : 1 ≤ j = ltb-false j 1 (or-false (ltb j 1) _ (pick-false _ 9 0 z) .0) in
             option-stands n (p .0) at (a .value) (c .value) (v .value) os (a .rest) (c .rest) (v .rest) x (r .kind) (omega arith) b d w
             (v .second)
@@ -227,14 +248,16 @@ module _ (t : List ℕ) where
     leaf-stands : (s : Shape) (at : ℕ) (c : Class) (x : List ℕ) → wholeIn g h t at s → kindsIn h t at s
         → nextIn h t at s ≡ at + recordSize s
         → 1 ≤ recordSize s
-        → at + recordSize s ≤ length t → good (classIn h t at s) (drop (at + recordSize s) t) ≡ good c x → ShapeStands at s c x
-    leaf-stands s at c x w v n k l e =
+        → at + recordSize s ≤ length t → Begins t (at + recordSize s)
+        → good (classIn h t at s) (drop (at + recordSize s) t) ≡ good c x → ShapeStands at s c x
+    leaf-stands s at c x w v n k l begun e =
         record {
           stands = (w, v);
           says = good-value e;
           rest = sym (good-rest e) ∙ ap (λ j. drop j t) (sym n);
           within = omega arith;
           onward = omega arith;
+          begins = rw n begun;
         }
 
     flagged-or-not : (i n at : ℕ) (c : Class)
@@ -249,49 +272,50 @@ module _ (t : List ℕ) where
     first-sign (suc n) s l = refl
 
     shape-stands : (z : Spot) (at : ℕ) (s : Shape) (c : Class) (x : List ℕ) → Sane (saidAt t at s) → at + recordSize s ≤ length t
+        → Begins t (at + recordSize s)
         → parseShape q f z (saidAt t at s) ((saidAt t at s) .shape) (drop (at + recordSize s) t) ≡ good c x → ShapeStands at s c x
     unfolding parseShape saidAt wholeIn kindsIn classIn nextIn recordSize
-    shape-stands z at (bitField bitArray) c x k l e =
-        leaf-stands (bitField bitArray) at c x (k .low, k .high, k .align) tt refl (omega arith) l e
-    shape-stands z at (bitField boolean) c x k l e =
-        leaf-stands (bitField boolean) at c x (k .low, k .high, k .align) tt refl (omega arith) l e
-    shape-stands z at (bitField unsignedInt) c x k l e =
-        leaf-stands (bitField unsignedInt) at c x (k .low, k .high, k .align) tt refl (omega arith) l e
-    shape-stands z at (bitField signedInt) c x k l e =
-        leaf-stands (bitField signedInt) at c x (k .low, k .high, k .align) tt refl (omega arith) l e
-    shape-stands z at (bitField float) c x k l e =
-        leaf-stands (bitField float) at c x (k .low, k .high, k .align) tt refl (omega arith) l e
-    shape-stands z at lebField c x k l e = leaf-stands lebField at c x tt tt refl (omega arith) l e
-    shape-stands z at signedLebField c x k l e = leaf-stands signedLebField at c x tt tt refl (omega arith) l e
-    shape-stands z at zeroString c x k l e = leaf-stands zeroString at c x tt tt refl (omega arith) l e
-    shape-stands z at text c x k l e = leaf-stands text at c x tt tt refl (omega arith) l e
-    shape-stands z at blob c x k l e = leaf-stands blob at c x tt tt refl (omega arith) l e
-    shape-stands z at textOf c x k l e = leaf-stands textOf at c x tt tt refl (omega arith) l e
-    shape-stands z at blobOf c x k l e = leaf-stands blobOf at c x tt tt refl (omega arith) l e
-    shape-stands z at members c x k l e =
+    shape-stands z at (bitField bitArray) c x k l begun e =
+        leaf-stands (bitField bitArray) at c x (k .low, k .high, k .align) tt refl (omega arith) l begun e
+    shape-stands z at (bitField boolean) c x k l begun e =
+        leaf-stands (bitField boolean) at c x (k .low, k .high, k .align) tt refl (omega arith) l begun e
+    shape-stands z at (bitField unsignedInt) c x k l begun e =
+        leaf-stands (bitField unsignedInt) at c x (k .low, k .high, k .align) tt refl (omega arith) l begun e
+    shape-stands z at (bitField signedInt) c x k l begun e =
+        leaf-stands (bitField signedInt) at c x (k .low, k .high, k .align) tt refl (omega arith) l begun e
+    shape-stands z at (bitField float) c x k l begun e =
+        leaf-stands (bitField float) at c x (k .low, k .high, k .align) tt refl (omega arith) l begun e
+    shape-stands z at lebField c x k l begun e = leaf-stands lebField at c x tt tt refl (omega arith) l begun e
+    shape-stands z at signedLebField c x k l begun e = leaf-stands signedLebField at c x tt tt refl (omega arith) l begun e
+    shape-stands z at zeroString c x k l begun e = leaf-stands zeroString at c x tt tt refl (omega arith) l begun e
+    shape-stands z at text c x k l begun e = leaf-stands text at c x tt tt refl (omega arith) l begun e
+    shape-stands z at blob c x k l begun e = leaf-stands blob at c x tt tt refl (omega arith) l begun e
+    shape-stands z at textOf c x k l begun e = leaf-stands textOf at c x tt tt refl (omega arith) l begun e
+    shape-stands z at blobOf c x k l begun e = leaf-stands blobOf at c x tt tt refl (omega arith) l begun e
+    shape-stands z at members c x k l begun e =
         let a = then-good (parseMembers f (memberSpot z) (u8 t (at + 1)) (drop (at + 3) t)) _ c x e in
-        let b = members-stand (memberSpot z) (u8 t (at + 1)) (at + 3) (a .value) (a .rest) l (a .first) in
+        let b = members-stand (memberSpot z) (u8 t (at + 1)) (at + 3) (a .value) (a .rest) l begun (a .first) in
         took-inside t (structure (u8 t (at + 2))) at ((k .align, b .stands), tt) b (omega arith) refl (a .second)
-    shape-stands z at elements c x k l e =
+    shape-stands z at elements c x k l begun e =
         let a = then-good (f inside (drop (at + 4) t)) _ c x e in
-        let b = deeper inside (at + 4) (a .value) (a .rest) (a .first) in
+        let b = deeper inside (at + 4) (a .value) (a .rest) begun (a .first) in
         took-inside t (staticArray (u16 t (at + 1)) (u8 t (at + 3))) at ((k .align, b .stands), tt) b (omega arith) refl (a .second)
-    shape-stands z at elementsOf c x k l e =
+    shape-stands z at elementsOf c x k l begun e =
         let a = then-good (f inside (drop (at + 3) t)) _ c x e in
-        let b = deeper inside (at + 3) (a .value) (a .rest) (a .first) in
+        let b = deeper inside (at + 3) (a .value) (a .rest) begun (a .first) in
         took-inside t (dynamicArray (u8 t (at + 1)) (u8 t (at + 2))) at ((k .align, b .stands), tt) b (omega arith) refl (a .second)
-    shape-stands z at option? c x k l e =
+    shape-stands z at option? c x k l begun e =
         let o = at + 3 + 18 * u8 t (at + 2) in
         let a = then-good (parseRanges q [] (u8 t (at + 2)) none (drop (at + 3) t)) _ c x e in
-        let b = ranges-stand q [] (u8 t (at + 2)) none (at + 3) (a .value) (a .rest) l (a .first) in
+        let b = ranges-stand q [] (u8 t (at + 2)) none (at + 3) (a .value) (a .rest) l begun (a .first) in
         let d = then-good (f inside (drop o t)) _ c x (rw (b .rest) at (a .second)) in
-        let w = deeper inside o (d .value) (d .rest) (d .first) in
+        let w = deeper inside o (d .value) (d .rest) (b .begins) (d .first) in
         took-inside t (selected (u8 t (at + 1)) (a .value)) at ((b .within, w .stands), b .stands) w (omega arith)
         (sym (flagged-or-not (u8 t (at + 1)) (u8 t (at + 2)) (at + 3) _) ∙ ap (λ p. selected (u8 t (at + 1)) p ((h o) .class)) (b .says))
         (d .second)
-    shape-stands z at options c x k l e =
+    shape-stands z at options c x k l begun e =
         let a = then-good (parseOptions q f (u8 t (at + 2)) (none, []) (drop (at + 3) t)) _ c x e in
-        let b = options-stand (u8 t (at + 2)) (none, []) (at + 3) (a .value) (a .rest) l (a .first) in
+        let b = options-stand (u8 t (at + 2)) (none, []) (at + 3) (a .value) (a .rest) l begun (a .first) in
         let i : 1 ≤ u8 t (at + 2) = k .options refl in
         let j : at + 5 ≡ at + 3 + 2 = omega arith in
         took-inside t (λ p. variant (u8 t (at + 1)) (theSign (p .0)) (p .1)) at ((i, b .stands .0), b .stands .1) b (omega arith)
@@ -304,15 +328,15 @@ module _ (t : List ℕ) where
 abbrev pub Stands : ℕ → List ℕ → ℕ → Class → List ℕ → Type 0
 Stands d t at c x = Took t (whole d t at) (classAt d t at) (at + 1) (nextAt d t at) c x
 
-pub stands : (q : Ids) (u : Under) (d : ℕ) (z : Spot) (t : List ℕ) (at : ℕ) (c : Class) (x : List ℕ)
+pub stands : (q : Ids) (u : Under) (d : ℕ) (z : Spot) (t : List ℕ) (at : ℕ) (c : Class) (x : List ℕ) → Begins t at
     → parseClass q u d z (drop at t) ≡ good c x → Stands d t at c x
 unfolding parseClass classFault parseBody whole stoodAt
-stands q u zero z t at c x e = absurd (bad-good (one-good q _ _ t at c x e .rest))
-stands q u (suc d) z t at c x e =
+stands q u zero z t at c x begun e = absurd (bad-good (one-good q _ _ t at c x e .rest))
+stands q u (suc d) z t at c x begun e =
     let k = one-good q _ _ t at c x e in
-    by (λ z p c x e. stands q u d z t p c x e) (recordOf (drop at t)) refl (k .fine) (k .there) (k .rest)
+    by (λ z p c x begun e. stands q u d z t p c x begun e) (recordOf (drop at t)) refl (k .fine) (k .there) (k .rest)
   where
-    by : ((z : Spot) (p : ℕ) (c : Class) (x : List ℕ) → parseClass q u d z (drop p t) ≡ good c x → Stands d t p c x)
+    by : ((z : Spot) (p : ℕ) (c : Class) (x : List ℕ) → Begins t p → parseClass q u d z (drop p t) ≡ good c x → Stands d t p c x)
         → (r : Record) → recordOf (drop at t) ≡ r → classFault u z false r ≡ 0 → at + size (drop at t) ≤ length t
         → parseBody q (parseClass q u d) z r (drop (at + size (drop at t)) t) ≡ good c x → Stands (suc d) t at c x
     by rec unknown e n m k = absurd (omega arith)
@@ -323,7 +347,8 @@ stands q u (suc d) z t at c x e =
     by rec (class y) e n m k =
         let a = class-at t at y e in
         let s = shape-stands t q (parseClass q u d) (whole d t) (stoodAt d t) rec z at (shapeOf (u8 t at)) c x
-        (rw (a .says) at (class-sane u z false y n)) (omega (arith, a .bytes)) (rw (a .bytes, a .says) at k) in
+        (rw (a .says) at (class-sane u z false y n)) (omega (arith, a .bytes)) (begins-behind begun _ (a .bytes))
+        (rw (a .bytes, a .says) at k) in
         record {
           stands = record {
             low = a .low;
@@ -331,9 +356,11 @@ stands q u (suc d) z t at c x e =
             there = omega (arith, a .bytes);
             parts = s .stands .0;
             kinds = s .stands .1;
+            begins = begun;
           };
           says = s .says;
           rest = s .rest;
           within = s .within;
           onward = s .onward;
+          begins = s .begins;
         }

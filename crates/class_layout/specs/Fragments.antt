@@ -12,6 +12,7 @@ use Rattle.rules.specs.Class.{Class}
 use Rattle.rules.specs.Record.{u8, u64}
 use Rattle.rules.specs.Table.{StreamClass, EventClass, Asked}
 use Rattle.rules.specs.Parse.{uuidOf}
+use Rattle.class_layout.specs.Numbers.{Begins}
 use Rattle.class_layout.specs.Trees.{classAt, nextAt, whole}
 
 -- Kinds of fragments, by their number
@@ -128,7 +129,8 @@ askedAt t = record {
   event = λ i j. mapOption (eventClassAt t) (findEventAt t (fragmentsOf t) i j);
 }
 
--- what holds of each fragment of an accepted table: its first record is there, its roots' classes stand whole, and it ends further on
+-- what holds of each fragment of an accepted table: its first record is there, its roots' classes stand whole, it ends further on, and it
+-- begins with one of the table's records
 pub record Fragment (t : List ℕ) (o : ℕ) : Type 0 where
   pub low : 2 ≤ u8 t o
   pub high : u8 t o ≤ 5
@@ -136,6 +138,7 @@ pub record Fragment (t : List ℕ) (o : ℕ) : Type 0 where
   pub roots : (i p : ℕ) → rootPlace t o i ≡ some p → whole depthLimit t p
   pub onward : o < behindFragment t o
   pub within : behindFragment t o ≤ length t
+  pub begins : Begins t o
 
 abbrev pub All : (ℕ → Type 0) → List ℕ → Type 0
 All P [] = Unit {0}

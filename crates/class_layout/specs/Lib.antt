@@ -1,3 +1,4 @@
+pub mod Numbers
 pub mod Trees
 pub mod Fragments
 pub mod Sizes

@@ -1,11 +1,12 @@
--- What `prepare` notes of a table in two lists: for each class its size with all that it holds, and the word of its alignment's exponent and
--- of what it sets (Words); for each fragment its size. Byte by byte from the back: what a class holds stands behind its record, and is noted before it.
+-- What `prepare` notes of a table in two lists: for each class its size with all that it holds, and the word of its alignment's exponent,
+-- of what it sets and of its record's number (Words); for each fragment its size. Byte by byte from the back: what a class holds stands
+-- behind its record, and is noted before it. Numbers are noted from the front, record by record.
 use mathlib.Core.Path.{_≡_}
 use Prim.Native.Nat.{ℕ, zero, suc, _+_, _-_, _*_, _≤_, _<_}
 use mathlib.Core.List.{List, [], _∷_}
 use mathlib.Core.Bool.{Bool, true, false, _&&_}
 use lib.ListN.{length, getD, set}
-use lib.Dec.{leb}
+use lib.Dec.{leb, ltb}
 use Rattle.rules.specs.Class.{string, sets}
 use Rattle.rules.specs.Record.{u8}
 use Rattle.rules.specs.Record.{Shape, bitField, lebField, signedLebField, zeroString, text, blob, textOf, blobOf, members, elements}
@@ -14,7 +15,8 @@ use Rattle.class_layout.specs.declared.Reach.{Reach}
 use Rattle.class_layout.specs.Trees.{shapeOf, optionClass, Stood, behindMembers, behindOptions, nextIn, classAt, nextAt, alignMembers}
 use Rattle.class_layout.specs.Trees.{alignIn, alignAt, whole}
 use Rattle.table_records.specs.Named.{namedAt}
-use Rattle.class_layout.specs.Words.{wordOf, alignOfWord, setsOfWord, setsOne, setsBoth, SaysSet}
+use Rattle.class_layout.specs.Numbers.{nextRecord, numberBehind, numberAt}
+use Rattle.class_layout.specs.Words.{wordOf, alignOfWord, setsOfWord, numberOfWord, numberedWord, setsOne, setsBoth, SaysSet}
 use Rattle.class_layout.specs.Fragments.{behindFragment, fragmentsOf}
 use Rattle.class_layout.specs.Sizes.{Sized}
 
@@ -25,7 +27,8 @@ pub record Notes : Type 0 where
 abbrev pub notes : List ℕ → List ℕ → Notes
 notes s a = record { sizes = s; aligns = a }
 
--- what the notes say of the class at a byte: where it ends, of which alone the definitions of Trees ask here, its exponent, and what it sets
+-- what the notes say of the class at a byte: where it ends, of which alone the definitions of Trees ask here, its exponent, what it sets,
+-- and its record's number
 unfoldable pub endNoted : List ℕ → ℕ → Stood
 endNoted s p = record { class = string; next = p + getD s p 0 }
 
@@ -34,6 +37,9 @@ alignNoted a p = alignOfWord (getD a p 0)
 
 unfoldable pub setsNoted : List ℕ → ℕ → ℕ
 setsNoted a p = setsOfWord (getD a p 0)
+
+unfoldable pub numberNoted : List ℕ → ℕ → ℕ
+numberNoted a p = numberOfWord (getD a p 0)
 
 -- what members set, and options, by what h says of each class; and what a class sets by its record, and h of what is behind it
 unfoldable pub setsMembers : (ℕ → ℕ) → (ℕ → Stood) → ℕ → ℕ → ℕ
@@ -94,12 +100,31 @@ unfoldable pub noteFragments : List ℕ → List ℕ → List ℕ → List ℕ
 noteFragments t [] s = s
 noteFragments t (o ∷ os) s = noteFragments t os (set s o (behindFragment t o - o))
 
+-- and then the numbers: of k records or fewer from the byte p on, which has the number m, into the words at their first bytes
+unfoldable pub numbersFrom : ℕ → List ℕ → ℕ → ℕ → List ℕ → List ℕ
+numbersFrom zero t p m a = a
+numbersFrom (suc k) t p m a =
+    elim (ltb p (length t)) [
+      | true ↦ numbersFrom k t (nextRecord t p) (numberBehind (u8 t (nextRecord t p)) m) (set a p (numberedWord (getD a p 0) m))
+      | false ↦ a
+    ]
+
+-- each record takes a byte or more, so that as many as there are bytes are enough
+unfoldable pub noteNumbers : List ℕ → List ℕ → List ℕ
+noteNumbers t a = numbersFrom (length t) t 0 0 a
+
 unfoldable pub notesOf : List ℕ → Notes → Notes
-notesOf t x = notes (noteFragments t (fragmentsOf t) ((noteBelow t (length t) x) .sizes)) ((noteBelow t (length t) x) .aligns)
+notesOf t x =
+    let y = noteBelow t (length t) x in
+    notes (noteFragments t (fragmentsOf t) (y .sizes)) (noteNumbers t (y .aligns))
 
 -- the sizes of all classes that stand whole are right
 abbrev pub SizedClasses : List ℕ → List ℕ → Type 0
 SizedClasses t s = (d p : ℕ) → whole d t p → p + getD s p 0 ≡ nextAt d t p
+
+-- and its record's number
+abbrev pub NumberedClasses : List ℕ → List ℕ → Type 0
+NumberedClasses t a = (d p : ℕ) → whole d t p → numberNoted a p ≡ numberAt t p
 
 -- the notes of the class at a byte are right
 pub record NotedClass (t : List ℕ) (x : Notes) (d p : ℕ) : Type 0 where
@@ -112,6 +137,7 @@ pub record Prepared (t : List ℕ) (x : Notes) : Type 0 where
   pub sized : Sized t (x .sizes)
   pub room : length t ≤ length (x .aligns)
   pub classes : (d p : ℕ) → whole d t p → NotedClass t x d p
+  pub numbers : NumberedClasses t (x .aligns)
 
 -- What the code finds of a class, and of members
 

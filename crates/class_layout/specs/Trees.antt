@@ -13,6 +13,7 @@ use Rattle.rules.specs.Record.{Shape, bitField, lebField, signedLebField, zeroS
 use Rattle.rules.specs.Record.{elementsOf, option?, options, u8, u16, u64}
 use Rattle.rules.specs.Faults.{roleOf, signOf}
 use Rattle.rules.specs.Parse.{orderOf}
+use Rattle.class_layout.specs.Numbers.{Begins}
 
 -- Kinds
 
@@ -214,13 +215,14 @@ kindsIn f t at elementsOf = Unit {0}
 kindsIn f t at option? = rangeKinds t (at + 3) (u8 t (at + 2))
 kindsIn f t at options = optionKinds f t (at + 3) (u8 t (at + 2))
 
--- the record itself is there, and is of a class; then what it announces, and of which kinds that is
+-- the record itself is there, and is of a class; then what it announces, and of which kinds that is; and it is one of the table's records
 pub record Whole (g : ℕ → Type 0) (f : ℕ → Stood) (t : List ℕ) (at : ℕ) : Type 0 where
   pub low : 16 ≤ u8 t at
   pub high : u8 t at ≤ 32
   pub there : at + recordSize (shapeOf (u8 t at)) ≤ length t
   pub parts : wholeIn g f t at (shapeOf (u8 t at))
   pub kinds : kindsIn f t at (shapeOf (u8 t at))
+  pub begins : Begins t at
 
 unfoldable pub whole : ℕ → List ℕ → ℕ → Type 0
 whole zero t at = ⊥

@@ -1,5 +1,6 @@
--- The word that is noted of a class: its alignment's exponent, 0 to 6, and behind it what the class sets with all that it holds, in a
--- number: 0 where no slot, i + 1 where just the slot i, `several` where more than one.
+-- The word that is noted of a class: its alignment's exponent, 0 to 6, in three bits; what the class sets with all that it holds, in a
+-- number of thirteen bits: 0 where no slot, i + 1 where just the slot i, `several` where more than one; and its record's number within its
+-- fragment.
 use mathlib.Core.Path.{_≡_}
 use Prim.Native.Nat.{ℕ, suc, _+_, _*_, _/_, _%_, _<_}
 use mathlib.Core.List.{List, []}
@@ -16,7 +17,14 @@ unfoldable pub alignOfWord : ℕ → ℕ
 alignOfWord w = w % 8
 
 unfoldable pub setsOfWord : ℕ → ℕ
-setsOfWord w = w / 8
+setsOfWord w = w / 8 % 8192
+
+unfoldable pub numberOfWord : ℕ → ℕ
+numberOfWord w = w / 65536
+
+-- a word with a number, whatever number it had
+unfoldable pub numberedWord : ℕ → ℕ → ℕ
+numberedWord w n = w % 65536 + 65536 * n
 
 abbrev pub several : ℕ
 several = 256

@@ -1,34 +1,52 @@
-// The word that is noted of a class: its alignment's exponent, and what the class sets with all that it holds, in a number: 0 where no
-// slot, i + 1 where just the slot i, SEVERAL where more than one. So a reading tells in one step what is forgotten around an array's
-// element.
+// The word that is noted of a class: its alignment's exponent; what the class sets with all that it holds, in a number: 0 where no slot,
+// i + 1 where just the slot i, SEVERAL where more than one; and its record's number within its fragment. So a reading tells in one step
+// what is forgotten around an array's element, and which field it was.
 use numbers::limits;
 use table_bytes::wide;
 ghost use mathlib.Core.Path.{_≡_};
 ghost use Prim.Native.Nat.{_<_};
-ghost use Rattle.class_layout.specs.Words.{alignOfWord, setsOfWord, wordOf, setsOne, setsBoth};
+ghost use Rattle.class_layout.specs.Words.{alignOfWord, setsOfWord, numberOfWord, wordOf, numberedWord, setsOne, setsBoth};
 
 pub const SEVERAL: usize = 256;
 
-// The exponents 0 to 6 stand in three bits.
-const EXPONENTS: u16 = 8;
+// The exponents 0 to 6 stand in three bits, what is set in thirteen, and numbers behind these.
+const EXPONENTS: u32 = 8;
 
-pub fn align_of(word: u16) -> u64
+const SETTINGS: u32 = 8192;
+
+const BELOW_NUMBERS: u32 = EXPONENTS * SETTINGS;
+
+pub fn align_of(word: u32) -> u64
     ensures { λ r. ⌜ (r ≡ alignOfWord word) × (r < 8) ⌝ }
 {
     (word % EXPONENTS) as u64
 }
 
-pub fn sets_of(word: u16) -> usize
+pub fn sets_of(word: u32) -> usize
     ensures { λ r. ⌜ (r ≡ setsOfWord word) × (r < 8192) ⌝ }
 {
-    (word / EXPONENTS) as usize
+    (word / EXPONENTS % SETTINGS) as usize
 }
 
-pub fn word_of(align: u64, sets: usize) -> u16
+pub fn number_of(word: u32) -> u64
+    ensures { λ r. ⌜ (r ≡ numberOfWord word) × (r < 65536) ⌝ }
+{
+    (word / BELOW_NUMBERS) as u64
+}
+
+// The word of a class whose number is not noted yet.
+pub fn word_of(align: u64, sets: usize) -> u32
     requires { ⌜ sets < 8192 ⌝ }
     ensures { λ r. ⌜ r ≡ wordOf align sets ⌝ }
 {
-    (align % 8) as u16 + EXPONENTS * sets as u16
+    (align % 8) as u32 + EXPONENTS * sets as u32
+}
+
+pub fn with_number(word: u32, number: usize) -> u32
+    requires { ⌜ number < 65536 ⌝ }
+    ensures { λ r. ⌜ r ≡ numberedWord word number ⌝ }
+{
+    word % BELOW_NUMBERS + BELOW_NUMBERS * number as u32
 }
 
 // What a record sets that names a slot.

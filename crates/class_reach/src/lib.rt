@@ -19,7 +19,7 @@ ghost use Rattle.rules.specs.Record.{u8};
 ghost use Rattle.class_layout.specs.Notes.{notes, alignNoted, setsNoted, Reaches, ReachesMembers, ReachesOptions};
 
 // Where the class at a byte ends, by what is noted behind its record.
-pub fn reach_of(table: &[u8], at: usize, sizes: &[u16], aligns: &[u16]) -> Reach
+pub fn reach_of(table: &[u8], at: usize, sizes: &[u16], aligns: &[u32]) -> Reach
     requires { ⌜ (at < length (now table)) × (length (now table) ≤ 65536) × (16 ≤ u8 (now table) at) × (u8 (now table) at ≤ 32) ⌝ }
     ensures { λ r. ⌜ Reaches (now (table .entry)) (notes (now (sizes .entry)) (now (aligns .entry))) at r ⌝ }
 {
@@ -86,7 +86,7 @@ pub fn reach_of(table: &[u8], at: usize, sizes: &[u16], aligns: &[u16]) -> Reach
     }
 }
 
-fn reach_members(sizes: &[u16], aligns: &[u16], at: usize, count: usize) -> Reach
+fn reach_members(sizes: &[u16], aligns: &[u32], at: usize, count: usize) -> Reach
     requires { ⌜ (at ≤ 65539) × (count ≤ 255) ⌝ }
     ensures { λ r. ⌜ ReachesMembers (now (sizes .entry)) (now (aligns .entry)) at count r ⌝ }
 {
@@ -103,7 +103,7 @@ fn reach_members(sizes: &[u16], aligns: &[u16], at: usize, count: usize) -> Reac
     Reach { next, align, sets }
 }
 
-fn reach_options(table: &[u8], sizes: &[u16], aligns: &[u16], at: usize, count: usize) -> Reach
+fn reach_options(table: &[u8], sizes: &[u16], aligns: &[u32], at: usize, count: usize) -> Reach
     requires { ⌜ (at ≤ 65539) × (count ≤ 255) ⌝ }
     ensures { λ r. ⌜ ReachesOptions (now (table .entry)) (notes (now (sizes .entry)) (now (aligns .entry))) at count r ⌝ }
 {
@@ -132,7 +132,7 @@ fn end_noted(sizes: &[u16], at: usize) -> usize
 }
 
 // The exponent of its alignment, and what it sets; 0 past the notes.
-fn align_noted(aligns: &[u16], at: usize) -> u64
+fn align_noted(aligns: &[u32], at: usize) -> u64
     ensures { λ r. ⌜ (r ≡ alignNoted (now (aligns .entry)) at) × (r < 8) ⌝ }
 {
     if at < aligns.len() {
@@ -141,7 +141,7 @@ fn align_noted(aligns: &[u16], at: usize) -> u64
     0
 }
 
-fn sets_noted(aligns: &[u16], at: usize) -> usize
+fn sets_noted(aligns: &[u32], at: usize) -> usize
     ensures { λ r. ⌜ (r ≡ setsNoted (now (aligns .entry)) at) × (r < 8192) ⌝ }
 {
     if at < aligns.len() {

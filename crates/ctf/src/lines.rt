@@ -5,6 +5,7 @@ use crate::words::say_refusal;
 use libc::STDOUT_FILENO;
 use numbers::entries;
 use numbers::faults;
+use numbers::limits::WORDS_PER_ENTRY;
 use rules::ByteLength;
 use rules::Checked;
 use rules::Result;
@@ -12,12 +13,14 @@ use std::num::wrapping_sub_u64;
 ghost use Prim.Native.Nat.{_≤_};
 ghost use lib.ListN.{length};
 
-// Where the columns of an entry's line end, behind the kind's word: place, bits, value.
+// Where the columns of an entry's line end, behind the kind's word: place, bits, value, the record's number.
 const PLACE_ENDS: usize = 10;
 
 const BITS_ENDS: usize = 20;
 
 const VALUE_ENDS: usize = 42;
+
+const NUMBER_ENDS: usize = 48;
 
 pub(crate) fn say_checked(checked: Checked) {
     match checked {
@@ -43,22 +46,29 @@ pub(crate) fn say_entries(list: &[u64], entries: usize) {
     let mut left = entries;
     let mut at = 0;
     while left > 0 {
-        if list.len() - at < 4 {
+        if list.len() - at < WORDS_PER_ENTRY {
             return;
         }
-        say_entry(list[at], list[at + 1], list[at + 2], list[at + 3]);
-        at += 4;
+        say_entry(
+            list[at],
+            list[at + 1],
+            list[at + 2],
+            list[at + 3],
+            list[at + 4],
+        );
+        at += WORDS_PER_ENTRY;
         left -= 1;
     }
 }
 
-fn say_entry(kind: u64, place: u64, bits: u64, value: u64) {
+fn say_entry(kind: u64, place: u64, bits: u64, value: u64, number: u64) {
     say_kind(kind);
-    let mut line = [b' '; 43];
-    line[VALUE_ENDS] = b'\n';
+    let mut line = [b' '; 49];
+    line[NUMBER_ENDS] = b'\n';
     column(&mut line, PLACE_ENDS, place);
     column(&mut line, BITS_ENDS, bits);
     value_column(&mut line, VALUE_ENDS, kind, value);
+    column(&mut line, NUMBER_ENDS, number);
     say(&line);
 }
 

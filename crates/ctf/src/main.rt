@@ -7,9 +7,11 @@ use libc::STDERR_FILENO;
 use lines::say_checked;
 use lines::say_entries;
 use lines::say_result;
+use numbers::limits::WORDS_PER_ENTRY;
 ghost use mathlib.Core.Path.{_≡_};
-ghost use Prim.Native.Nat.{_≤_};
+ghost use Prim.Native.Nat.{_*_, _≤_};
 ghost use lib.ListN.{length};
+ghost use Rattle.rules.specs.Limits.{wordsPerEntry};
 
 mod lines;
 mod words;
@@ -20,6 +22,9 @@ const STREAM: usize = 3;
 
 // The bytes of the longest stream that there is room for.
 const STREAM_ROOM: usize = 65536;
+
+// Room for 131,072 entries.
+const LIST_ROOM: usize = 131_072 * WORDS_PER_ENTRY;
 
 fn main() {
     let mut command = [0u8; 16];
@@ -146,9 +151,8 @@ fn file_room() -> [u8; 65537]
     [0; 65537]
 }
 
-// Room for 131,072 entries.
-fn list_room() -> [u64; 524288]
-    ensures { λ r. ⌜ 524288 ≡ length r ⌝ }
+fn list_room() -> [u64; LIST_ROOM]
+    ensures { λ r. ⌜ 131072 * wordsPerEntry ≡ length r ⌝ }
 {
-    [0; 524288]
+    [0; LIST_ROOM]
 }

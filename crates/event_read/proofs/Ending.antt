@@ -13,7 +13,7 @@ use Rattle.rules.specs.declared.Refusal.{Refusal}
 use Rattle.rules.specs.declared.Refusal.the-variants.{EventTookNoBits}
 use Rattle.rules.specs.Verdict.{stopAt}
 use Rattle.rules.specs.declared.Content.the-variants.{Unset}
-use Rattle.rules.specs.Limits.{slotCount, packetSlotCount}
+use Rattle.rules.specs.Limits.{slotCount, packetSlotCount, wordsPerEntry}
 use Rattle.rules.specs.Slots.{Slots, slot, packetSlots}
 use Rattle.rules.specs.Step.{State, Out, stop, go, Step, onto, after, _⨾_, pass, refuse, check, due, listed, change, withLast}
 use Rattle.rules.specs.Field.{Env}
@@ -73,20 +73,20 @@ mark-keeps k n v s es s′ e = let p : packetSlots (s .slots) ≡ packetSlots (s
 
 module _ (a : Asked) (c : StreamClass) (i : ℕ) (e : Env) (keeps : KeepsSlots a) (found : a .stream i ≡ some c) where
   roots-keep : (d : EventClass) (j k v : ℕ) → a .event j k ≡ some d
-      → Keeps (mark eventClassFound 0 v ⨾ partsOf e (c .common) (d .specific) (d .payload))
+      → Keeps (mark eventClassFound 0 v ⨾ partsOf e c d)
   unfolding partsOf
   roots-keep d j k v q =
       then-keeps _ _ (mark-keeps _ _ _)
-      (then-keeps _ _ (keeps .common i c found e) (then-keeps _ _ (keeps .specific j k d q e) (keeps .payload j k d q e)))
+      (then-keeps _ _ (keeps .common i c found e _) (then-keeps _ _ (keeps .specific j k d q e _) (keeps .payload j k d q e _)))
 
   look-keeps : Keeps (λ s. withEvent (c .id) (s .said .event) (a .event (c .id) (s .said .event))
-      (λ d. mark eventClassFound 0 (s .said .event) ⨾ partsOf e (c .common) (d .specific) (d .payload)) s)
+      (λ d. mark eventClassFound 0 (s .said .event) ⨾ partsOf e c d) s)
   unfolding withEvent refuse
   look-keeps s es s′ q = by (a .event (c .id) (s .said .event)) refl q
     where
       by : (x : Option EventClass) → a .event (c .id) (s .said .event) ≡ x
           → withEvent (c .id) (s .said .event) x
-          (λ d. mark eventClassFound 0 (s .said .event) ⨾ partsOf e (c .common) (d .specific) (d .payload)) s ≡ go es s′
+          (λ d. mark eventClassFound 0 (s .said .event) ⨾ partsOf e c d) s ≡ go es s′
           → packetSlots (s′ .slots) ≡ packetSlots (s .slots)
       by none k q = let z : _≡_ {A = ℕ} 0 1 = cc in absurd (omega arith)
       by (some d) k q = roots-keep d (c .id) (s .said .event) (s .said .event) k s es s′ q
@@ -97,10 +97,10 @@ module _ (a : Asked) (c : StreamClass) (i : ℕ) (e : Env) (keeps : KeepsSlots a
 
   behind-keeps : (st : Progress) → Keeps (behindStart a c e st)
   unfolding behindStart moved
-  behind-keeps st = then-keeps _ _ (keeps .header i c found e) (then-keeps _ _ body-keeps (check-keeps _ _))
+  behind-keeps st = then-keeps _ _ (keeps .header i c found e _) (then-keeps _ _ body-keeps (check-keeps _ _))
 
-  pub event-keeps : (n : ℕ) (st : Progress) (l : Slots) (room : ℕ) → 4 ≤ room → length l ≡ slotCount → (es : List Entry) (s′ : State)
-      → readEvent a c e n (full st l room) ≡ go es s′ → packetSlots (s′ .slots) ≡ packetSlots l
+  pub event-keeps : (n : ℕ) (st : Progress) (l : Slots) (room : ℕ) → wordsPerEntry ≤ room → length l ≡ slotCount
+      → (es : List Entry) (s′ : State) → readEvent a c e n (full st l room) ≡ go es s′ → packetSlots (s′ .slots) ≡ packetSlots l
   unfolding startEvent
   event-keeps n st l room h many es s′ q =
       let o = sym (event-starts a c e n st l room h ∙ mark-on _ _ _ _ _ ∙ ap (onto _) (change-on startEvent _ _)) ∙ q in
@@ -118,7 +118,7 @@ packet-length l n =
 
 -- the place moved, and slots 0 to 15 are as they were
 event-done : (a : Asked) (c : StreamClass) (i : ℕ) (e : Env) → KeepsSlots a → a .stream i ≡ some c → (n : ℕ) (came : Progress) (l₀ : Slots)
-    {ws₀ ws : List ℕ} {used : ℕ} {st : Progress} {l : Slots} → 4 ≤ length ws₀ → length l₀ ≡ slotCount
+    {ws₀ ws : List ℕ} {used : ℕ} {st : Progress} {l : Slots} → wordsPerEntry ≤ length ws₀ → length l₀ ≡ slotCount
     → Part (readEvent a c e n (full came l₀ (length ws₀))) (moved came) ws₀ ws used st l → (st .place .0 ≡ came .place .0 → ⊥)
     → EventDid (readEvent a c e n) came l₀ (record { went = On; used = used; state = st }) ws₀ ws
 unfolding onto
@@ -130,7 +130,7 @@ event-done a c i e keeps found n came l₀ {ws₀} {ws} {used} {st} {l} h many p
 
 -- the event's end, whether the place moved or not
 pub event-ended : (a : Asked) (c : StreamClass) (i : ℕ) (e : Env) → KeepsSlots a → a .stream i ≡ some c → (n : ℕ) (came : Progress)
-    (l₀ : Slots) {ws₀ ws : List ℕ} {used : ℕ} {st : Progress} {l : Slots} → 4 ≤ length ws₀ → length l₀ ≡ slotCount
+    (l₀ : Slots) {ws₀ ws : List ℕ} {used : ℕ} {st : Progress} {l : Slots} → wordsPerEntry ≤ length ws₀ → length l₀ ≡ slotCount
     → Part (readEvent a c e n (full came l₀ (length ws₀))) (moved came) ws₀ ws used st l
     → EventDid (readEvent a c e n) came l₀ (endedRan used st came) ws₀ ws
 unfolding endedRan

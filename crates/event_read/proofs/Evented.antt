@@ -12,13 +12,13 @@ use Rattle.rules.specs.declared.Content.the-variants.{Unset}
 use Rattle.rules.specs.declared.Stop.{Stop}
 use Rattle.rules.specs.declared.Refusal.the-variants.{ClockWentBack, EventTookNoBits, ListFull}
 use Rattle.rules.specs.Verdict.{stopAt}
-use Rattle.rules.specs.Limits.{slotCount, packetSlotCount}
+use Rattle.rules.specs.Limits.{slotCount, packetSlotCount, wordsPerEntry}
 use Rattle.rules.specs.Slots.{Slots, slot, packetSlots}
 use Rattle.rules.specs.Entry.{entry, words, eventStarts, eventClassFound}
 use Rattle.rules.specs.Step.{stop, go, Step, onto, after, _⨾_, refuse, check, due, listed, change, withLast}
 use Rattle.rules.specs.Field.{Env}
 use Rattle.rules.specs.Table.{StreamClass, Asked}
-use Rattle.rules.specs.Packet.{mark, readRoot, withEvent, startEvent, readEvent}
+use Rattle.rules.specs.Packet.{mark, readRoot, headerNumber, withEvent, startEvent, readEvent}
 use Rattle.facts.proofs.Steps.{seq-assoc}
 use Rattle.frame.specs.declared.Frame.{Frame}
 use Rattle.listing.specs.declared.Progress.{Progress}
@@ -47,12 +47,12 @@ moved st = check (λ s. eqb (s .place .0) (st .place .0)) EventTookNoBits
 
 -- an event behind entry 4: its header, its body, and 38
 unfoldable pub behindStart : Asked → StreamClass → Env → Progress → Step
-behindStart a c e st = readRoot e (c .header) ⨾ (bodyOf a c e ⨾ moved st)
+behindStart a c e st = readRoot e (headerNumber c) (c .header) ⨾ (bodyOf a c e ⨾ moved st)
 
 module _ (a : Asked) (c : StreamClass) (e : Env) (n : ℕ) (st : Progress) (l : Slots) (room : ℕ) where
   abbrev Look : Step
   Look s = withEvent (c .id) (s .said .event) (a .event (c .id) (s .said .event))
-      (λ d. mark eventClassFound 0 (s .said .event) ⨾ readRoot e (c .common) ⨾ readRoot e (d .specific) ⨾ readRoot e (d .payload)) s
+      (λ d. mark eventClassFound 0 (s .said .event) ⨾ partsOf e c d) s
 
   abbrev Back : Step
   Back = check (λ s. c .timed && ltb (s .clock) (s .last)) ClockWentBack
@@ -62,22 +62,23 @@ module _ (a : Asked) (c : StreamClass) (e : Env) (n : ℕ) (st : Progress) (l : 
 
   -- its body is one step, and 38 comes behind it
   body-first : (Back ⨾ (Hold ⨾ (due ⨾ (Look ⨾ moved st)))) ≡ (bodyOf a c e ⨾ moved st)
-  unfolding bodyOf partsOf
+  unfolding bodyOf
   body-first =
       let m = moved st in
       sym (seq-assoc Back (Hold ⨾ (due ⨾ Look)) m
       ∙ ap (λ (k : Step). Back ⨾ k) (seq-assoc Hold (due ⨾ Look) m ∙ ap (λ (k : Step). Hold ⨾ k) (seq-assoc due Look m)))
 
-  pub event-full : room < 4 → readEvent a c e n (full st l room) ≡ stop [] (stopAt ListFull (st .place))
+  pub event-full : room < wordsPerEntry → readEvent a c e n (full st l room) ≡ stop [] (stopAt ListFull (st .place))
   unfolding readEvent refuse
   event-full h = no-room-first _ (full st l room) h
 
-  pub event-starts : 4 ≤ room
+  pub event-starts : wordsPerEntry ≤ room
       → readEvent a c e n (full st l room) ≡ (mark eventStarts 0 n ⨾ (change startEvent ⨾ behindStart a c e st)) (full st l room)
-  unfolding readEvent behindStart moved
+  unfolding readEvent behindStart moved partsOf
   event-starts h =
+      let header = readRoot e (headerNumber c) (c .header) in
       room-first _ (full st l room) h
-      ∙ ap (λ (m : Step). (mark eventStarts 0 n ⨾ (change startEvent ⨾ (readRoot e (c .header) ⨾ m))) (full st l room)) body-first
+      ∙ ap (λ (m : Step). (mark eventStarts 0 n ⨾ (change startEvent ⨾ (header ⨾ m))) (full st l room)) body-first
 
 -- slots 16 to 63 are unset once
 pub unset-again : (l : Slots) → length l ≡ slotCount → packetSlots (packetSlots l) ≡ packetSlots l
@@ -88,28 +89,29 @@ unset-again l h =
     (omega (arith, length-take packetSlotCount l)))
 
 -- entry 4 stands in front
-module _ (a : Asked) (c : StreamClass) (b u : List ℕ) (f : Frame) (n : ℕ) (st : Progress) (l : Slots) (ws ws₁ : List ℕ) (h : 4 ≤ length ws)
-    (many : length l ≡ slotCount) (framed : Framed b f (st .place)) (e : ws₁ ≡ words (entry eventStarts (st .place) 0 n ∷ []) ++ drop 4 ws)
+module _ (a : Asked) (c : StreamClass) (b u : List ℕ) (f : Frame) (n : ℕ) (st : Progress) (l : Slots) (ws ws₁ : List ℕ)
+    (h : wordsPerEntry ≤ length ws) (many : length l ≡ slotCount) (framed : Framed b f (st .place))
+    (e : ws₁ ≡ words (entry eventStarts (st .place) 0 n 0 ∷ []) ++ drop wordsPerEntry ws)
   where
     abbrev Event : Step
     Event = readEvent a c (envOf b u f) n
 
-    listed-part : Part (Event (full st l (length ws))) (change startEvent ⨾ behindStart a c (envOf b u f) st) ws ws₁ 4 st l
+    listed-part : Part (Event (full st l (length ws))) (change startEvent ⨾ behindStart a c (envOf b u f) st) ws ws₁ wordsPerEntry st l
     unfolding _⨾_ after mark listed
     listed-part = record {
-      listed = entry eventStarts (st .place) 0 n ∷ [];
+      listed = entry eventStarts (st .place) 0 n 0 ∷ [];
       list = e;
       counted = refl;
       room = h;
       rest = event-starts a c (envOf b u f) n st l (length ws) h;
     }
 
-    pub started : Parted b f Event (behindStart a c (envOf b u f) st) st l ws ws₁ 4 (startState st) (packetSlots l)
+    pub started : Parted b f Event (behindStart a c (envOf b u f) st) st l ws ws₁ wordsPerEntry (startState st) (packetSlots l)
     unfolding startEvent
     started = record {
       framed = framed;
       kept = unset-again l many;
-      part = part-same _ (behindStart a c (envOf b u f) st) (change-on startEvent _ (full st l (length ws - 4))) listed-part;
+      part = part-same _ (behindStart a c (envOf b u f) st) (change-on startEvent _ (full st l (length ws - wordsPerEntry))) listed-part;
     }
 
 -- what is left lists nothing: it stops, or the event is done

@@ -8,7 +8,7 @@ use native.Mathlib.Omega.{arith}
 use lib.ListN.{length, getD, set, length-set}
 use borrow.Author.Tests.{ltb-true}
 use Rattle.rules.specs.declared.Stop.{Stop}
-use Rattle.rules.specs.Limits.{slotCount, depthLimit}
+use Rattle.rules.specs.Limits.{slotCount, depthLimit, wordsPerEntry}
 use Rattle.rules.specs.Slots.{Slots, packetSlots}
 use Rattle.rules.specs.Step.{Out, Step, _⨾_}
 use Rattle.rules.specs.Field.{Env}
@@ -146,11 +146,12 @@ opens-off false off h e = ltb-true off runs h
 pub begun-round : (g : Given) (m : Step) (l : Slots) (ws ws₁ : List ℕ) → OfStream (g .table) (g .asking) → Prepared (g .table) (g .notes)
     → length (packetSlots l) ≡ slotCount
     → Parted (g .stream) (g .frame) m
-    (behindStart (askedAt (g .table)) (streamClassAt (g .table) (g .asking .class)) (envGiven g) (g .begun)) (g .begun) l ws ws₁ 4
-    (startState (g .begun)) (packetSlots l)
+    (behindStart (askedAt (g .table)) (streamClassAt (g .table) (g .asking .class)) (envGiven g) (g .begun)) (g .begun) l ws ws₁
+    wordsPerEntry (startState (g .begun)) (packetSlots l)
     → {st₁ : Progress} {l₁ : Slots} {run₁ : Run} → st₁ ≡ startState (g .begun) → l₁ ≡ packetSlots l → run₁ ≡ headerRun (g .asking)
     → (pile : List Run) → length pile ≡ runs
-    → EventRound g (m (full (g .begun) l (length ws))) ws 0 1 run₁ pile 0 ws₁ 4 (stateAt (g .begun .place) (g .begun .order) st₁) l₁
+    → EventRound g (m (full (g .begun) l (length ws))) ws 0 1 run₁ pile 0 ws₁ wordsPerEntry
+    (stateAt (g .begun .place) (g .begun .order) st₁) l₁
 unfolding behindStart
 begun-round g m l ws ws₁ of noted many p is-state is-slots is-run pile size =
     let all = m (full (g .begun) l (length ws)) in

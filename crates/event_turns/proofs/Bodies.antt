@@ -10,6 +10,7 @@ use borrow.Author.Tests.{eqb-true, eqb-false}
 use Rattle.rules.specs.declared.BitPlace.{BitPlace}
 use Rattle.rules.specs.declared.Refusal.{Refusal}
 use Rattle.rules.specs.declared.Refusal.the-variants.{ClockWentBack, EventClassUnknown, ListFull}
+use Rattle.rules.specs.Limits.{wordsPerEntry}
 use Rattle.rules.specs.Verdict.{stopAt}
 use Rattle.rules.specs.Slots.{Slots}
 use Rattle.rules.specs.Entry.{eventClassFound}
@@ -50,26 +51,26 @@ module _ (a : Asked) (c : StreamClass) (e : Env) (st : Progress) (l : Slots) (ro
   unfolding bodyOf refuse
   body-back h = check-stop _ ClockWentBack _ (full st l room) h
 
-  pub body-full : Back false → room < 4 → bodyOf a c e (full st l room) ≡ stop [] (stopAt ListFull (st .place))
+  pub body-full : Back false → room < wordsPerEntry → bodyOf a c e (full st l room) ≡ stop [] (stopAt ListFull (st .place))
   unfolding bodyOf refuse withLast
   body-full h k = check-on _ ClockWentBack _ (full st l room) h ∙ change-on _ _ (full st l room) ∙ due-stop _ (full (settled st) l room) k
 
   -- with room, what the lookup finds decides
-  looked : Back false → 4 ≤ room
+  looked : Back false → wordsPerEntry ≤ room
       → bodyOf a c e (full st l room)
       ≡ withEvent (c .id) (st .said .event) (a .event (c .id) (st .said .event))
-      (λ d. mark eventClassFound 0 (st .said .event) ⨾ partsOf e (c .common) (d .specific) (d .payload)) (full (settled st) l room)
+      (λ d. mark eventClassFound 0 (st .said .event) ⨾ partsOf e c d) (full (settled st) l room)
   unfolding bodyOf withLast
   looked h k = check-on _ ClockWentBack _ (full st l room) h ∙ change-on _ _ (full st l room) ∙ room-first _ (full (settled st) l room) k
 
-  pub body-unknown : Back false → 4 ≤ room → a .event (c .id) (st .said .event) ≡ none
+  pub body-unknown : Back false → wordsPerEntry ≤ room → a .event (c .id) (st .said .event) ≡ none
       → bodyOf a c e (full st l room) ≡ stop [] (stopAt (EventClassUnknown (c .id) (st .said .event)) (st .place))
   unfolding withEvent refuse
   body-unknown h k n = looked h k ∙ rw (n) refl
 
-  pub body-found : (d : EventClass) → Back false → 4 ≤ room → a .event (c .id) (st .said .event) ≡ some d
+  pub body-found : (d : EventClass) → Back false → wordsPerEntry ≤ room → a .event (c .id) (st .said .event) ≡ some d
       → bodyOf a c e (full st l room)
-      ≡ (mark eventClassFound 0 (st .said .event) ⨾ partsOf e (c .common) (d .specific) (d .payload)) (full (settled st) l room)
+      ≡ (mark eventClassFound 0 (st .said .event) ⨾ partsOf e c d) (full (settled st) l room)
   unfolding withEvent
   body-found d h k n = looked h k ∙ rw (n) refl
 
@@ -93,7 +94,7 @@ module _ (t s : List ℕ) (w : Asking) (p : BitPlace) (clock last id room : ℕ)
 
   lookup-stands : Stands (lookupLeft t w p clock last id room)
   unfolding lookupLeft
-  lookup-stands = by (w .timed && ltb clock last) (ltb room 4)
+  lookup-stands = by (w .timed && ltb clock last) (ltb room wordsPerEntry)
     where
       class : LookupLeft
       class = classLeft w p clock id (foundOf (findEventAt t (fragmentsOf t) (w .id) id))

@@ -9,32 +9,37 @@ use lib.Dec.{eqb}
 use Rattle.rules.specs.Limits.{depthLimit}
 use Rattle.rules.specs.Step.{_⨾_, pass}
 use Rattle.rules.specs.Field.{Env}
-use Rattle.rules.specs.Packet.{readRoot}
+use Rattle.rules.specs.Packet.{readRoot, firstRoot, commonNumber, payloadNumber}
 use Rattle.facts.proofs.Steps.{pass-seq, seq-pass}
 use Rattle.class_layout.specs.declared.TablePlace.{TablePlace}
 use Rattle.class_layout.specs.declared.TablePlace.the-variants.{At, Nothing}
-use Rattle.class_layout.specs.Fragments.{rootPlace, eventClassAt}
+use Rattle.class_layout.specs.Fragments.{rootPlace, streamClassAt, eventClassAt}
 use Rattle.class_layout.specs.Sizes.{SizedFragment, foundOf}
+use Rattle.class_layout.proofs.RootNumbers.{first-number, payload-number}
 use Rattle.field_runs.specs.Run.{membersRun}
 use Rattle.field_runs.specs.Ahead.{ahead, WholeRun}
 use Rattle.field_runs.proofs.Ahead.{members-reads, members-stand, none-whole, no-members}
 use Rattle.field_runs.proofs.Ahead.{one-member as one-reads}
 use Rattle.event_turns.specs.declared.Asking.{Asking}
 use Rattle.event_turns.specs.declared.Due.{Due}
-use Rattle.event_turns.specs.Roots.{classOf, RootStands, partsOf}
+use Rattle.event_turns.specs.Roots.{classOf, numberOf, Numbered, RootStands, partsOf}
 use Rattle.event_turns.specs.Ready.{OfStream}
 use Rattle.event_turns.specs.Left.{turns, rootRun, rootFound, noneDue, nextDue}
 use Rattle.event_turns.specs.Turns.{turnsFrom, turnsAt}
 use Rattle.event_turns.proofs.Lefts.{due-end, due-at, due-behind}
-use Rattle.event_turns.proofs.Looked.{one-member, root-class, root-stands}
+use Rattle.event_turns.proofs.Looked.{one-member, root-class, root-stands, root-numbered, numbered-reads}
 
 -- the run of a root
 
 module _ (t : List ℕ) where
-  pub run-reads : (e : Env) (x : TablePlace) → ahead depthLimit t e (rootRun x) ≡ readRoot e (classOf t x)
-  unfolding rootRun classOf readRoot
+  pub run-reads : (e : Env) (x : TablePlace) → ahead depthLimit t e (rootRun x) ≡ readRoot e (numberOf t x) (classOf t x)
+  unfolding rootRun numberOf classOf readRoot
   run-reads e Nothing = members-reads depthLimit t e 0 0 ∙ no-members depthLimit t e 0 0 (omega arith)
   run-reads e (At p) = members-reads depthLimit t e p 1 ∙ one-reads depthLimit t e p
+
+  -- by the number that it has in its fragment
+  pub run-numbered : (e : Env) (x : TablePlace) (m : ℕ) → Numbered t x m → ahead depthLimit t e (rootRun x) ≡ readRoot e m (classOf t x)
+  run-numbered e x m h = run-reads e x ∙ numbered-reads t e x m h
 
   pub run-stands : (x : TablePlace) → RootStands t x → WholeRun depthLimit t (rootRun x)
   unfolding rootRun
@@ -62,16 +67,42 @@ module _ (t s : List ℕ) (w : Asking) (of : OfStream t w) (class : ℕ) (known 
       by false true = root-stands t class 0 (place 0) (known .stands) refl
       by false false = root-stands t class 1 (place 1) (known .stands) refl
 
+  -- the roots of an event class
+  abbrev found : ℕ → TablePlace
+  found i = foundOf (rootPlace t class i)
+
+  specific-reads : (e : Env) → ahead depthLimit t e (rootRun (found 0)) ≡ readRoot e firstRoot ((eventClassAt t class) .specific)
+  unfolding eventClassAt
+  specific-reads e =
+      run-numbered t e (found 0) firstRoot
+      (root-numbered t class 0 firstRoot (found 0) refl (λ p h. first-number t class p (known .stands) h))
+      ∙ ap (readRoot e firstRoot) (root-class t class 0 (found 0) refl)
+
+  payload-reads : (e : Env)
+      → ahead depthLimit t e (rootRun (found 1)) ≡ readRoot e (payloadNumber (eventClassAt t class)) ((eventClassAt t class) .payload)
+  payload-reads e =
+      let m = payloadNumber (eventClassAt t class) in
+      run-numbered t e (found 1) m
+      (root-numbered t class 1 m (found 1) refl (λ p h. payload-number t class p (known .stands) h))
+      ∙ ap (readRoot e m) (root-class t class 1 (found 1) refl ∙ (unfold eventClassAt in refl))
+
+  common-reads : (e : Env)
+      → ahead depthLimit t e (rootRun (w .common))
+      ≡ readRoot e (commonNumber (streamClassAt t (w .class))) ((streamClassAt t (w .class)) .common)
+  common-reads e = run-numbered t e (w .common) _ (of .commonNumbered) ∙ ap (readRoot e _) (of .common)
+
   turn-first : (turn : ℕ) → 2 ≤ turn → turn < turns → (e : Env)
-      → turnsAt t w e class turn ≡ (readRoot e (classOf t (rootFound t w turn class)) ⨾ turnsAt t w e class (turn + 1))
-  unfolding turnsFrom rootFound eventClassAt partsOf
+      → turnsAt t w e class turn ≡ (ahead depthLimit t e (rootRun (rootFound t w turn class)) ⨾ turnsAt t w e class (turn + 1))
+  unfolding turnsFrom rootFound partsOf
   turn-first zero k h e = absurd (omega arith)
   turn-first (suc zero) k h e = absurd (omega arith)
-  turn-first (suc (suc zero)) k h e = rw (of .common) refl
-  turn-first (suc (suc (suc zero))) k h e = rw (root-class t class 0 (foundOf (rootPlace t class 0)) refl) refl
-  turn-first (suc (suc (suc (suc zero)))) k h e =
-      rw (root-class t class 1 (foundOf (rootPlace t class 1)) refl) (sym (seq-pass _))
+  turn-first (suc (suc zero)) k h e = rw (common-reads e) refl
+  turn-first (suc (suc (suc zero))) k h e = rw (specific-reads e) refl
+  turn-first (suc (suc (suc (suc zero)))) k h e = rw (payload-reads e) (sym (seq-pass _))
   turn-first (suc (suc (suc (suc (suc n))))) k h e = absurd (omega arith)
+
+  none-reads : (e : Env) → ahead depthLimit t e (rootRun Nothing) ≡ pass
+  none-reads e = unfold numberOf classOf readRoot in run-reads t e Nothing
 
   all-done : (turn : ℕ) → turns ≤ turn → DueAt t w class turn (noneDue turn)
   unfolding noneDue rootRun
@@ -84,16 +115,13 @@ module _ (t s : List ℕ) (w : Asking) (of : OfStream t w) (class : ℕ) (known 
   }
     where
       nothing : (e : Env) → ahead depthLimit t e (membersRun 0 0) ≡ pass
-      nothing e = unfold rootRun classOf readRoot in run-reads t e Nothing
+      nothing e = unfold rootRun in none-reads e
 
   module _ (turn : ℕ) (k : 2 ≤ turn) (h : turn < turns) where
     root-due : (p : ℕ) → At p ≡ rootFound t w turn class → DueAt t w class turn (record { turn = turn + 1; run = membersRun p 1 })
     unfolding rootRun
     root-due p is = record {
-      reads = λ e.
-          turn-first turn k h e
-          ∙ ap (λ x. readRoot e (classOf t x) ⨾ turnsAt t w e class (turn + 1)) (sym is)
-          ∙ ap (λ m. m ⨾ turnsAt t w e class (turn + 1)) (sym (run-reads t e (At p)));
+      reads = λ e. turn-first turn k h e ∙ ap (λ x. ahead depthLimit t e (rootRun x) ⨾ turnsAt t w e class (turn + 1)) (sym is);
       stands = run-stands t (At p) (rw (← is) at (turn-stands turn));
       onward = omega arith;
       rises = λ _. omega arith;
@@ -102,7 +130,7 @@ module _ (t s : List ℕ) (w : Asking) (of : OfStream t w) (class : ℕ) (known 
 
     -- a turn whose root is not there
     passed : Nothing ≡ rootFound t w turn class → (e : Env) → turnsAt t w e class turn ≡ turnsAt t w e class (turn + 1)
-    passed is e = turn-first turn k h e ∙ (unfold classOf readRoot in rw (← is) (pass-seq _))
+    passed is e = turn-first turn k h e ∙ rw (← is, none-reads e) (pass-seq _)
 
     behind : (d : Due) → Nothing ≡ rootFound t w turn class → DueAt t w class (turn + 1) d → DueAt t w class turn d
     behind d is later = record {

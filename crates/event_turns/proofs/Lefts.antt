@@ -6,10 +6,11 @@ use mathlib.Core.List.{List, [], _∷_, _++_}
 use mathlib.Core.Bool.{true, false, _&&_}
 use lib.ListN.{drop}
 use lib.Dec.{ltb}
-use borrow.Author.Tests.{lt-ltb, le-ltb, eq-eqb, ne-eqb}
+use borrow.Author.Tests.{eq-eqb, ne-eqb}
 use Rattle.rules.specs.declared.BitPlace.{BitPlace}
 use Rattle.rules.specs.declared.Refusal.{Refusal}
 use Rattle.rules.specs.declared.Refusal.the-variants.{ClockWentBack, EventClassUnknown, ListFull}
+use Rattle.rules.specs.Limits.{wordsPerEntry}
 use Rattle.rules.specs.Entry.{entry, words, eventClassFound}
 use Rattle.class_layout.specs.declared.TablePlace.{TablePlace}
 use Rattle.class_layout.specs.declared.TablePlace.the-variants.{At, Nothing}
@@ -51,16 +52,16 @@ module _ (t : List ℕ) (w : Asking) (p : BitPlace) (clock last id room : ℕ) w
   left-back b = rw (lookupLeft, b) refl
 
   module _ (b : (w .timed && ltb clock last) ≡ false) where
-    pub left-full : room < 4 → lookupLeft t w p clock last id room ≡ refusedLeft ListFull
+    pub left-full : ltb room wordsPerEntry ≡ true → lookupLeft t w p clock last id room ≡ refusedLeft ListFull
     unfolding lookupLeft
-    left-full h = rw (lookupLeft, b, lt-ltb _ _ h) refl
+    left-full h = rw (lookupLeft, b, h) refl
 
-    left-looked : 4 ≤ room
+    left-looked : ltb room wordsPerEntry ≡ false
         → lookupLeft t w p clock last id room ≡ classLeft w p clock id (foundOf (findEventAt t (fragmentsOf t) (w .id) id))
     unfolding lookupLeft
-    left-looked h = rw (lookupLeft, b, le-ltb _ _ h) refl
+    left-looked h = rw (lookupLeft, b, h) refl
 
-    module _ (h : 4 ≤ room) {o : TablePlace} (looked : o ≡ foundOf (findEventAt t (fragmentsOf t) (w .id) id)) where
+    module _ (h : ltb room wordsPerEntry ≡ false) {o : TablePlace} (looked : o ≡ foundOf (findEventAt t (fragmentsOf t) (w .id) id)) where
       pub left-unknown : o ≡ Nothing → lookupLeft t w p clock last id room ≡ refusedLeft (EventClassUnknown (w .id) id)
       unfolding classLeft
       left-unknown is = left-looked h ∙ ap (classLeft w p clock id) (sym looked ∙ is)
@@ -96,8 +97,8 @@ unfolding words
 gives-refused o why r ws left e = rw (left) (e, refl)
 
 pub gives-found : (o : LookupLeft) (w : Asking) (p : BitPlace) (clock id class : ℕ) (r : LookedUp) (ws ws′ : List ℕ)
-    → o ≡ classLeft w p clock id (At class) → r ≡ lookedOn class clock 2 4 → ws′ ≡ words (entry eventClassFound p 0 id ∷ []) ++ drop 4 ws
-    → LookupGives o r ws ws′
+    → o ≡ classLeft w p clock id (At class) → r ≡ lookedOn class clock 2 wordsPerEntry
+    → ws′ ≡ words (entry eventClassFound p 0 id 0 ∷ []) ++ drop wordsPerEntry ws → LookupGives o r ws ws′
 unfolding classLeft
 gives-found o w p clock id class r ws ws′ left e list = rw (left) (e, list)
 

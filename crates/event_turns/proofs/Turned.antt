@@ -13,13 +13,13 @@ use Rattle.rules.specs.declared.Stop.{Stop}
 use Rattle.rules.specs.declared.Refusal.{Refusal}
 use Rattle.rules.specs.declared.Refusal.the-variants.{ClockWentBack, EventClassUnknown, ListFull}
 use Rattle.rules.specs.Verdict.{stopAt}
-use Rattle.rules.specs.Limits.{depthLimit}
+use Rattle.rules.specs.Limits.{depthLimit, wordsPerEntry}
 use Rattle.rules.specs.Slots.{Slots}
 use Rattle.rules.specs.Entry.{entry, words, eventClassFound}
 use Rattle.rules.specs.Step.{Out, stop, go, Step, onto, after, _⨾_, pass}
 use Rattle.rules.specs.Field.{Env}
 use Rattle.rules.specs.Table.{StreamClass}
-use Rattle.rules.specs.Packet.{mark, readRoot}
+use Rattle.rules.specs.Packet.{mark, readRoot, headerNumber}
 use Rattle.facts.proofs.Steps.{after-onto, seq-assoc, pass-seq}
 use Rattle.listing.specs.declared.Progress.{Progress}
 use Rattle.listing.specs.declared.Went.the-variants.{On, Stopped}
@@ -46,7 +46,7 @@ use Rattle.event_turns.specs.Turns.{turnsFrom, turnsAt, Known}
 use Rattle.event_turns.proofs.Bodies.{behind-first, settled, body-back, body-full, body-unknown, body-found}
 use Rattle.event_turns.proofs.Bodies.{event-unknown, event-found, event-stands, back-is}
 use Rattle.event_turns.proofs.Lefts.{left-back, left-full, left-unknown, left-found, left-lookup, left-other}
-use Rattle.event_turns.proofs.Dues.{run-reads, run-stands, due-from}
+use Rattle.event_turns.proofs.Dues.{run-numbered, run-stands, due-from}
 
 -- a turn at a state, by what it gave back and the list before and behind it
 pub record TurnAt (t s : List ℕ) (w : Asking) (e : Env) (turn class : ℕ) (st : Progress) (l : Slots) (r : Turn) (ws ws′ : List ℕ)
@@ -106,19 +106,18 @@ module _ (t s : List ℕ) (w : Asking) (sized : Sized t s) (of : OfStream t w) (
     same = refl;
   }
 
-  found-at-state : (p : ℕ) (ws′ : List ℕ) → SizedFragment t s p → 4 ≤ length ws
+  found-at-state : (p : ℕ) (ws′ : List ℕ) → SizedFragment t s p → wordsPerEntry ≤ length ws
       → bodyOf (askedAt t) Class e (full st l (length ws))
-      ≡ (mark eventClassFound 0 Id ⨾ partsOf e (Class .common) ((eventClassAt t p) .specific) ((eventClassAt t p) .payload))
-      (full (settled st) l (length ws))
-      → ws′ ≡ words (entry eventClassFound (st .place) 0 Id ∷ []) ++ drop 4 ws
-      → TurnAt t s w e 1 class st l (dueTurn (lookedOn p (st .clock .value) 2 4) (nextDue t w p 2)) ws ws′
+      ≡ (mark eventClassFound 0 Id ⨾ partsOf e Class (eventClassAt t p)) (full (settled st) l (length ws))
+      → ws′ ≡ words (entry eventClassFound (st .place) 0 Id 0 ∷ []) ++ drop wordsPerEntry ws
+      → TurnAt t s w e 1 class st l (dueTurn (lookedOn p (st .clock .value) 2 wordsPerEntry) (nextDue t w p 2)) ws ws′
   unfolding turnsFrom
   found-at-state p ws′ stands room h list =
-      due-at-state 1 p (st .clock .value) 2 4 ws′ stands (omega arith) (omega arith) (λ _. omega arith) entered
+      due-at-state 1 p (st .clock .value) 2 wordsPerEntry ws′ stands (omega arith) (omega arith) (λ _. omega arith) entered
     where
-      entered : Part (turnsAt t w e class 1 (full st l (length ws))) (turnsAt t w e p 2) ws ws′ 4 (settled st) l
+      entered : Part (turnsAt t w e class 1 (full st l (length ws))) (turnsAt t w e p 2) ws ws′ wordsPerEntry (settled st) l
       entered = record {
-        listed = entry eventClassFound (st .place) 0 Id ∷ [];
+        listed = entry eventClassFound (st .place) 0 Id 0 ∷ [];
         list = list;
         counted = refl;
         room = room;
@@ -147,11 +146,15 @@ module _ (t s : List ℕ) (w : Asking) (sized : Sized t s) (of : OfStream t w) (
     told : (b : Bool) → back ≡ b → (Class .timed && ltb (st .clock .value) (st .last)) ≡ b
     told b h = back-is t w Id of st b h
 
-    module _ (on : back ≡ false) (room : 4 ≤ length ws) where
+    module _ (on : back ≡ false) (holds : ltb (length ws) wordsPerEntry ≡ false) where
+      room : wordsPerEntry ≤ length ws
+      room = ltb-false (length ws) wordsPerEntry holds
+
       looked : (x : TablePlace) → x ≡ foundOf (findEventAt t (fragmentsOf t) (w .id) Id) → Looked
       unfolding classLeft turnBehind
       looked Nothing is =
-          refused (EventClassUnknown (w .id) Id) (left-unknown t w (st .place) (st .clock .value) (st .last) Id (length ws) on room is refl)
+          refused (EventClassUnknown (w .id) Id)
+          (left-unknown t w (st .place) (st .clock .value) (st .last) Id (length ws) on holds is refl)
           (body-unknown (askedAt t) Class e st l (length ws) (told false on) room (event-unknown t w Id of is)
           ∙ ap (λ i. stop [] (stopAt (EventClassUnknown i Id) (st .place))) (sym (of .id)))
       looked (At p) is = rw (g .0)
@@ -160,10 +163,10 @@ module _ (t s : List ℕ) (w : Asking) (sized : Sized t s) (of : OfStream t w) (
           (g .1))
         where
           left : Lookup ≡ classLeft w (st .place) (st .clock .value) Id (At p)
-          left = left-found t w (st .place) (st .clock .value) (st .last) Id (length ws) on room is p refl
+          left = left-found t w (st .place) (st .clock .value) (st .last) Id (length ws) on holds is p refl
 
-          g : (r ≡ dueTurn (lookedOn p (st .clock .value) 2 4) (nextDue t w p 2))
-              × (ws′ ≡ words (entry eventClassFound (st .place) 0 Id ∷ []) ++ drop 4 ws)
+          g : (r ≡ dueTurn (lookedOn p (st .clock .value) 2 wordsPerEntry) (nextDue t w p 2))
+              × (ws′ ≡ words (entry eventClassFound (st .place) 0 Id 0 ∷ []) ++ drop wordsPerEntry ws)
           g = gave-by (classLeft w (st .place) (st .clock .value) Id (At p)) left
 
       with-room : Looked
@@ -172,18 +175,17 @@ module _ (t s : List ℕ) (w : Asking) (sized : Sized t s) (of : OfStream t w) (
     lookup-did : Looked
     lookup-did = first back refl
       where
-        second : back ≡ false → (b : Bool) → ltb (length ws) 4 ≡ b → Looked
+        second : back ≡ false → (b : Bool) → ltb (length ws) wordsPerEntry ≡ b → Looked
         second on true h =
-            let less = ltb-true (length ws) 4 h in
-            refused ListFull (left-full t w (st .place) (st .clock .value) (st .last) Id (length ws) on less)
-            (body-full (askedAt t) Class e st l (length ws) (told false on) less)
-        second on false h = with-room on (ltb-false (length ws) 4 h)
+            refused ListFull (left-full t w (st .place) (st .clock .value) (st .last) Id (length ws) on h)
+            (body-full (askedAt t) Class e st l (length ws) (told false on) (ltb-true (length ws) wordsPerEntry h))
+        second on false h = with-room on h
 
         first : (b : Bool) → back ≡ b → Looked
         first true h =
             refused ClockWentBack (left-back t w (st .place) (st .clock .value) (st .last) Id (length ws) h)
             (body-back (askedAt t) Class e st l (length ws) (told true h))
-        first false h = second h (ltb (length ws) 4) refl
+        first false h = second h (ltb (length ws) wordsPerEntry) refl
 
   -- any other turn
 
@@ -226,10 +228,11 @@ header-stands t w of = run-stands t (w .header) (of .headerStands)
 
 -- behind entry 4
 pub header-begins : (t : List ℕ) (w : Asking) (e : Env) (class : ℕ) (g : Step) → OfStream t w
-    → (readRoot e ((streamClassAt t (w .class)) .header) ⨾ (bodyOf (askedAt t) (streamClassAt t (w .class)) e ⨾ g))
+    → (readRoot e (headerNumber (streamClassAt t (w .class))) ((streamClassAt t (w .class)) .header)
+    ⨾ (bodyOf (askedAt t) (streamClassAt t (w .class)) e ⨾ g))
     ≡ (ahead depthLimit t e (headerRun w) ⨾ (turnsAt t w e class 1 ⨾ g))
 unfolding headerRun turnsFrom
-header-begins t w e class g of = rw (run-reads t e (w .header), of .header) refl
+header-begins t w e class g of = rw (run-numbered t e (w .header) _ (of .headerNumbered), of .header) refl
 
 -- An event's loop: a run, then the turns that are left, then g
 

@@ -18,7 +18,7 @@ bodyOf t c e =
     ⨾ change (λ s. withLast (s .clock) s)
     ⨾ due
     ⨾ λ s. withEvent (c .id) (s .said .event) (t .event (c .id) (s .said .event))
-    (λ d. mark eventClassFound 0 (s .said .event) ⨾ partsOf e (c .common) (d .specific) (d .payload)) s
+    (λ d. mark eventClassFound 0 (s .said .event) ⨾ partsOf e c d) s
 
 -- the same state, with the clock that the next event's is held to
 abbrev pub heldTo : ℕ → Progress → Progress

@@ -10,6 +10,7 @@ use Rattle.rules.specs.declared.BitPlace.{BitPlace}
 use Rattle.rules.specs.declared.Entry.{Entry}
 use Rattle.rules.specs.declared.Refusal.{Refusal}
 use Rattle.rules.specs.declared.Refusal.the-variants.{ClockWentBack, EventClassUnknown, ListFull}
+use Rattle.rules.specs.Limits.{wordsPerEntry}
 use Rattle.rules.specs.Verdict.{stopAt}
 use Rattle.rules.specs.Entry.{entry, words, eventClassFound}
 use Rattle.listing.specs.declared.Went.the-variants.{On, Stopped}
@@ -26,7 +27,7 @@ use Rattle.event_turns.specs.declared.Turn.{Turn}
 
 -- the list, where entries were written into its front
 abbrev pub listedInto : List Entry → List ℕ → List ℕ
-listedInto es ws = words es ++ drop (4 * length es) ws
+listedInto es ws = words es ++ drop (wordsPerEntry * length es) ws
 
 -- a root is one member; there is none, where it is not there
 unfoldable pub rootRun : TablePlace → Run
@@ -84,13 +85,14 @@ refusedLeft why = record { result = notLooked why; listed = [] }
 -- the event's clock is the one that the next event's is held to; the common root's turn is next
 unfoldable pub classLeft : Asking → BitPlace → ℕ → ℕ → TablePlace → LookupLeft
 classLeft w p clock id Nothing = refusedLeft (EventClassUnknown (w .id) id)
-classLeft w p clock id (At class) = record { result = lookedOn class clock 2 4; listed = entry eventClassFound p 0 id ∷ [] }
+classLeft w p clock id (At class) =
+    record { result = lookedOn class clock 2 wordsPerEntry; listed = entry eventClassFound p 0 id 0 ∷ [] }
 
 -- 39, room (40), the lookup (37)
 unfoldable pub lookupLeft : List ℕ → Asking → BitPlace → ℕ → ℕ → ℕ → ℕ → LookupLeft
 lookupLeft t w p clock last id room = elim (w .timed && ltb clock last) [
   | true ↦ refusedLeft ClockWentBack
-  | false ↦ elim (ltb room 4) [
+  | false ↦ elim (ltb room wordsPerEntry) [
     | true ↦ refusedLeft ListFull
     | false ↦ classLeft w p clock id (foundOf (findEventAt t (fragmentsOf t) (w .id) id))
   ]

@@ -3,10 +3,11 @@ use Prim.Native.Nat.{ℕ}
 use mathlib.Core.Path.{_≡_}
 use mathlib.Core.List.{List}
 use mathlib.Core.Option.{some}
+use Rattle.rules.specs.Packet.{headerNumber, commonNumber}
 use Rattle.laws.specs.Kept.{KeepsSlots}
 use Rattle.class_layout.specs.Fragments.{streamClassAt, askedAt}
 use Rattle.class_layout.specs.Notes.{Notes, Prepared}
-use Rattle.event_turns.specs.Roots.{classOf, RootStands}
+use Rattle.event_turns.specs.Roots.{classOf, Numbered, RootStands}
 use Rattle.event_turns.specs.declared.Asking.{Asking}
 
 -- a table that the check accepted, with its notes; its roots keep to their slots
@@ -23,3 +24,5 @@ pub record OfStream (t : List ℕ) (w : Asking) : Type 0 where
   pub common : classOf t (w .common) ≡ (streamClassAt t (w .class)) .common
   pub headerStands : RootStands t (w .header)
   pub commonStands : RootStands t (w .common)
+  pub headerNumbered : Numbered t (w .header) (headerNumber (streamClassAt t (w .class)))
+  pub commonNumbered : Numbered t (w .common) (commonNumber (streamClassAt t (w .class)))

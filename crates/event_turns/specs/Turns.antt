@@ -4,7 +4,7 @@ use mathlib.Core.List.{List}
 use Rattle.rules.specs.Step.{Step, _⨾_, pass}
 use Rattle.rules.specs.Field.{Env}
 use Rattle.rules.specs.Table.{StreamClass, EventClass, Asked}
-use Rattle.rules.specs.Packet.{readRoot}
+use Rattle.rules.specs.Packet.{readRoot, firstRoot, headerNumber, payloadNumber}
 use Rattle.class_layout.specs.Fragments.{streamClassAt, eventClassAt, askedAt}
 use Rattle.class_layout.specs.Sizes.{SizedFragment}
 use Rattle.event_turns.specs.Roots.{partsOf}
@@ -13,11 +13,11 @@ use Rattle.event_turns.specs.Event.{bodyOf}
 
 -- what is left of an event from a turn on, where d is its class
 unfoldable pub turnsFrom : Asked → StreamClass → Env → EventClass → ℕ → Step
-turnsFrom a c e d zero = readRoot e (c .header) ⨾ bodyOf a c e
+turnsFrom a c e d zero = readRoot e (headerNumber c) (c .header) ⨾ bodyOf a c e
 turnsFrom a c e d (suc zero) = bodyOf a c e
-turnsFrom a c e d (suc (suc zero)) = partsOf e (c .common) (d .specific) (d .payload)
-turnsFrom a c e d (suc (suc (suc zero))) = readRoot e (d .specific) ⨾ readRoot e (d .payload)
-turnsFrom a c e d (suc (suc (suc (suc zero)))) = readRoot e (d .payload)
+turnsFrom a c e d (suc (suc zero)) = partsOf e c d
+turnsFrom a c e d (suc (suc (suc zero))) = readRoot e firstRoot (d .specific) ⨾ readRoot e (payloadNumber d) (d .payload)
+turnsFrom a c e d (suc (suc (suc (suc zero)))) = readRoot e (payloadNumber d) (d .payload)
 turnsFrom a c e d (suc (suc (suc (suc (suc n))))) = pass
 
 -- the same of a table, where the event's class stands at a byte

@@ -1,6 +1,6 @@
 -- Laws of an entry's words: how many entries take, and those of two lists of entries.
 --
--- length-words    each entry takes four words
+-- length-words    each entry takes `wordsPerEntry` words
 -- words-append    the words of two lists of entries stand one behind the other
 use mathlib.Core.Path.{_≡_, refl, ap}
 use Prim.Native.Nat.{_*_}
@@ -19,4 +19,4 @@ length-words (e ∷ es) = omega (arith, length-words es)
 pub words-append : (es fs : List Entry) → words (es ++ fs) ≡ words es ++ words fs
 unfolding words
 words-append [] fs = refl
-words-append (e ∷ es) fs = ap (λ l. e .kind ∷ e .place .0 ∷ e .bits ∷ e .value ∷ l) (words-append es fs)
+words-append (e ∷ es) fs = ap (λ l. e .kind ∷ e .place .0 ∷ e .bits ∷ e .value ∷ e .number ∷ l) (words-append es fs)

@@ -7,6 +7,7 @@ use Rattle.rules.specs.Entry.{entry}
 use Rattle.rules.specs.Step.{State, _⨾_, listed}
 use Rattle.rules.specs.Field.{Env, times, read, readMembers}
 use Rattle.frame.specs.declared.Frame.{Frame}
+use Rattle.class_layout.specs.Numbers.{numberAt}
 use Rattle.class_layout.proofs.Depths.{deeper, members-deeper}
 use Rattle.field_inside.specs.declared.look.Inside.{Inside}
 use Rattle.field_inside.specs.declared.look.Inside.the-variants.{Members, Elements, Refused}
@@ -20,10 +21,10 @@ module _ (d d′ : ℕ) (t : List ℕ) (l : d ≤ d′) (f : Frame) (from : BitP
   held-deeper (Elements p v at n) h = record { place = h .place; class = deeper d d′ t l at (h .class) .0 }
   held-deeper (Refused v) h = tt
 
-  pub opened-deeper : (e : Env) (k : ℕ) (i : Inside) (s : State) → Held d t f from i → opened e k d t i s ≡ opened e k d′ t i s
+  pub opened-deeper : (e : Env) (m k : ℕ) (i : Inside) (s : State) → Held d t f from i → opened e m k d t i s ≡ opened e m k d′ t i s
   unfolding Held opened
-  opened-deeper e k (Members p v at n) s h =
-      ap (λ cs. (listed (entry k p 0 v) p ⨾ readMembers e cs) s) (members-deeper d d′ t at n l (h .classes) .same)
-  opened-deeper e k (Elements p v at n) s h =
-      ap (λ c. (listed (entry k p 0 v) p ⨾ times n (elementOf e (c .class))) s) (deeper d d′ t l at (h .class) .1)
-  opened-deeper e k (Refused v) s h = refl
+  opened-deeper e m k (Members p v at n) s h =
+      ap (λ cs. (listed (entry k p 0 v m) p ⨾ readMembers e (numberAt t at) cs) s) (members-deeper d d′ t at n l (h .classes) .same)
+  opened-deeper e m k (Elements p v at n) s h =
+      ap (λ c. (listed (entry k p 0 v m) p ⨾ times n (elementOf e (numberAt t at) (c .class))) s) (deeper d d′ t l at (h .class) .1)
+  opened-deeper e m k (Refused v) s h = refl

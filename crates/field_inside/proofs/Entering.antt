@@ -17,47 +17,49 @@ use Rattle.field_inside.specs.declared.opening.Entered.{Entered}
 use Rattle.field_inside.specs.Inside.{within, standing}
 use Rattle.field_inside.specs.Opening.{openedAs, listHolder, listOpened, enteredAt, listEntered}
 
-pub opened-by : (a : List ℕ) (k : ℕ) (ws : List ℕ) {o i : Inside} (j : Inside) → o ≡ i → o ≡ j
-    → (openedAs a j ≡ openedAs a i) × (listOpened k j ws ≡ listOpened k i ws)
-opened-by a k ws j look e = rw (sym look ∙ e) (refl, refl)
+-- the record's number was read, and the field looked at
+pub opened-by : (a : List ℕ) (k : ℕ) (ws : List ℕ) {n m : ℕ} {o i : Inside} (j : Inside) → n ≡ m → o ≡ i → o ≡ j
+    → (openedAs a j ≡ openedAs a i) × (listOpened k n j ws ≡ listOpened k m i ws)
+opened-by a k ws j number look e = rw (number, sym look ∙ e) (refl, refl)
 
 abbrev entered : Bool → BitPlace → Entered
 entered on p = record { on = on; place = p }
 
-module _ (f : Frame) (a : ℕ) (from : BitPlace) (n : ℕ) (ws : List ℕ) where
+module _ (f : Frame) (a : ℕ) (from : BitPlace) (n m : ℕ) (ws : List ℕ) where
   pub entered-past : {p : BitPlace} → p ≡ alignedAt f a from → f .bound .0 < p .0
-      → (entered false (f .bound) ≡ enteredAt f a from) × (ws ≡ listEntered f a from n ws)
+      → (entered false (f .bound) ≡ enteredAt f a from) × (ws ≡ listEntered f a from n m ws)
   unfolding enteredAt listEntered
   entered-past e h = rw (sym e, lt-ltb _ _ h, enteredAt, listEntered) (refl, refl)
 
-  pub entered-fits : {p : BitPlace} {ws′ : List ℕ} → p ≡ alignedAt f a from → p .0 ≤ f .bound .0 → ws′ ≡ listHolder 28 p n ws
-      → (entered true p ≡ enteredAt f a from) × (ws′ ≡ listEntered f a from n ws)
+  -- the structure's count and its record's number were read
+  pub entered-fits : {p : BitPlace} {v i : ℕ} {ws′ : List ℕ} → p ≡ alignedAt f a from → p .0 ≤ f .bound .0 → v ≡ n → i ≡ m
+      → ws′ ≡ listHolder 28 p v i ws → (entered true p ≡ enteredAt f a from) × (ws′ ≡ listEntered f a from n m ws)
   unfolding enteredAt listEntered
-  entered-fits e h list = rw (sym e, le-ltb _ _ h, enteredAt, listEntered, sym e) (refl, list)
+  entered-fits e h count number list = rw (sym e, le-ltb _ _ h, enteredAt, listEntered, sym e) (refl, rw (count, number) at list)
 
   -- what is told of the aligned place, and of one past the bound
-  pub record EnteredOn (m : BitPlace → Inside) : Type 0 where
-    pub told : standing f a from m ≡ m (alignedAt f a from)
-    pub listed : listEntered f a from n ws ≡ listHolder 28 (alignedAt f a from) n ws
+  pub record EnteredOn (i : BitPlace → Inside) : Type 0 where
+    pub told : standing f a from i ≡ i (alignedAt f a from)
+    pub listed : listEntered f a from n m ws ≡ listHolder 28 (alignedAt f a from) n m ws
     pub on : enteredAt f a from ≡ entered true (alignedAt f a from)
 
-  pub entered-on : (m : BitPlace → Inside) → enteredAt f a from .on ≡ true → EnteredOn m
+  pub entered-on : (i : BitPlace → Inside) → enteredAt f a from .on ≡ true → EnteredOn i
   unfolding enteredAt listEntered standing within
-  entered-on m = by (ltb (f .bound .0) (alignedAt f a from .0)) refl
+  entered-on i = by (ltb (f .bound .0) (alignedAt f a from .0)) refl
     where
-      by : (c : Bool) → ltb (f .bound .0) (alignedAt f a from .0) ≡ c → enteredAt f a from .on ≡ true → EnteredOn m
+      by : (c : Bool) → ltb (f .bound .0) (alignedAt f a from .0) ≡ c → enteredAt f a from .on ≡ true → EnteredOn i
       by true q h = absurd (clash (rw (q, enteredAt) at h))
       by false q h = record { told = rw (q, within) refl; listed = rw (q, listEntered) refl; on = rw (q, enteredAt) refl }
 
-  pub record EnteredOff (m : BitPlace → Inside) : Type 0 where
-    pub told : standing f a from m ≡ Refused (stopAt PastBound (f .bound))
-    pub listed : listEntered f a from n ws ≡ ws
+  pub record EnteredOff (i : BitPlace → Inside) : Type 0 where
+    pub told : standing f a from i ≡ Refused (stopAt PastBound (f .bound))
+    pub listed : listEntered f a from n m ws ≡ ws
     pub off : enteredAt f a from ≡ entered false (f .bound)
 
-  pub entered-off : (m : BitPlace → Inside) → enteredAt f a from .on ≡ false → EnteredOff m
+  pub entered-off : (i : BitPlace → Inside) → enteredAt f a from .on ≡ false → EnteredOff i
   unfolding enteredAt listEntered standing within
-  entered-off m = by (ltb (f .bound .0) (alignedAt f a from .0)) refl
+  entered-off i = by (ltb (f .bound .0) (alignedAt f a from .0)) refl
     where
-      by : (c : Bool) → ltb (f .bound .0) (alignedAt f a from .0) ≡ c → enteredAt f a from .on ≡ false → EnteredOff m
+      by : (c : Bool) → ltb (f .bound .0) (alignedAt f a from .0) ≡ c → enteredAt f a from .on ≡ false → EnteredOff i
       by true q h = record { told = rw (q, within) refl; listed = rw (q, listEntered) refl; off = rw (q, enteredAt) refl }
       by false q h = absurd (clash (sym (rw (q, enteredAt) at h)))

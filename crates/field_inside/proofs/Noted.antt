@@ -87,7 +87,14 @@ module _ (t : List ℕ) (x : Notes) (r : Prepared t x) where
     sizes = r .sized .room;
     aligns = r .room;
     kind = k;
-    stands = record { low = w .low; high = w .high; there = w .there; parts = parts-too d at w; kinds = kinds-too d at w };
+    stands = record {
+      low = w .low;
+      high = w .high;
+      there = w .there;
+      parts = parts-too d at w;
+      kinds = kinds-too d at w;
+      begins = w .begins;
+    };
     align = rw (r .classes (suc d) at w .align) (aligned (suc d) t at w .1);
   }
 

@@ -20,6 +20,7 @@ use Rattle.slots.specs.declared.Length.{Length}
 use Rattle.slots.specs.declared.Length.the-variants.{Of, NotOf}
 use Rattle.frame.specs.Framed.{alignedAt}
 use Rattle.slots.specs.Taken.{lengthOf}
+use Rattle.class_layout.specs.Numbers.{numberAt}
 use Rattle.class_layout.specs.Trees.{shapeOf, membersAt, stoodAt, classAt, Whole}
 use Rattle.class_layout.specs.Notes.{Notes, endNoted, alignNoted}
 use Rattle.field_choice.specs.declared.Choice.{Choice}
@@ -105,16 +106,18 @@ insideIn t x at f p c options = variantInside p (variantAt t (x .sizes) at c)
 unfoldable pub insideOf : List ℕ → Notes → ℕ → Frame → BitPlace → Content → Inside
 insideOf t x at f p c = insideIn t x at f p c (shapeOf (u8 t at))
 
--- What is done with it: the field's entry, and then the fields inside, which may have d depths
+-- What is done with it: the field's entry, with its record's number m, and then the fields inside, which may have d depths
 
 -- an element of an array: "at the start and the end of each array element, the slots .. become unset" (02, 3)
-abbrev pub elementOf : Env → FieldClass → Step
-elementOf e c = forget c ⨾ read e c ⨾ forget c
+abbrev pub elementOf : Env → ℕ → FieldClass → Step
+elementOf e m c = forget c ⨾ read e m c ⨾ forget c
 
-unfoldable pub opened : Env → ℕ → ℕ → List ℕ → Inside → Step
-opened e k d t (Members p v from n) s = (listed (entry k p 0 v) p ⨾ readMembers e (membersAt (stoodAt d t) from n)) s
-opened e k d t (Elements p v from n) s = (listed (entry k p 0 v) p ⨾ times n (elementOf e (classAt d t from))) s
-opened e k d t (Refused v) s = refuseAt (v .why) (v .place) s
+unfoldable pub opened : Env → ℕ → ℕ → ℕ → List ℕ → Inside → Step
+opened e m k d t (Members p v from n) s =
+    (listed (entry k p 0 v m) p ⨾ readMembers e (numberAt t from) (membersAt (stoodAt d t) from n)) s
+opened e m k d t (Elements p v from n) s =
+    (listed (entry k p 0 v m) p ⨾ times n (elementOf e (numberAt t from) (classAt d t from))) s
+opened e m k d t (Refused v) s = refuseAt (v .why) (v .place) s
 
 -- What the code goes by: a class of kinds 28 to 32 stands at a byte, with all that it holds in the table, and what is noted of it can be
 -- asked; no depth is in it

@@ -6,6 +6,7 @@ use lib.ListN.{drop}
 use lib.Dec.{eqb, ltb}
 use Rattle.rules.specs.declared.BitPlace.{BitPlace}
 use Rattle.rules.specs.declared.Refusal.the-variants.{PastBound}
+use Rattle.rules.specs.Limits.{wordsPerEntry}
 use Rattle.rules.specs.Entry.{entry, words}
 use Rattle.frame.specs.declared.Frame.{Frame}
 use Rattle.frame.specs.Framed.{alignedAt}
@@ -30,14 +31,14 @@ openedAs a (Elements q v from n) = wentIn q from n true (forgetsAt a from n)
 openedAs a (Refused v) =
     record { on = false; why = v .why; place = v .place; from = 0; count = 0; elements = false; forgets = 0 }
 
--- the list behind the entry of a field of the kind k, which has no bits of its own
-abbrev pub listHolder : ℕ → BitPlace → ℕ → List ℕ → List ℕ
-listHolder k p v ws = words (entry k p 0 v ∷ []) ++ drop 4 ws
+-- the list behind the entry of a field of the kind k, which has no bits of its own; m is its record's number
+abbrev pub listHolder : ℕ → BitPlace → ℕ → ℕ → List ℕ → List ℕ
+listHolder k p v m ws = words (entry k p 0 v m ∷ []) ++ drop wordsPerEntry ws
 
-unfoldable pub listOpened : ℕ → Inside → List ℕ → List ℕ
-listOpened k (Members q v from n) ws = listHolder k q v ws
-listOpened k (Elements q v from n) ws = listHolder k q v ws
-listOpened k (Refused v) ws = ws
+unfoldable pub listOpened : ℕ → ℕ → Inside → List ℕ → List ℕ
+listOpened k m (Members q v from n) ws = listHolder k q v m ws
+listOpened k m (Elements q v from n) ws = listHolder k q v m ws
+listOpened k m (Refused v) ws = ws
 
 -- a structure, aligned to so many bits: its place lies past the bound, at which it is refused; or it is entered there
 unfoldable pub enteredAt : Frame → ℕ → BitPlace → Entered
@@ -46,5 +47,5 @@ enteredAt f a p = elim (ltb (f .bound .0) (alignedAt f a p .0)) [
   | false ↦ record { on = true; place = alignedAt f a p }
 ]
 
-unfoldable pub listEntered : Frame → ℕ → BitPlace → ℕ → List ℕ → List ℕ
-listEntered f a p n ws = elim (ltb (f .bound .0) (alignedAt f a p .0)) [ true ↦ ws | false ↦ listHolder 28 (alignedAt f a p) n ws ]
+unfoldable pub listEntered : Frame → ℕ → BitPlace → ℕ → ℕ → List ℕ → List ℕ
+listEntered f a p n m ws = elim (ltb (f .bound .0) (alignedAt f a p .0)) [ true ↦ ws | false ↦ listHolder 28 (alignedAt f a p) n m ws ]

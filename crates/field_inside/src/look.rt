@@ -58,7 +58,7 @@ pub fn slot_read(table: &[u8], at: usize) -> usize
 pub fn look(
     table: &[u8],
     sizes: &[u16],
-    aligns: &[u16],
+    aligns: &[u32],
     at: usize,
     frame: Frame,
     place: BitPlace,

@@ -2,6 +2,7 @@
 use crate::look::Inside;
 use crate::look::look;
 use class_layout::words::align_of;
+use class_layout::words::number_of;
 use class_layout::words::sets_of;
 use frame::Frame;
 use listing::entry::write;
@@ -15,9 +16,10 @@ ghost use mathlib.Core.Path.{_≡_};
 ghost use mathlib.Core.List.{[], _∷_, _++_};
 ghost use Prim.Native.Nat.{_+_, _≤_, _<_, _^_};
 ghost use lib.ListN.{length, drop};
+ghost use Rattle.rules.specs.Limits.{wordsPerEntry};
 ghost use Rattle.rules.specs.Record.{u8};
 ghost use Rattle.rules.specs.Entry.{words, entry};
-ghost use Rattle.class_layout.specs.Notes.{notes, alignNoted};
+ghost use Rattle.class_layout.specs.Notes.{notes, alignNoted, numberNoted};
 ghost use Rattle.field_inside.specs.Inside.{insideOf, HolderStands};
 ghost use Rattle.field_inside.specs.Opening.{openedAs, listOpened, enteredAt, listEntered, wentIn, forgetsAt};
 
@@ -37,7 +39,7 @@ pub struct Opened {
 pub fn open_field(
     table: &[u8],
     sizes: &[u16],
-    aligns: &[u16],
+    aligns: &[u32],
     frame: Frame,
     at: usize,
     place: BitPlace,
@@ -46,17 +48,18 @@ pub fn open_field(
 ) -> Opened
     requires { ⌜ HolderStands (now table) (notes (now sizes) (now aligns)) at ⌝ }
     requires { ⌜ (frame .start .0 ≤ place .0) × (place .0 + 64 ≤ 2 ^ 64) ⌝ }
-    requires { ⌜ 4 ≤ length (now list) ⌝ }
+    requires { ⌜ wordsPerEntry ≤ length (now list) ⌝ }
     ensures { λ r. ⌜
         r ≡ openedAs (now (aligns .entry))
         (insideOf (now (table .entry)) (notes (now (sizes .entry)) (now (aligns .entry))) at frame place content)
         ⌝ }
     ensures { λ _. ⌜
-        now (list .exit) ≡ listOpened (u8 (now (table .entry)) at)
+        now (list .exit) ≡ listOpened (u8 (now (table .entry)) at) (numberNoted (now (aligns .entry)) at)
         (insideOf (now (table .entry)) (notes (now (sizes .entry)) (now (aligns .entry))) at frame place content) (now (list .entry))
         ⌝ }
 {
     let kind = table[at];
+    let number = number_of(aligns[at]);
     match look(table, sizes, aligns, at, frame, place, content) {
         Inside::Refused(stop) => {
             let why = stop.why;
@@ -77,7 +80,7 @@ pub fn open_field(
             from,
             count,
         } => {
-            list_holder(kind, there, value, list);
+            list_holder(kind, there, value, number, list);
             went_in(there, from, count, false, 0)
         }
         Inside::Elements {
@@ -86,7 +89,7 @@ pub fn open_field(
             from,
             count,
         } => {
-            list_holder(kind, there, value, list);
+            list_holder(kind, there, value, number, list);
             let forgets = forgotten_around(aligns, from, count);
             went_in(there, from, count, true, forgets)
         }
@@ -108,7 +111,7 @@ fn went_in(place: BitPlace, from: usize, count: usize, elements: bool, forgets: 
 }
 
 // What is forgotten around each of so many elements of the class at a byte: what it sets; nothing where there is no element.
-fn forgotten_around(aligns: &[u16], at: usize, count: usize) -> usize
+fn forgotten_around(aligns: &[u32], at: usize, count: usize) -> usize
     ensures { λ r. ⌜ r ≡ forgetsAt (now (aligns .entry)) at count ⌝ }
 {
     if count == 0 {
@@ -129,7 +132,7 @@ pub struct Entered {
 // The same of the structure at a byte, which reads no slot: what it holds stands in its record.
 pub fn enter_structure(
     table: &[u8],
-    aligns: &[u16],
+    aligns: &[u32],
     frame: Frame,
     at: usize,
     from: BitPlace,
@@ -137,11 +140,11 @@ pub fn enter_structure(
 ) -> Entered
     requires { ⌜ (at + 2 ≤ length (now table)) × (at < length (now aligns)) × (alignNoted (now aligns) at ≤ 6) ⌝ }
     requires { ⌜ (frame .start .0 ≤ from .0) × (from .0 + 64 ≤ 2 ^ 64) ⌝ }
-    requires { ⌜ 4 ≤ length (now list) ⌝ }
+    requires { ⌜ wordsPerEntry ≤ length (now list) ⌝ }
     ensures { λ r. ⌜ r ≡ enteredAt frame (2 ^ alignNoted (now (aligns .entry)) at) from ⌝ }
     ensures { λ _. ⌜
         now (list .exit) ≡ listEntered frame (2 ^ alignNoted (now (aligns .entry)) at) from (u8 (now (table .entry)) (at + 1))
-        (now (list .entry))
+        (numberNoted (now (aligns .entry)) at) (now (list .entry))
         ⌝ }
 {
     let place = places::align(from, frame.start, align_of(aligns[at]));
@@ -152,14 +155,20 @@ pub fn enter_structure(
             place: bound,
         };
     }
-    list_holder(kinds::STRUCTURE, place, wide64(table[at + 1]), list);
+    list_holder(
+        kinds::STRUCTURE,
+        place,
+        wide64(table[at + 1]),
+        number_of(aligns[at]),
+        list,
+    );
     Entered { on: true, place }
 }
 
 // The entry of a field that holds fields: it has no bits of its own.
-fn list_holder(kind: u8, place: BitPlace, value: u64, list: &mut [u64])
-    requires { ⌜ 4 ≤ length (now list) ⌝ }
-    ensures { λ _. ⌜ now (list .exit) ≡ words (entry kind place 0 value ∷ []) ++ drop 4 (now (list .entry)) ⌝ }
+fn list_holder(kind: u8, place: BitPlace, value: u64, number: u64, list: &mut [u64])
+    requires { ⌜ wordsPerEntry ≤ length (now list) ⌝ }
+    ensures { λ _. ⌜ now (list .exit) ≡ words (entry kind place 0 value number ∷ []) ++ drop wordsPerEntry (now (list .entry)) ⌝ }
 {
     write(
         list,
@@ -168,6 +177,7 @@ fn list_holder(kind: u8, place: BitPlace, value: u64, list: &mut [u64])
             place,
             bits: 0,
             value,
+            number,
         },
     );
 }

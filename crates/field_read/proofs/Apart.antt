@@ -12,6 +12,7 @@ use lib.ListN.{length, getD, set}
 use lib.Seq.{getD-set-same, getD-set-other}
 use Rattle.rules.specs.declared.BitPlace.{BitPlace}
 use Rattle.rules.specs.declared.Content.{Content}
+use Rattle.rules.specs.Limits.{wordsPerEntry}
 use Rattle.rules.specs.Verdict.{stopAt}
 use Rattle.rules.specs.Slots.{Slots}
 use Rattle.rules.specs.Entry.{entry}
@@ -21,6 +22,8 @@ use Rattle.rules.specs.Step.{Step, _⨾_, listed}
 use Rattle.rules.specs.Field.{read}
 use Rattle.facts.proofs.Numbers.{lt-or-ge}
 use Rattle.facts.proofs.Truth.{clash}
+use Rattle.class_layout.specs.Numbers.{numberAt}
+use Rattle.class_layout.specs.Notes.{numberNoted}
 use Rattle.class_layout.specs.Trees.{classAt}
 use Rattle.listing.specs.declared.Progress.{Progress}
 use Rattle.listing.specs.Did.{full}
@@ -36,7 +39,8 @@ use Rattle.field_runs.proofs.Ahead.{heldRead, alone-reads, alone-stands, instea
 use Rattle.field_read.specs.Reads.{stateAt}
 use Rattle.field_read.proofs.Noted.{around-noted}
 use Rattle.field_read.proofs.Round.{Loop, env, left, Round, Stops, round-over, Holder, insideHere, holder-part, rest-stands}
-use Rattle.field_read.proofs.Round.{Told, members-told, elements-told, entry-put, open-same, open-stops, open-few}
+use Rattle.field_read.proofs.Round.{openedList, number-noted, Told, members-told, elements-told, entry-put, open-same, open-stops}
+use Rattle.field_read.proofs.Round.{open-few}
 
 -- The same loop with something else behind its run
 
@@ -65,7 +69,8 @@ pub record ApartRound (w : Loop) (r : Run) (ws : List ℕ) (used : ℕ) (st : Pr
   pub rest-stands : WholeRun (w .depths) (w .table) (behindRun r (w .notes .sizes) (r .next) (r .todo - 1))
   pub stops : o .on ≡ false → Stops w (stopAt (o .why) (o .place)) used (merged used ws ys)
   pub goes : o .on ≡ true → Round (apartFrom w (behindRun r (w .notes .sizes) (r .next) (r .todo - 1)))
-      (aloneRun (o .from) (o .count) (o .elements) (o .forgets)) (merged used ws ys) (used + 4) (stateAt (o .place) (st .order) st) l
+      (aloneRun (o .from) (o .count) (o .elements) (o .forgets)) (merged used ws ys) (used + wordsPerEntry)
+      (stateAt (o .place) (st .order) st) l
 
 module _ {w : Loop} {r : Run} {ws : List ℕ} {used : ℕ} {st : Progress} {l : Slots} {c : Content} (h : Holder w r ws used st l c) where
   abbrev rest : Run
@@ -73,28 +78,30 @@ module _ {w : Loop} {r : Run} {ws : List ℕ} {used : ℕ} {st : Progress} {l : 
 
   told-round : {p : BitPlace} {v from n : ℕ} {elements : Bool} (f : ℕ) → Told h p v from n elements
       → (elements ≡ true → Forgets n f (sets (classAt (w .depths) (w .table) from)))
-      → Round (apartFrom w rest) (aloneRun from n elements f) (merged used ws (listHolder (u8 (w .table) (r .next)) p v (lent used ws)))
-      (used + 4) (stateAt p (st .order) st) l
+      → Round (apartFrom w rest) (aloneRun from n elements f)
+      (merged used ws (listHolder (u8 (w .table) (r .next)) p v (numberAt (w .table) (r .next)) (lent used ws)))
+      (used + wordsPerEntry) (stateAt p (st .order) st) l
   told-round {p} {v} {from} {n} {elements} f q right =
       let d = w .depths in
       let t = w .table in
-      let m = listed (entry (u8 t (r .next)) p 0 v) p in
+      let this = read (env w) (numberAt t (r .next)) (classAt d t (r .next)) in
+      let m = listed (entry (u8 t (r .next)) p 0 v (numberAt t (r .next))) p in
       let alone = ahead d t (env w) (aloneRun from n elements f) in
       let here = full st l (length (w .list) - used) in
-      let reads = instead (read (env w) (classAt d t (r .next))) m (heldRead d t (env w) from n elements) (left w rest) here (q .reads) in
+      let reads = instead this m (heldRead d t (env w) from n elements) (left w rest) here (q .reads) in
       record {
         stands = alone-stands d t from n elements f (q .class) right (q .parts);
         noted = h .round .noted;
         framed = q .framed;
         many = h .round .many;
-        part = entry-put h p v (read (env w) (classAt d t (r .next)) ⨾ left w rest) (alone ⨾ left w rest) (holder-part h)
+        part = entry-put h p v (this ⨾ left w rest) (alone ⨾ left w rest) (holder-part h)
             (reads ∙ ap (λ (x : Step). (m ⨾ (x ⨾ left w rest)) here) (sym (alone-reads d t (env w) from n elements f right)));
       }
 
   apart-goes : (i : Inside) → insideHere h ≡ i → openedAs (w .notes .aligns) i .on ≡ true →
       let o = openedAs (w .notes .aligns) i in
       Round (apartFrom w rest) (aloneRun (o .from) (o .count) (o .elements) (o .forgets))
-      (merged used ws (listOpened (u8 (w .table) (r .next)) i (lent used ws))) (used + 4) (stateAt (o .place) (st .order) st) l
+      (merged used ws (openedList w r i (lent used ws))) (used + wordsPerEntry) (stateAt (o .place) (st .order) st) l
   unfolding openedAs wentIn listOpened
   apart-goes (Members p v from n) e on = told-round 0 (members-told h e) (λ b. absurd (clash b))
   apart-goes (Elements p v from n) e on =
@@ -103,8 +110,9 @@ module _ {w : Loop} {r : Run} {ws : List ℕ} {used : ℕ} {st : Progress} {l : 
   apart-goes (Refused v) e on = absurd (clash on)
 
   pub apart-round : {o : Opened} {ys : List ℕ} → o ≡ openedAs (w .notes .aligns) (insideHere h)
-      → ys ≡ listOpened (u8 (w .table) (r .next)) (insideHere h) (lent used ws) → ApartRound w r ws used st l o ys
-  apart-round e f = rw (e, f) record {
+      → ys ≡ listOpened (u8 (w .table) (r .next)) (numberNoted (w .notes .aligns) (r .next)) (insideHere h) (lent used ws)
+      → ApartRound w r ws used st l o ys
+  apart-round e f = rw (e, f, number-noted h) record {
     same = open-same h (insideHere h);
     few = open-few h;
     rest-stands = rest-stands h;

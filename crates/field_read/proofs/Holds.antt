@@ -1,28 +1,29 @@
 -- A field that holds others: its own entry stands in front, and what is inside is lent the rest of the list.
 use mathlib.Core.Path.{_≡_, refl, ap, sym, subst, _∙_}
-use mathlib.Core.List.{List, [], _∷_, _++_}
+use mathlib.Core.List.{List, [], _∷_}
 use mathlib.Core.Bool.{true, false}
 use Prim.Native.Nat.{ℕ, suc, _+_, _-_, _*_, _^_, _≤_, _<_}
 use native.Mathlib.Omega.{arith}
-use lib.ListN.{length, drop}
+use lib.ListN.{length}
 use borrow.Rule.Slice.PartMut.{same-len-mid}
 use Rattle.rules.specs.declared.BitPlace.{BitPlace}
 use Rattle.rules.specs.declared.Stop.{Stop}
-use Rattle.rules.specs.Limits.{slotCount}
+use Rattle.rules.specs.Limits.{slotCount, wordsPerEntry}
 use Rattle.rules.specs.Verdict.{stopAt}
 use Rattle.rules.specs.Slots.{Slots, slotAt}
-use Rattle.rules.specs.Entry.{entry, words}
+use Rattle.rules.specs.Entry.{entry}
 use Rattle.rules.specs.declared.Content.{Content}
 use Rattle.rules.specs.Record.{u8}
 use Rattle.rules.specs.Class.{sets}
 use Rattle.rules.specs.Step.{State, Step, after, _⨾_, refuseAt, listed}
 use Rattle.facts.proofs.Truth.{clash}
+use Rattle.class_layout.specs.Numbers.{numberAt}
 use Rattle.class_layout.specs.Trees.{whole, wholeMembers, stoodAt, classAt}
-use Rattle.class_layout.specs.Notes.{Notes, Prepared}
+use Rattle.class_layout.specs.Notes.{Notes, Prepared, numberNoted}
 use Rattle.field_inside.specs.declared.look.Inside.{Inside}
 use Rattle.field_inside.specs.declared.look.Inside.the-variants.{Members, Elements, Refused}
 use Rattle.field_inside.specs.declared.opening.Opened.{Opened}
-use Rattle.field_inside.specs.Opening.{openedAs, wentIn, listOpened}
+use Rattle.field_inside.specs.Opening.{openedAs, wentIn, listHolder, listOpened}
 use Rattle.field_inside.specs.Inside.{insideOf, slotReadAt, opened, HolderStands}
 use Rattle.field_inside.specs.Held.{Held, Placed, HeldMembers, HeldElements}
 use Rattle.field_inside.proofs.Noted.{opens}
@@ -48,7 +49,7 @@ pub record Holder (b u : List ℕ) (f : Frame) (t : List ℕ) (x : Notes) (d at 
     (ws : List ℕ) : Type 0 where
   pub stands : whole d t at
   pub holds : 28 ≤ u8 t at
-  pub room : 4 ≤ length ws
+  pub room : wordsPerEntry ≤ length ws
   pub small : 8 * length ws < 2 ^ 63
   pub noted : Prepared t x
   pub framed : Framed b f (st .place)
@@ -57,10 +58,10 @@ pub record Holder (b u : List ℕ) (f : Frame) (t : List ℕ) (x : Notes) (d at 
 
 -- what the fields inside did to the field that holds them, whose entry stands in front: ws is the list behind them
 pub record Closed (w : Call) (ws : List ℕ) (r : Field) : Type 0 where
-  pub fits : 4 + r .used < 2 ^ 60
+  pub fits : wordsPerEntry + r .used < 2 ^ 60
   pub same : length ws ≡ length (w .list)
-  pub stops : (v : Stop) → r .went ≡ Stopped v → CallReads w (stoppedCall w v (4 + r .used)) ws
-  pub goes : r .went ≡ On → CallReads w (record { went = On; used = 4 + r .used; state = r .state; slots = r .slots }) ws
+  pub stops : (v : Stop) → r .went ≡ Stopped v → CallReads w (stoppedCall w v (wordsPerEntry + r .used)) ws
+  pub goes : r .went ≡ On → CallReads w (record { went = On; used = wordsPerEntry + r .used; state = r .state; slots = r .slots }) ws
 
 -- the class of an opened array's elements, and what is forgotten around each
 pub record ElementsStand (d : ℕ) (t : List ℕ) (o : Opened) : Type 0 where
@@ -76,7 +77,7 @@ pub closed-reads : {w : Call} {ws : List ℕ} {r : Field} → Closed w ws r → 
 unfolding gone
 closed-reads {w} {ws} {r} k = by (r .went) refl
   where
-    by : (g : Went) → r .went ≡ g → CallReads w (gone g (4 + r .used) (r .state) (r .slots) (w .came) (w .given)) ws
+    by : (g : Went) → r .went ≡ g → CallReads w (gone g (wordsPerEntry + r .used) (r .state) (r .slots) (w .came) (w .given)) ws
     by On on = k .goes on
     by (Stopped v) off = k .stops v off
 
@@ -115,7 +116,10 @@ module _ {b u : List ℕ} {f : Frame} {t : List ℕ} {x : Notes} {d at : ℕ} {c
   abbrev s : State
   s = full st l (length ws)
 
-  opened-read : outcome this ≡ opened (envOf b u f) (u8 t at) (d - 1) t (insideOf t x at f (st .place) c) s
+  abbrev number : ℕ
+  number = numberAt t at
+
+  opened-read : outcome this ≡ opened (envOf b u f) number (u8 t at) (d - 1) t (insideOf t x at f (st .place) c) s
   opened-read = ap (λ (e : ℕ). classRead e t at (envOf b u f) s) (depth-some t at d (h .stands))
       ∙ inside-read b u f (d - 1) t x at c s deep (h .holds) (h .room) (sym (h .told)) (h .framed) (h .noted)
 
@@ -129,16 +133,17 @@ module _ {b u : List ℕ} {f : Frame} {t : List ℕ} {x : Notes} {d at : ℕ} {c
   }
 
   -- the field is its entry, and then m
-  module _ {p : BitPlace} (v : ℕ) {m : Step} {ws₁ ys : List ℕ} {r : Field} (o : outcome this ≡ (listed (entry (u8 t at) p 0 v) p ⨾ m) s)
-      (e : ws₁ ≡ words (entry (u8 t at) p 0 v ∷ []) ++ drop 4 ws) (did : FieldReads m (atPlace p st) l r (lent 4 ws₁) ys) where
-    entry-part : Part (outcome this) m ws ws₁ 4 (atPlace p st) l
+  module _ {p : BitPlace} (v : ℕ) {m : Step} {ws₁ ys : List ℕ} {r : Field}
+      (o : outcome this ≡ (listed (entry (u8 t at) p 0 v number) p ⨾ m) s) (e : ws₁ ≡ listHolder (u8 t at) p v number ws)
+      (did : FieldReads m (atPlace p st) l r (lent wordsPerEntry ws₁) ys) where
+    entry-part : Part (outcome this) m ws ws₁ wordsPerEntry (atPlace p st) l
     unfolding _⨾_ after listed
-    entry-part = record { listed = entry (u8 t at) p 0 v ∷ []; list = e; counted = refl; room = h .room; rest = o }
+    entry-part = record { listed = entry (u8 t at) p 0 v number ∷ []; list = e; counted = refl; room = h .room; rest = o }
 
-    closed : Closed this (merged 4 ws₁ ys) r
+    closed : Closed this (merged wordsPerEntry ws₁ ys) r
     closed = record {
       fits = omega (arith, back-room m entry-part (did .did), h .small);
-      same = same-len-mid 4 (length ws₁ - 4) ws₁ ys (did-length (did .did)) ∙ part-length entry-part;
+      same = same-len-mid wordsPerEntry (length ws₁ - wordsPerEntry) ws₁ ys (did-length (did .did)) ∙ part-length entry-part;
       stops = λ v off. record { did = part-last-stopped m entry-part (did .did) v st _ off; kept = λ v h. refl; many = h .many };
       goes = λ on. record {
         did = part-last-on m entry-part (did .did) st on;
@@ -148,14 +153,16 @@ module _ {b u : List ℕ} {f : Frame} {t : List ℕ} {x : Notes} {d at : ℕ} {c
     }
 
   pub members-closed : {o : Inside} {p : BitPlace} {v at′ n : ℕ} {ws₁ ys : List ℕ} {r : Field}
-      → o ≡ insideOf t x at f (st .place) c → o ≡ Members p v at′ n → ws₁ ≡ words (entry (u8 t at) p 0 v ∷ []) ++ drop 4 ws
-      → FieldReads (membersRead (d - 1) t at′ n (envOf b u f)) (atPlace p st) l r (lent 4 ws₁) ys → Closed this (merged 4 ws₁ ys) r
+      → o ≡ insideOf t x at f (st .place) c → o ≡ Members p v at′ n → ws₁ ≡ listHolder (u8 t at) p v number ws
+      → FieldReads (membersRead (d - 1) t at′ n (envOf b u f)) (atPlace p st) l r (lent wordsPerEntry ws₁) ys
+      → Closed this (merged wordsPerEntry ws₁ ys) r
   unfolding opened
   members-closed look e = closed _ (opened-read ∙ rw (sym look ∙ e) refl)
 
   pub elements-closed : {o : Inside} {p : BitPlace} {v at′ n : ℕ} {ws₁ ys : List ℕ} {r : Field}
-      → o ≡ insideOf t x at f (st .place) c → o ≡ Elements p v at′ n → ws₁ ≡ words (entry (u8 t at) p 0 v ∷ []) ++ drop 4 ws
-      → FieldReads (elementsRead (d - 1) t at′ n (envOf b u f)) (atPlace p st) l r (lent 4 ws₁) ys → Closed this (merged 4 ws₁ ys) r
+      → o ≡ insideOf t x at f (st .place) c → o ≡ Elements p v at′ n → ws₁ ≡ listHolder (u8 t at) p v number ws
+      → FieldReads (elementsRead (d - 1) t at′ n (envOf b u f)) (atPlace p st) l r (lent wordsPerEntry ws₁) ys
+      → Closed this (merged wordsPerEntry ws₁ ys) r
   unfolding opened
   elements-closed look e = closed _ (opened-read ∙ rw (sym look ∙ e) refl)
 
@@ -165,7 +172,7 @@ module _ {b u : List ℕ} {f : Frame} {t : List ℕ} {x : Notes} {d at : ℕ} {c
 
   refused-told : (j : Inside) → told ≡ j →
       let o = openedAs (x .aligns) j in
-      o .on ≡ false → CallReads this (stoppedCall this (stopAt (o .why) (o .place)) 0) (listOpened (u8 t at) j ws)
+      o .on ≡ false → CallReads this (stoppedCall this (stopAt (o .why) (o .place)) 0) (listOpened (u8 t at) number j ws)
   unfolding openedAs wentIn listOpened
   refused-told (Members p v from n) e off = absurd (clash (sym off))
   refused-told (Elements p v from n) e off = absurd (clash (sym off))
@@ -193,8 +200,8 @@ module _ {b u : List ℕ} {f : Frame} {t : List ℕ} {x : Notes} {d at : ℕ} {c
       let o = openedAs (x .aligns) j in
       o .on ≡ true → o .elements ≡ false
       → FieldReads (membersRead (d - 1) t (o .from) (o .count) (envOf b u f)) (atPlace (o .place) st) l r
-      (lent 4 (listOpened (u8 t at) j ws)) ys
-      → Closed this (merged 4 (listOpened (u8 t at) j ws) ys) r
+      (lent wordsPerEntry (listOpened (u8 t at) number j ws)) ys
+      → Closed this (merged wordsPerEntry (listOpened (u8 t at) number j ws) ys) r
   unfolding openedAs wentIn listOpened
   members-did (Members p v from n) e on one did = members-closed (sym e) refl refl did
   members-did (Elements p v from n) e on one did = absurd (clash (sym one))
@@ -204,15 +211,19 @@ module _ {b u : List ℕ} {f : Frame} {t : List ℕ} {x : Notes} {d at : ℕ} {c
       let o = openedAs (x .aligns) j in
       o .on ≡ true → o .elements ≡ true
       → FieldReads (elementsRead (d - 1) t (o .from) (o .count) (envOf b u f)) (atPlace (o .place) st) l r
-      (lent 4 (listOpened (u8 t at) j ws)) ys
-      → Closed this (merged 4 (listOpened (u8 t at) j ws) ys) r
+      (lent wordsPerEntry (listOpened (u8 t at) number j ws)) ys
+      → Closed this (merged wordsPerEntry (listOpened (u8 t at) number j ws) ys) r
   unfolding openedAs wentIn listOpened
   elements-did (Members p v from n) e on one did = absurd (clash one)
   elements-did (Elements p v from n) e on one did = elements-closed (sym e) refl refl did
   elements-did (Refused v) e on one did = absurd (clash on)
 
   -- the same of what the code says
-  module _ {o : Opened} {ws₁ : List ℕ} (e : o ≡ openedAs (x .aligns) told) (list : ws₁ ≡ listOpened (u8 t at) told ws) where
+  module _ {o : Opened} {ws₁ : List ℕ} (e : o ≡ openedAs (x .aligns) told)
+      (noted : ws₁ ≡ listOpened (u8 t at) (numberNoted (x .aligns) at) told ws) where
+    list : ws₁ ≡ listOpened (u8 t at) number told ws
+    list = noted ∙ ap (λ n. listOpened (u8 t at) n told ws) (h .noted .numbers d at (h .stands))
+
     pub open-refused : o .on ≡ false → CallReads this (stoppedCall this (stopAt (o .why) (o .place)) 0) ws₁
     open-refused off = rw (list, e) (refused-told told refl (rw e at off))
 
@@ -224,11 +235,11 @@ module _ {b u : List ℕ} {f : Frame} {t : List ℕ} {x : Notes} {d at : ℕ} {c
     open-elements on one = rw e (elements-told told refl (rw e at on) (rw e at one))
 
     pub members-open : {ys : List ℕ} {r : Field} → o .on ≡ true → o .elements ≡ false
-        → FieldReads (membersRead (d - 1) t (o .from) (o .count) (envOf b u f)) (atPlace (o .place) st) l r (lent 4 ws₁) ys
-        → Closed this (merged 4 ws₁ ys) r
+        → FieldReads (membersRead (d - 1) t (o .from) (o .count) (envOf b u f)) (atPlace (o .place) st) l r (lent wordsPerEntry ws₁) ys
+        → Closed this (merged wordsPerEntry ws₁ ys) r
     members-open on one did = rw list (members-did told refl (rw e at on) (rw e at one) (rw (list, e) at did))
 
     pub elements-open : {ys : List ℕ} {r : Field} → o .on ≡ true → o .elements ≡ true
-        → FieldReads (elementsRead (d - 1) t (o .from) (o .count) (envOf b u f)) (atPlace (o .place) st) l r (lent 4 ws₁) ys
-        → Closed this (merged 4 ws₁ ys) r
+        → FieldReads (elementsRead (d - 1) t (o .from) (o .count) (envOf b u f)) (atPlace (o .place) st) l r (lent wordsPerEntry ws₁) ys
+        → Closed this (merged wordsPerEntry ws₁ ys) r
     elements-open on one did = rw list (elements-did told refl (rw e at on) (rw e at one) (rw (list, e) at did))

@@ -14,7 +14,7 @@ use Rattle.rules.specs.declared.Entry.{Entry}
 use Rattle.rules.specs.declared.Stop.{Stop}
 use Rattle.rules.specs.declared.Content.{Content}
 use Rattle.rules.specs.declared.Refusal.the-variants.{ListFull, PastBound}
-use Rattle.rules.specs.Limits.{slotCount}
+use Rattle.rules.specs.Limits.{slotCount, wordsPerEntry}
 use Rattle.rules.specs.Verdict.{stopAt}
 use Rattle.rules.specs.Slots.{Slots, slotAt, setSlot, unset}
 use Rattle.rules.specs.Entry.{entry, words}
@@ -28,9 +28,10 @@ use Rattle.facts.specs.Bytes.{Bytes}
 use Rattle.facts.proofs.Truth.{clash}
 use Rattle.facts.proofs.Forgets.{length-unset}
 use Rattle.facts.proofs.Steps.{listOf, onto-nil, after-onto, seq-assoc, pass-seq}
+use Rattle.class_layout.specs.Numbers.{numberAt}
 use Rattle.class_layout.specs.Trees.{stoodAt, classAt, nextAt, behindMembers, whole, wholeMembers}
 use Rattle.class_layout.specs.Fields.{readFields, onward}
-use Rattle.class_layout.specs.Notes.{Notes, Prepared, SizedClasses}
+use Rattle.class_layout.specs.Notes.{Notes, Prepared, SizedClasses, numberNoted}
 use Rattle.class_layout.proofs.Fields.{foremost}
 use Rattle.class_layout.proofs.InPlace.{members-few}
 use Rattle.class_layout.proofs.Standing.{depth-some, first}
@@ -131,7 +132,7 @@ unlent : (u : ℕ) (ws : List ℕ) → merged u ws (lent u ws) ≡ ws
 unlent u ws = ap (λ z. take u ws ++ z) (take-append-drop (length ws - u) (drop u ws)) ∙ take-append-drop u ws
 
 module _ {o : Out} {m : Step} {ws₀ ws : List ℕ} {used : ℕ} {st : Progress} {l : Slots} (part : Part o m ws₀ ws used st l)
-    (es : List Entry) (n : ℕ) {ys : List ℕ} (counted : n ≡ 4 * length es) (room : n ≤ length (lent used ws))
+    (es : List Entry) (n : ℕ) {ys : List ℕ} (counted : n ≡ wordsPerEntry * length es) (room : n ≤ length (lent used ws))
     (list : ys ≡ words es ++ drop n (lent used ws)) where
   -- by a step that goes on at a place and an order
   module _ (p : BitPlace) (order : LastOrder) (g : Step)
@@ -215,22 +216,22 @@ pub round-over : {w : Loop} {r : Run} {ws : List ℕ} {used : ℕ} {st : Progres
 round-over {w} {r} h e = rw (over-reads (w .depths) (w .table) (env w) r e, pass-seq (w .behind)) at (h .part)
 
 -- 40 comes before all else of a field
-read-full : (e : Env) (c : Class) (s : State) → s .room < 4 → read e c s ≡ refuse ListFull s
+read-full : (e : Env) (m : ℕ) (c : Class) (s : State) → s .room < wordsPerEntry → read e m c s ≡ refuse ListFull s
 unfolding read readFixed
-read-full e (fixed k n o a i r) s h = no-room-first _ s h
-read-full e (leb128 i r) s h = no-room-first _ s h
-read-full e (signedLeb128 i) s h = no-room-first _ s h
-read-full e string s h = no-room-first _ s h
-read-full e (staticString n) s h = no-room-first _ s h
-read-full e (staticBlob n r) s h = no-room-first _ s h
-read-full e (dynamicString i) s h = no-room-first _ s h
-read-full e (dynamicBlob i) s h = no-room-first _ s h
-read-full e (structure a cs) s h = no-room-first _ s h
-read-full e (staticArray n a c) s h = no-room-first _ s h
-read-full e (dynamicArray i a c) s h = no-room-first _ s h
-read-full e (flagged i c) s h = no-room-first _ s h
-read-full e (optional i g rs c) s h = no-room-first _ s h
-read-full e (variant i g os) s h = no-room-first _ s h
+read-full e m (fixed k n o a i r) s h = no-room-first _ s h
+read-full e m (leb128 i r) s h = no-room-first _ s h
+read-full e m (signedLeb128 i) s h = no-room-first _ s h
+read-full e m string s h = no-room-first _ s h
+read-full e m (staticString n) s h = no-room-first _ s h
+read-full e m (staticBlob n r) s h = no-room-first _ s h
+read-full e m (dynamicString i) s h = no-room-first _ s h
+read-full e m (dynamicBlob i) s h = no-room-first _ s h
+read-full e m (structure a cs) s h = no-room-first _ s h
+read-full e m (staticArray n a c) s h = no-room-first _ s h
+read-full e m (dynamicArray i a c) s h = no-room-first _ s h
+read-full e m (flagged i c) s h = no-room-first _ s h
+read-full e m (optional i g rs c) s h = no-room-first _ s h
+read-full e m (variant i g os) s h = no-room-first _ s h
 
 -- a first step that stops with nothing listed
 first-stops : (m g : Step) {o : Out} {ws₀ ws : List ℕ} {used : ℕ} {st : Progress} {l : Slots} (p : Part o (m ⨾ g) ws₀ ws used st l)
@@ -246,21 +247,21 @@ first-stops m g p v e came l′ = record {
 }
 
 -- a field that went on ends within the bound
-still-framed : (b u : List ℕ) (f : Frame) (c : Class) (l : Slots) {st st′ : Progress} {l′ : Slots} {n : ℕ} {ws ys : List ℕ} {went : Went}
-    → Framed b f (st .place) → went ≡ On → Did (read (envOf b u f) c (full st l (length ws))) st went n st′ l′ ws ys
+still-framed : (b u : List ℕ) (f : Frame) (m : ℕ) (c : Class) (l : Slots) {st st′ : Progress} {l′ : Slots} {n : ℕ} {ws ys : List ℕ}
+    {went : Went} → Framed b f (st .place) → went ≡ On → Did (read (envOf b u f) m c (full st l (length ws))) st went n st′ l′ ws ys
     → Framed b f (st′ .place)
 unfolding outOf
-still-framed b u f c l {st} {st′} {l′} {n} {ws} h on did =
+still-framed b u f m c l {st} {st′} {l′} {n} {ws} h on did =
     let before = full st l (length ws) in
     let behind = full st′ l′ (length ws - n) in
-    let between = read-between (envOf b u f) c before (did .listed) behind (h .begun) (h .within) (did .out ∙ rw (on) refl) in
+    let between = read-between (envOf b u f) m c before (did .listed) behind (h .begun) (h .within) (did .out ∙ rw (on) refl) in
     record { whole = h .whole; begun = omega (arith, between .0, h .begun); within = between .1; ends = h .ends; small = h .small }
 
 -- The first field's class, and what is left behind it
 
 module _ {w : Loop} {r : Run} {ws : List ℕ} {used : ℕ} {st : Progress} {l : Slots} (h : Round w r ws used st l) (some : Begun r) where
-  abbrev firstClass : Class
-  firstClass = classAt (w .depths) (w .table) (firstAt r)
+  abbrev firstRead : Step
+  firstRead = read (env w) (numberAt (w .table) (firstAt r)) (classAt (w .depths) (w .table) (firstAt r))
 
   abbrev behindFirst : Run
   behindFirst = behindRun r (w .notes .sizes) (firstAt r) (countOf r - 1)
@@ -272,7 +273,7 @@ module _ {w : Loop} {r : Run} {ws : List ℕ} {used : ℕ} {st : Progress} {l : 
   first-there = foremost (element r) (w .depths) (w .table) (firstAt r) (countOf r) (some .some)
       (sort-stands (w .depths) (w .table) r (h .stands) (some .some)) .stands
 
-  first-left : left w r ≡ (read (env w) firstClass ⨾ left w behindFirst)
+  first-left : left w r ≡ (firstRead ⨾ left w behindFirst)
   first-left =
       let d = w .depths in
       let t = w .table in
@@ -281,11 +282,11 @@ module _ {w : Loop} {r : Run} {ws : List ℕ} {used : ℕ} {st : Progress} {l : 
       ap (λ (m : Step). m ⨾ w .behind)
       (sort-reads d t (env w) r (some .plain) ∙ ap (λ (m : Step). m ⨾ tail) (one .reads (env w)) ∙ seq-assoc _ _ _)
       ∙ seq-assoc _ _ _
-      ∙ ap (λ (m : Step). read (env w) firstClass ⨾ (m ⨾ w .behind))
+      ∙ ap (λ (m : Step). firstRead ⨾ (m ⨾ w .behind))
       (sym (behind-reads d t (w .notes .sizes) sized r (firstAt r) (countOf r - 1) first-there (first-element r)
       (some .plain) (env w)))
 
-  first-part : Part (w .all) (read (env w) firstClass ⨾ left w behindFirst) (w .list) ws used st l
+  first-part : Part (w .all) (firstRead ⨾ left w behindFirst) (w .list) ws used st l
   first-part = subst (λ (m : Step). Part (w .all) m (w .list) ws used st l) first-left (h .part)
 
   first-stands : WholeRun (w .depths) (w .table) behindFirst
@@ -296,11 +297,11 @@ module _ {w : Loop} {r : Run} {ws : List ℕ} {used : ℕ} {st : Progress} {l : 
       (h .stands)
       (foremost (element r) d t (firstAt r) (countOf r) (some .some) (sort-stands d t r (h .stands) (some .some)) .rest)
 
-  pub round-full : length ws - used < 4 → Stops w (stopAt ListFull (st .place)) used ws
+  pub round-full : length ws - used < wordsPerEntry → Stops w (stopAt ListFull (st .place)) used ws
   unfolding refuse
   round-full k =
-      let no-room : length (w .list) - used < 4 = omega (arith, part-length (h .part)) in
-      first-stops (read (env w) firstClass) (left w behindFirst) first-part _ (read-full (env w) firstClass _ no-room)
+      let no-room : length (w .list) - used < wordsPerEntry = omega (arith, part-length (h .part)) in
+      first-stops firstRead (left w behindFirst) first-part _ (read-full (env w) _ _ _ no-room)
 
 -- Leaves, and what is due of the last
 
@@ -325,7 +326,7 @@ again-at t b u f x at zero p o room = refl
 again-at t b u f x at (suc n) p o room = then-at _ at (suc n) o _ _ (λ q. again-at t b u f x at n _ _ _)
 
 module _ {w : Loop} {r : Run} {ws : List ℕ} {used : ℕ} {st : Progress} {l : Slots} (h : Round w r ws used st l) (some : Begun r)
-    (bytes : Bytes (w .stream)) (x : Content) (kind : u8 (w .table) (firstAt r) < 28) (room : 4 ≤ length ws - used)
+    (bytes : Bytes (w .stream)) (x : Content) (kind : u8 (w .table) (firstAt r) < 28) (room : wordsPerEntry ≤ length ws - used)
     (told : slotAt l (leafSlot (w .table) (firstAt r)) ≡ x) where
   abbrev pub leavesOf : LeavesListed
   leavesOf = leavesRead (element r) (w .table) (w .stream) (w .uuid) (w .frame) x (firstAt r) (countOf r) (st .place) (st .order)
@@ -367,7 +368,7 @@ module _ {w : Loop} {r : Run} {ws : List ℕ} {used : ℕ} {st : Progress} {l : 
   leaves-stop off = part-halt (h .part) (leavesOf .entries) (leavesOf .leaves .used) (say .counted) (say .room) refl _
       (rw (sym same-room) (stop-reads off))
 
-  pub leaves-some : leavesOf .leaves .on ≡ true → 4 ≤ leavesOf .leaves .used
+  pub leaves-some : leavesOf .leaves .on ≡ true → wordsPerEntry ≤ leavesOf .leaves .used
   leaves-some on = say .goes on .some
 
   pub leaves-stand : leavesOf .leaves .on ≡ true → whole (w .depths) (w .table) (leavesOf .leaves .at)
@@ -427,7 +428,7 @@ pub record LeavesRound (w : Loop) (r : Run) (ws : List ℕ) (used : ℕ) (st : P
   pub room : used + q .used ≤ length (w .list)
   pub same : length (merged used ws ys) ≡ length (w .list)
   pub stops : q .on ≡ false → Stops w (stopAt (q .why) (q .place)) (used + q .used) (merged used ws ys)
-  pub some : q .on ≡ true → 4 ≤ q .used
+  pub some : q .on ≡ true → wordsPerEntry ≤ q .used
   pub stand : q .on ≡ true → whole (w .depths) (w .table) (q .at)
   pub stamp : q .on ≡ true → Stamp (q .role) (q .width) (q .value)
   pub goes : q .on ≡ true
@@ -436,8 +437,8 @@ pub record LeavesRound (w : Loop) (r : Run) (ws : List ℕ) (used : ℕ) (st : P
       r′ (merged used ws ys) (used + q .used) (stateAt (q .place) (q .order) st) l
 
 pub leaves-round : {w : Loop} {r : Run} {ws : List ℕ} {used : ℕ} {st : Progress} {l : Slots} (h : Round w r ws used st l)
-    (some : Begun r) (bytes : Bytes (w .stream)) (x : Content) (kind : u8 (w .table) (firstAt r) < 28) (room : 4 ≤ length ws - used)
-    (told : slotAt l (leafSlot (w .table) (firstAt r)) ≡ x) {q : Leaves} {ys : List ℕ}
+    (some : Begun r) (bytes : Bytes (w .stream)) (x : Content) (kind : u8 (w .table) (firstAt r) < 28)
+    (room : wordsPerEntry ≤ length ws - used) (told : slotAt l (leafSlot (w .table) (firstAt r)) ≡ x) {q : Leaves} {ys : List ℕ}
     → q ≡ (leavesOf h some bytes x kind room told) .leaves → ys ≡ listBehind (leavesOf h some bytes x kind room told) (lent used ws)
     → LeavesRound w r ws used st l q ys
 leaves-round h some bytes x kind room told e f = rw (e, f) record {
@@ -567,9 +568,9 @@ role-round {w} {m} {r} {ws} {used} {st} {l} {q} {ys} k n v h did =
 pub record ClockRound (w : Loop) (m : Step) (r : Run) (ws : List ℕ) (used : ℕ) (st : Progress) (l : Slots) (a : Advanced) (ys : List ℕ)
     : Type 0 where
   pub same : length (merged used ws ys) ≡ length (w .list)
-  pub room : a .on ≡ true → used + 4 ≤ length (w .list)
+  pub room : a .on ≡ true → used + wordsPerEntry ≤ length (w .list)
   pub stops : a .on ≡ false → Stops w (stopAt (a .why) (st .place)) used (merged used ws ys)
-  pub goes : a .on ≡ true → Kept w m r (merged used ws ys) (used + 4) (tickedState st (a .clock)) l
+  pub goes : a .on ≡ true → Kept w m r (merged used ws ys) (used + wordsPerEntry) (tickedState st (a .clock)) l
 
 pub clock-role : {w : Loop} {m : Step} {r : Run} {ws : List ℕ} {used : ℕ} {st : Progress} {l : Slots} {a : Advanced} {ys : List ℕ}
     (k n v : ℕ) → k ≡ 7 → Kept w (role (roleOf k) n v ⨾ m) r ws used st l → a ≡ advancedBy n v (st .clock) (length (lent used ws))
@@ -602,31 +603,35 @@ unfolding onto listOf
 onto-lists e (stop fs v) h = let z : _≡_ {A = ℕ} 0 1 = cc in absurd (omega arith)
 onto-lists e (go fs q) h = omega (arith, ap (λ o. length (listOf o)) h)
 
-opened-lists : (e : Env) (k d : ℕ) (t : List ℕ) (i : Inside) (a : State) {es : List Entry} {z : State} → opened e k d t i a ≡ go es z
+opened-lists : (e : Env) (m k d : ℕ) (t : List ℕ) (i : Inside) (a : State) {es : List Entry} {z : State} → opened e m k d t i a ≡ go es z
     → 1 ≤ length es
 unfolding opened _⨾_ after listed refuseAt
-opened-lists e k d t (Members p v from n) a h = onto-lists _ _ h
-opened-lists e k d t (Elements p v from n) a h = onto-lists _ _ h
-opened-lists e k d t (Refused v) a h = let z : _≡_ {A = ℕ} 0 1 = cc in absurd (omega arith)
+opened-lists e m k d t (Members p v from n) a h = onto-lists _ _ h
+opened-lists e m k d t (Elements p v from n) a h = onto-lists _ _ h
+opened-lists e m k d t (Refused v) a h = let z : _≡_ {A = ℕ} 0 1 = cc in absurd (omega arith)
 
 -- a first member that holds fields, with room for its entry; c is what the slot holds that it reads
 pub record Holder (w : Loop) (r : Run) (ws : List ℕ) (used : ℕ) (st : Progress) (l : Slots) (c : Content) : Type 0 where
   pub round : Round w r ws used st l
   pub some : 0 < r .todo
   pub kind : 28 ≤ u8 (w .table) (r .next)
-  pub room : 4 ≤ length ws - used
+  pub room : wordsPerEntry ≤ length ws - used
   pub told : slotAt l (slotReadAt (w .table) (r .next)) ≡ c
+
+-- the list behind its entry, with its record's number
+abbrev pub openedList : Loop → Run → Inside → List ℕ → List ℕ
+openedList w r = listOpened (u8 (w .table) (r .next)) (numberAt (w .table) (r .next))
 
 -- what was opened: it stopped the loop, or its parts stand in the run
 pub record OpenRound (w : Loop) (r : Run) (ws : List ℕ) (used : ℕ) (st : Progress) (l : Slots) (i : Inside) : Type 0 where
-  pub same : length (merged used ws (listOpened (u8 (w .table) (r .next)) i (lent used ws))) ≡ length (w .list)
+  pub same : length (merged used ws (openedList w r i (lent used ws))) ≡ length (w .list)
   pub stops : openedAs (w .notes .aligns) i .on ≡ false
       → let o = openedAs (w .notes .aligns) i in
-      Stops w (stopAt (o .why) (o .place)) used (merged used ws (listOpened (u8 (w .table) (r .next)) i (lent used ws)))
+      Stops w (stopAt (o .why) (o .place)) used (merged used ws (openedList w r i (lent used ws)))
   pub goes : openedAs (w .notes .aligns) i .on ≡ true
       → let o = openedAs (w .notes .aligns) i in
       Round w (intoRun (u8 (w .table) (r .next)) r (w .notes .sizes) (o .from) (o .count) (o .elements) (o .forgets))
-      (merged used ws (listOpened (u8 (w .table) (r .next)) i (lent used ws))) (used + 4) (stateAt (o .place) (st .order) st) l
+      (merged used ws (openedList w r i (lent used ws))) (used + wordsPerEntry) (stateAt (o .place) (st .order) st) l
 
 module _ {w : Loop} {r : Run} {ws : List ℕ} {used : ℕ} {st : Progress} {l : Slots} {c : Content} (h : Holder w r ws used st l c) where
   abbrev d : ℕ
@@ -637,6 +642,9 @@ module _ {w : Loop} {r : Run} {ws : List ℕ} {used : ℕ} {st : Progress} {l : 
 
   abbrev at : ℕ
   at = r .next
+
+  abbrev number : ℕ
+  number = numberAt t at
 
   abbrev here : State
   here = full st l (length (w .list) - used)
@@ -663,15 +671,19 @@ module _ {w : Loop} {r : Run} {ws : List ℕ} {used : ℕ} {st : Progress} {l : 
   ends = subst (λ (e : ℕ). Ends e t at (u8 t at) insideHere) (sym (depth-some t at d holder-there))
       (inside-ends (w .frame) (d - 1) t (w .notes) at c (st .place) deep (h .round .noted) (h .kind))
 
-  has-room : 4 ≤ length (w .list) - used
+  has-room : wordsPerEntry ≤ length (w .list) - used
   has-room = omega (arith, h .room, part-length (h .round .part))
 
-  class-reads : read (env w) (classAt d t at) here ≡ opened (env w) (u8 t at) d t insideHere here
+  -- its number is noted
+  pub number-noted : numberNoted (w .notes .aligns) at ≡ number
+  number-noted = h .round .noted .numbers d at holder-there
+
+  class-reads : read (env w) number (classAt d t at) here ≡ opened (env w) number (u8 t at) d t insideHere here
   class-reads =
-      ap (λ (e : ℕ). read (env w) (classAt e t at) here) (depth-some t at d holder-there)
+      ap (λ (e : ℕ). read (env w) number (classAt e t at) here) (depth-some t at d holder-there)
       ∙ inside-read (w .stream) (w .uuid) (w .frame) (d - 1) t (w .notes) at c here deep (h .kind) has-room (sym (h .told))
       (h .round .framed) (h .round .noted)
-      ∙ opened-deeper (d - 1) d t less (w .frame) (st .place) (env w) (u8 t at) insideHere here held-less
+      ∙ opened-deeper (d - 1) d t less (w .frame) (st .place) (env w) number (u8 t at) insideHere here held-less
 
   placed : (p : BitPlace) → Placed (w .frame) (st .place) p → Framed (w .stream) (w .frame) p
   placed p q =
@@ -685,7 +697,7 @@ module _ {w : Loop} {r : Run} {ws : List ℕ} {used : ℕ} {st : Progress} {l : 
   some-here : Begun r
   some-here = member-begun r (h .some)
 
-  pub holder-part : Part (w .all) (read (env w) (classAt d t at) ⨾ left w restHere) (w .list) ws used st l
+  pub holder-part : Part (w .all) (read (env w) number (classAt d t at) ⨾ left w restHere) (w .list) ws used st l
   holder-part = rw (first-member r (h .some), count-members r (h .some)) at (first-part (h .round) some-here)
 
   pub rest-stands : WholeRun d t restHere
@@ -694,7 +706,8 @@ module _ {w : Loop} {r : Run} {ws : List ℕ} {used : ℕ} {st : Progress} {l : 
   -- what it holds, and that it reads its entry and then this
   pub record Told (p : BitPlace) (v from n : ℕ) (elements : Bool) : Type 0 where
     pub framed : Framed (w .stream) (w .frame) p
-    pub reads : read (env w) (classAt d t at) here ≡ (listed (entry (u8 t at) p 0 v) p ⨾ heldRead d t (env w) from n elements) here
+    pub reads : read (env w) number (classAt d t at) here
+        ≡ (listed (entry (u8 t at) p 0 v number) p ⨾ heldRead d t (env w) from n elements) here
     pub class : elements ≡ true → whole d t from
     pub parts : elements ≡ false → wholeMembers (whole d t) (stoodAt d t) from n
 
@@ -704,7 +717,7 @@ module _ {w : Loop} {r : Run} {ws : List ℕ} {used : ℕ} {st : Progress} {l : 
       let q : HeldMembers d t (w .frame) (st .place) p from n = rw e at held in
       record {
         framed = placed p (q .place);
-        reads = class-reads ∙ ap (λ i. opened (env w) (u8 t at) d t i here) e;
+        reads = class-reads ∙ ap (λ i. opened (env w) number (u8 t at) d t i here) e;
         class = λ b. absurd (clash b);
         parts = λ _. q .classes;
       }
@@ -716,30 +729,32 @@ module _ {w : Loop} {r : Run} {ws : List ℕ} {used : ℕ} {st : Progress} {l : 
       record {
         framed = placed p (q .place);
         reads =
-            class-reads ∙ ap (λ i. opened (env w) (u8 t at) d t i here) e
-            ∙ ap (λ (m : Step). (listed (entry (u8 t at) p 0 v) p ⨾ m) here) (sym (elements-times d t (env w) from n));
+            class-reads ∙ ap (λ i. opened (env w) number (u8 t at) d t i here) e
+            ∙ ap (λ (m : Step). (listed (entry (u8 t at) p 0 v number) p ⨾ m) here) (sym (elements-times d t (env w) from n));
         class = λ _. q .class;
         parts = λ b. absurd (clash (sym b));
       }
 
   -- its entry is listed, and then g is left
   pub entry-put : (p : BitPlace) (v : ℕ) (m g : Step) → Part (w .all) m (w .list) ws used st l
-      → m here ≡ (listed (entry (u8 t at) p 0 v) p ⨾ g) here
-      → Part (w .all) g (w .list) (merged used ws (listHolder (u8 t at) p v (lent used ws))) (used + 4) (stateAt p (st .order) st) l
+      → m here ≡ (listed (entry (u8 t at) p 0 v number) p ⨾ g) here
+      → Part (w .all) g (w .list) (merged used ws (listHolder (u8 t at) p v number (lent used ws))) (used + wordsPerEntry)
+      (stateAt p (st .order) st) l
   unfolding _⨾_ after listed
   entry-put p v m g part reads =
-      part-put part (entry (u8 t at) p 0 v ∷ []) 4 refl (omega (arith, lent-room used ws, h .room)) refl p (st .order) g reads
+      part-put part (entry (u8 t at) p 0 v number ∷ []) wordsPerEntry refl (omega (arith, lent-room used ws, h .room)) refl p (st .order) g
+      reads
 
   -- and its parts stand in the run
   opened-round : {p : BitPlace} {v from n : ℕ} {elements : Bool} (f : ℕ) → Told p v from n elements
       → Holds d t r (h .round .stands) (h .some) (w .notes .sizes) (u8 t at) from n elements
       → (elements ≡ true → Forgets n f (sets (classAt d t from)))
-      → Round w (intoRun (u8 t at) r (w .notes .sizes) from n elements f) (merged used ws (listHolder (u8 t at) p v (lent used ws)))
-      (used + 4) (stateAt p (st .order) st) l
+      → Round w (intoRun (u8 t at) r (w .notes .sizes) from n elements f) (merged used ws (listHolder (u8 t at) p v number (lent used ws)))
+      (used + wordsPerEntry) (stateAt p (st .order) st) l
   opened-round {p} {v} {from} {n} {elements} f q holds right =
       let sizes = w .notes .sizes in
       let into = intoRun (u8 t at) r sizes from n elements f in
-      let m = listed (entry (u8 t at) p 0 v) p in
+      let m = listed (entry (u8 t at) p 0 v number) p in
       let opens =
       into-opens d t r (h .round .stands) (h .some) sizes (u8 t at) from n elements f holds right (env w) here m (q .reads) in
       record {
@@ -755,24 +770,24 @@ module _ {w : Loop} {r : Run} {ws : List ℕ} {used : ℕ} {st : Progress} {l : 
   refused-round : (v : Stop) → insideHere ≡ Refused v → Stops w v used (merged used ws (lent used ws))
   unfolding opened refuseAt
   refused-round v e came l′ =
-      let reads : read (env w) (classAt d t at) here ≡ stop [] v =
-      class-reads ∙ ap (λ i. opened (env w) (u8 t at) d t i here) e in
+      let reads : read (env w) number (classAt d t at) here ≡ stop [] v =
+      class-reads ∙ ap (λ i. opened (env w) number (u8 t at) d t i here) e in
       let did = first-stops _ _ holder-part _ reads came l′ in
       let same : merged used ws (lent used ws) ≡ ws = unlent used ws in
       rw same did
 
   -- by what is told of it
-  pub open-same : (i : Inside) → length (merged used ws (listOpened (u8 t at) i (lent used ws))) ≡ length (w .list)
+  pub open-same : (i : Inside) → length (merged used ws (listOpened (u8 t at) number i (lent used ws))) ≡ length (w .list)
   unfolding listOpened
   open-same (Members p v from n) =
-      put-length (h .round .part) (entry (u8 t at) p 0 v ∷ []) 4 refl (omega (arith, lent-room used ws, h .room)) refl
+      put-length (h .round .part) (entry (u8 t at) p 0 v number ∷ []) wordsPerEntry refl (omega (arith, lent-room used ws, h .room)) refl
   open-same (Elements p v from n) =
-      put-length (h .round .part) (entry (u8 t at) p 0 v ∷ []) 4 refl (omega (arith, lent-room used ws, h .room)) refl
+      put-length (h .round .part) (entry (u8 t at) p 0 v number ∷ []) wordsPerEntry refl (omega (arith, lent-room used ws, h .room)) refl
   open-same (Refused v) = ap length (unlent used ws) ∙ part-length (h .round .part)
 
   pub open-stops : (i : Inside) → insideHere ≡ i → openedAs (w .notes .aligns) i .on ≡ false →
       let o = openedAs (w .notes .aligns) i in
-      Stops w (stopAt (o .why) (o .place)) used (merged used ws (listOpened (u8 t at) i (lent used ws)))
+      Stops w (stopAt (o .why) (o .place)) used (merged used ws (listOpened (u8 t at) number i (lent used ws)))
   unfolding openedAs wentIn listOpened
   open-stops (Members p v from n) e b = absurd (clash (sym b))
   open-stops (Elements p v from n) e b = absurd (clash (sym b))
@@ -833,26 +848,28 @@ pub record CodeRound (w : Loop) (r : Run) (ws : List ℕ) (used : ℕ) (st : Pro
   pub few : o .elements ≡ false → o .count ≤ length (w .table)
   pub stops : o .on ≡ false → Stops w (stopAt (o .why) (o .place)) used (merged used ws ys)
   pub goes : o .on ≡ true → Round w (intoRun (u8 (w .table) (r .next)) r (w .notes .sizes) (o .from) (o .count) (o .elements) (o .forgets))
-      (merged used ws ys) (used + 4) (stateAt (o .place) (st .order) st) l
+      (merged used ws ys) (used + wordsPerEntry) (stateAt (o .place) (st .order) st) l
 
 pub code-round : {w : Loop} {r : Run} {ws : List ℕ} {used : ℕ} {st : Progress} {l : Slots} {c : Content} (h : Holder w r ws used st l c)
     → ((u8 (w .table) (r .next) ≡ 28 → ⊥) → (u8 (w .table) (r .next) ≡ 31 → ⊥) → free r ≡ true) → {o : Opened} {ys : List ℕ}
-    → o ≡ openedAs (w .notes .aligns) (insideHere h) → ys ≡ listOpened (u8 (w .table) (r .next)) (insideHere h) (lent used ws)
+    → o ≡ openedAs (w .notes .aligns) (insideHere h)
+    → ys ≡ listOpened (u8 (w .table) (r .next)) (numberNoted (w .notes .aligns) (r .next)) (insideHere h) (lent used ws)
     → CodeRound w r ws used st l o ys
 code-round h may e f =
     let q = open-round h may (insideHere h) refl in
-    rw (e, f) record { same = q .same; few = open-few h; stops = q .stops; goes = q .goes }
+    rw (e, f, number-noted h) record { same = q .same; few = open-few h; stops = q .stops; goes = q .goes }
 
 -- a structure that was entered
 pub record EnterRound (w : Loop) (r : Run) (ws : List ℕ) (used : ℕ) (st : Progress) (l : Slots) (o : Entered) (ys : List ℕ) : Type 0 where
   pub same : length (merged used ws ys) ≡ length (w .list)
   pub stops : o .on ≡ false → Stops w (stopAt PastBound (o .place)) used (merged used ws ys)
-  pub goes : o .on ≡ true → Round w (openedRun r (r .next + 3) (u8 (w .table) (r .next + 1))) (merged used ws ys) (used + 4)
+  pub goes : o .on ≡ true → Round w (openedRun r (r .next + 3) (u8 (w .table) (r .next + 1))) (merged used ws ys) (used + wordsPerEntry)
       (stateAt (o .place) (st .order) st) l
 
 pub enter-round : {w : Loop} {r : Run} {ws : List ℕ} {used : ℕ} {st : Progress} {l : Slots} {c : Content} → Holder w r ws used st l c
     → u8 (w .table) (r .next) ≡ 28 → {o : Entered} {ys : List ℕ} → o ≡ enteredAt (w .frame) (bitsNoted (w .notes) (r .next)) (st .place)
-    → ys ≡ listEntered (w .frame) (bitsNoted (w .notes) (r .next)) (st .place) (u8 (w .table) (r .next + 1)) (lent used ws)
+    → ys ≡ listEntered (w .frame) (bitsNoted (w .notes) (r .next)) (st .place) (u8 (w .table) (r .next + 1))
+    (numberNoted (w .notes .aligns) (r .next)) (lent used ws)
     → EnterRound w r ws used st l o ys
 unfolding openedAs listOpened wentIn
 enter-round {w} {r} {ws} {used} {st} {l} {c} h k {o} {ys} e f = by (o .on) refl
@@ -863,6 +880,12 @@ enter-round {w} {r} {ws} {used} {st} {l} {c} h k {o} {ys} e f = by (o .on) refl
     a : ℕ
     a = bitsNoted (w .notes) (r .next)
 
+    m : ℕ
+    m = numberAt (w .table) (r .next)
+
+    listed-here : ys ≡ listEntered (w .frame) a (st .place) n m (lent used ws)
+    listed-here = f ∙ ap (λ i. listEntered (w .frame) a (st .place) n i (lent used ws)) (number-noted h)
+
     told : standing (w .frame) a (st .place) (membersFrom n (r .next + 3)) ≡ insideHere h
     told = inside-structure (w .table) (w .notes) (r .next) (w .frame) (st .place) c k
 
@@ -871,17 +894,17 @@ enter-round {w} {r} {ws} {used} {st} {l} {c} h k {o} {ys} e f = by (o .on) refl
 
     by : (b : Bool) → o .on ≡ b → EnterRound w r ws used st l o ys
     by true b =
-        let on = entered-on (w .frame) a (st .place) n (lent used ws) (membersFrom n (r .next + 3)) (ap (λ z. z .on) (sym e) ∙ b) in
+        let on = entered-on (w .frame) a (st .place) n m (lent used ws) (membersFrom n (r .next + 3)) (ap (λ z. z .on) (sym e) ∙ b) in
         let q = open-round h may (Members (alignedAt (w .frame) a (st .place)) n (r .next + 3) n) (sym told ∙ on .told) in
-        rw (f ∙ on .listed, e ∙ on .on) record {
+        rw (listed-here ∙ on .listed, e ∙ on .on) record {
           same = rw k at (q .same);
           stops = λ off. absurd (clash (sym off));
           goes = λ _. rw (sym (into-parts 28 r (w .notes .sizes) (r .next + 3) n false 0 refl (λ z. omega arith))) (rw k at (q .goes refl));
         }
     by false b =
-        let off = entered-off (w .frame) a (st .place) n (lent used ws) (membersFrom n (r .next + 3)) (ap (λ z. z .on) (sym e) ∙ b) in
+        let off = entered-off (w .frame) a (st .place) n m (lent used ws) (membersFrom n (r .next + 3)) (ap (λ z. z .on) (sym e) ∙ b) in
         let q = open-round h may (Refused (stopAt PastBound (w .frame .bound))) (sym told ∙ off .told) in
-        rw (f ∙ off .listed, e ∙ off .off) record {
+        rw (listed-here ∙ off .listed, e ∙ off .off) record {
           same = q .same;
           stops = λ _. q .stops refl;
           goes = λ on. absurd (clash on);
@@ -892,36 +915,38 @@ enter-round {w} {r} {ws} {used} {st} {l} {c} h k {o} {ys} e f = by (o .on) refl
 pub record FieldRound (w : Loop) (r : Run) (ws : List ℕ) (used : ℕ) (q : Field) (ys : List ℕ) : Type 0 where
   pub room : used + q .used ≤ length (w .list)
   pub same : length (merged used ws ys) ≡ length (w .list)
-  pub some : q .went ≡ On → 4 ≤ q .used
+  pub some : q .went ≡ On → wordsPerEntry ≤ q .used
   pub stops : (v : Stop) → q .went ≡ Stopped v → Stops w v (used + q .used) (merged used ws ys)
   pub goes : q .went ≡ On
       → Round w (behindRun r (w .notes .sizes) (r .next) (r .todo - 1)) (merged used ws ys) (used + q .used) (q .state) (q .slots)
 
 module _ {w : Loop} {r : Run} {ws : List ℕ} {used : ℕ} {st : Progress} {l : Slots} {c : Content} (h : Holder w r ws used st l c) where
   pub field-round : {q : Field} {ys : List ℕ}
-      → FieldReads (read (env w) (classAt (w .depths) (w .table) (r .next))) st l q (lent used ws) ys → FieldRound w r ws used q ys
+      → FieldReads (read (env w) (numberAt (w .table) (r .next)) (classAt (w .depths) (w .table) (r .next))) st l q (lent used ws) ys
+      → FieldRound w r ws used q ys
   unfolding outOf
   field-round {q} {ys} did =
       let d = did .did in
       let p = holder-part h in
+      let m = numberAt (w .table) (r .next) in
       let class = classAt (w .depths) (w .table) (r .next) in
       let n = length (lent used ws) - q .used in
       let room : length (lent used ws) ≡ length (w .list) - used = lent-room used ws ∙ ap (λ (n : ℕ). n - used) (part-length p) in
       let lists : q .went ≡ On → 1 ≤ length (d .listed) = λ on.
-      opened-lists (env w) (u8 (w .table) (r .next)) (w .depths) (w .table) (insideHere h) _ (sym (class-reads h)
-      ∙ ap (λ (z : ℕ). read (env w) class (full st l z)) (sym room) ∙ d .out
+      opened-lists (env w) m (u8 (w .table) (r .next)) (w .depths) (w .table) (insideHere h) _ (sym (class-reads h)
+      ∙ ap (λ (z : ℕ). read (env w) m class (full st l z)) (sym room) ∙ d .out
       ∙ ap (λ g. outOf (d .listed) g (q .state) (q .slots) n) on) in
       record {
-        room = back-room (read (env w) _) p d;
+        room = back-room (read (env w) _ _) p d;
         same = same-len-mid used (length ws - used) ws ys (listed-length record { list = d .list; counted = d .counted; room = d .room })
             ∙ part-length p;
         some = λ on. omega (arith, d .counted, lists on);
-        stops = λ v off came l′. part-stop (read (env w) _) _ p d v came l′ off;
+        stops = λ v off came l′. part-stop (read (env w) _ _) _ p d v came l′ off;
         goes = λ on. record {
           stands = rest-stands h;
           noted = h .round .noted;
-          framed = still-framed (w .stream) (w .uuid) (w .frame) _ l (h .round .framed) on d;
+          framed = still-framed (w .stream) (w .uuid) (w .frame) _ _ l (h .round .framed) on d;
           many = did .many;
-          part = part-step (read (env w) _) _ p d on;
+          part = part-step (read (env w) _ _) _ p d on;
         };
       }

@@ -12,7 +12,7 @@ use borrow.Author.Tests.{eqb-false}
 use Rattle.rules.specs.declared.Content.{Content}
 use Rattle.rules.specs.declared.Content.the-variants.{Unset}
 use Rattle.rules.specs.Record.{u8}
-use Rattle.rules.specs.Limits.{slotCount}
+use Rattle.rules.specs.Limits.{slotCount, wordsPerEntry}
 use Rattle.rules.specs.Slots.{Slots, slotAt, setSlot, unset}
 use Rattle.rules.specs.Step.{Step, _⨾_}
 use Rattle.rules.specs.Faults.{roleOf}
@@ -22,6 +22,8 @@ use Rattle.facts.proofs.Numbers.{lt-or-ge}
 use Rattle.facts.proofs.Truth.{clash, and-right}
 use Rattle.facts.proofs.Steps.{seq-assoc, pass-seq}
 use Rattle.facts.proofs.Slots.{no-slot}
+use Rattle.class_layout.specs.Numbers.{numberAt}
+use Rattle.class_layout.specs.Notes.{numberNoted}
 use Rattle.class_layout.specs.Trees.{whole, classAt}
 use Rattle.class_slots.specs.Named.{slotsOf}
 use Rattle.class_slots.proofs.Sets.{unset-at, forgets-at}
@@ -137,7 +139,7 @@ module _ {w : Loop} {r : Run} {ws : List ℕ} {used : ℕ} {st : Progress} {l : 
         stands = sort-stands (w .depths) (w .table) r (h .stands) (some .some);
       }
 
-  pub leaves-did : Bytes (w .stream) → (x : Content) → u8 (w .table) n < 28 → 4 ≤ length ws - used
+  pub leaves-did : Bytes (w .stream) → (x : Content) → u8 (w .table) n < 28 → wordsPerEntry ≤ length ws - used
       → slotAt l (leafSlot (w .table) n) ≡ x → {q : Leaves} {ys : List ℕ} → q ≡ leavesAt w st used ws again x n count .leaves
       → ys ≡ listBehind (leavesAt w st used ws again x n count) (lent used ws) → LeavesRound w r ws used st l q ys
   leaves-did bytes x kind room told e f =
@@ -175,7 +177,8 @@ pub taken-next : (r : Run) {r′ : Run} {n : ℕ} → n ≡ firstAt r → r′ �
 taken-next r e f some = rw (e, f) (taken-first 0 [] r (some .some))
 
 pub holds-first : {w : Loop} {r : Run} {ws : List ℕ} {used : ℕ} {st : Progress} {l : Slots} {n : ℕ} {x : Content} → Round w r ws used st l
-    → FirstAt r n → 28 ≤ u8 (w .table) n → 4 ≤ length ws - used → slotAt l (slotReadAt (w .table) n) ≡ x → Holder w r ws used st l x
+    → FirstAt r n → 28 ≤ u8 (w .table) n → wordsPerEntry ≤ length ws - used → slotAt l (slotReadAt (w .table) n) ≡ x
+    → Holder w r ws used st l x
 holds-first h first kind room told = record {
   round = h;
   some = first .0;
@@ -192,38 +195,44 @@ module _ {w : Loop} {r : Run} {ws : List ℕ} {used : ℕ} {st : Progress} {l : 
   abbrev inside : Inside
   inside = insideOf t (w .notes) n (w .frame) (st .place) x
 
+  -- its record's number, as it is noted
+  abbrev noted : ℕ
+  noted = numberNoted (w .notes .aligns) n
+
   -- a structure that was entered
   pub entered-did : u8 t n ≡ 28 → {o : Entered} {ys : List ℕ} → o ≡ enteredAt (w .frame) (bitsNoted (w .notes) n) (st .place)
-      → ys ≡ listEntered (w .frame) (bitsNoted (w .notes) n) (st .place) (u8 t (n + 1)) (lent used ws) → EnterRound w r ws used st l o ys
+      → ys ≡ listEntered (w .frame) (bitsNoted (w .notes) n) (st .place) (u8 t (n + 1)) noted (lent used ws)
+      → EnterRound w r ws used st l o ys
   entered-did k e f = enter-round h (rw (first .1) k) (rw (first .1) e) (rw (first .1) f)
 
   pub entered-run : {o : Entered} {ys : List ℕ} {q : Run} {k : ℕ} → EnterRound w r ws used st l o ys → q ≡ openedRun r (n + 3) k
-      → k ≡ u8 t (n + 1) → o .on ≡ true → Round w q (merged used ws ys) (used + 4) (stateAt (o .place) (st .order) st) l
+      → k ≡ u8 t (n + 1) → o .on ≡ true → Round w q (merged used ws ys) (used + wordsPerEntry) (stateAt (o .place) (st .order) st) l
   entered-run d e f on = rw (e, f, sym (first .1)) (d .goes on)
 
   -- a field that was opened in its run
   pub inside-did : canOpen (u8 t n) r ≡ true → {o : Opened} {ys : List ℕ} → o ≡ openedAs (w .notes .aligns) inside
-      → ys ≡ listOpened (u8 t n) inside (lent used ws) → CodeRound w r ws used st l o ys
+      → ys ≡ listOpened (u8 t n) noted inside (lent used ws) → CodeRound w r ws used st l o ys
   inside-did can e f = code-round h (λ y z. sym (open-free _ _ (rw (first .1) at z)) ∙ can) (rw (first .1) e) (rw (first .1) f)
 
   pub inside-run : {o : Opened} {ys : List ℕ} {q : Run} → CodeRound w r ws used st l o ys
       → q ≡ intoRun (u8 t n) r (w .notes .sizes) (o .from) (o .count) (o .elements) (o .forgets) → o .on ≡ true
-      → Round w q (merged used ws ys) (used + 4) (stateAt (o .place) (st .order) st) l
+      → Round w q (merged used ws ys) (used + wordsPerEntry) (stateAt (o .place) (st .order) st) l
   inside-run d e on = rw (e, sym (first .1)) (d .goes on)
 
   -- or in a run of its own
-  pub apart-did : {o : Opened} {ys : List ℕ} → o ≡ openedAs (w .notes .aligns) inside → ys ≡ listOpened (u8 t n) inside (lent used ws)
+  pub apart-did : {o : Opened} {ys : List ℕ} → o ≡ openedAs (w .notes .aligns) inside → ys ≡ listOpened (u8 t n) noted inside (lent used ws)
       → ApartRound w r ws used st l o ys
   apart-did e f = apart-round h (rw (first .1) e) (rw (first .1) f)
 
   pub apart-run : {o : Opened} {ys : List ℕ} {q rest : Run} → ApartRound w r ws used st l o ys
       → q ≡ aloneRun (o .from) (o .count) (o .elements) (o .forgets) → rest ≡ behindRun r (w .notes .sizes) n (r .todo - 1) → o .on ≡ true
-      → WholeRun (w .depths) t rest × Round (apartFrom w rest) q (merged used ws ys) (used + 4) (stateAt (o .place) (st .order) st) l
+      → WholeRun (w .depths) t rest
+      × Round (apartFrom w rest) q (merged used ws ys) (used + wordsPerEntry) (stateAt (o .place) (st .order) st) l
   apart-run d e f on = rw (e, f, sym (first .1)) (d .rest-stands, d .goes on)
 
   -- a field that was read by itself
   pub field-did : {q : Field} {ys : List ℕ} {st′ : Progress} → st′ ≡ st
-      → FieldReads (read (env w) (classAt (w .depths) t n)) st′ l q (lent used ws) ys → FieldRound w r ws used q ys
+      → FieldReads (read (env w) (numberAt t n) (classAt (w .depths) t n)) st′ l q (lent used ws) ys → FieldRound w r ws used q ys
   field-did e did = field-round h (rw (first .1) (rw e at did))
 
   pub field-run : {q : Field} {ys : List ℕ} {rest : Run} → FieldRound w r ws used q ys

@@ -7,6 +7,7 @@ use Rattle.rules.specs.declared.Stop.{Stop}
 use Rattle.rules.specs.Slots.{Slots}
 use Rattle.rules.specs.Step.{Out, Step, pass}
 use Rattle.rules.specs.Field.{Env, read, readMembers, times}
+use Rattle.class_layout.specs.Numbers.{numberAt}
 use Rattle.class_layout.specs.Trees.{stoodAt, classAt, membersAt}
 use Rattle.field_inside.specs.Inside.{elementOf}
 use Rattle.frame.specs.declared.Frame.{Frame}
@@ -40,15 +41,15 @@ CallReads w r ws = FieldReads (w .all) (w .came) (w .given) r (w .list) ws
 abbrev pub stoppedCall : Call → Stop → ℕ → Field
 stoppedCall w v n = stoppedField v n (w .came) (w .given)
 
--- what the functions read: the class at a byte, n classes from a byte on, and the class at a byte n times
+-- what the functions read, each by its record's number: the class at a byte, n classes from a byte on, and the class at a byte n times
 abbrev pub classRead : ℕ → List ℕ → ℕ → Env → Step
-classRead d t at e = read e (classAt d t at)
+classRead d t at e = read e (numberAt t at) (classAt d t at)
 
 abbrev pub membersRead : ℕ → List ℕ → ℕ → ℕ → Env → Step
-membersRead d t at n e = readMembers e (membersAt (stoodAt d t) at n)
+membersRead d t at n e = readMembers e (numberAt t at) (membersAt (stoodAt d t) at n)
 
 abbrev pub elementsRead : ℕ → List ℕ → ℕ → ℕ → Env → Step
-elementsRead d t at n e = times n (elementOf e (classAt d t at))
+elementsRead d t at n e = times n (elementOf e (numberAt t at) (classAt d t at))
 
 -- a list keeps its length
 pub did-length : {o : Out} {came st : Progress} {went : Went} {n : ℕ} {l : Slots} {ws ys : List ℕ} → Did o came went n st l ws ys

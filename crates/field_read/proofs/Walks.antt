@@ -12,6 +12,7 @@ use Rattle.rules.specs.Class.{sets}
 use Rattle.rules.specs.Step.{Step, pass}
 use Rattle.rules.specs.Field.{Env, times}
 use Rattle.facts.proofs.Steps.{seq-pass}
+use Rattle.class_layout.specs.Numbers.{numberAt}
 use Rattle.class_layout.specs.Trees.{whole, classAt}
 use Rattle.class_layout.specs.Notes.{Notes, Prepared}
 use Rattle.frame.specs.declared.Frame.{Frame}
@@ -78,5 +79,5 @@ module _ (d : ℕ) (t : List ℕ) (at n f : ℕ) (there : whole d t at) (right :
   pub elements-run-stands : WholeRun d t r
   elements-run-stands = rw e (elements-stand d t at n f there right)
 
-  pub elements-run-reads : (v : Env) → ahead d t v r ≡ times n (elementOf v (classAt d t at))
+  pub elements-run-reads : (v : Env) → ahead d t v r ≡ times n (elementOf v (numberAt t at) (classAt d t at))
   elements-run-reads v = ap (ahead d t v) e ∙ elements-reads d t v at n f right ∙ elements-times d t v at n

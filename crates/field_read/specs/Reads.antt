@@ -6,7 +6,7 @@ use lib.ListN.{length}
 use Rattle.rules.specs.declared.BitPlace.{BitPlace}
 use Rattle.rules.specs.declared.LastOrder.{LastOrder}
 use Rattle.rules.specs.declared.Stop.{Stop}
-use Rattle.rules.specs.Limits.{slotCount}
+use Rattle.rules.specs.Limits.{slotCount, wordsPerEntry}
 use Rattle.rules.specs.Slots.{Slots}
 use Rattle.rules.specs.Step.{Step}
 use Rattle.listing.specs.declared.Progress.{Progress}
@@ -31,7 +31,7 @@ gone (Stopped v) n st l came given = stoppedField v n came given
 
 -- a field whose entry was listed, by what is inside it
 abbrev pub entered : Field → Progress → Slots → Field
-entered r came given = gone (r .went) (4 + r .used) (r .state) (r .slots) came given
+entered r came given = gone (r .went) (wordsPerEntry + r .used) (r .state) (r .slots) came given
 
 -- the same state at a place and an order
 abbrev pub stateAt : BitPlace → LastOrder → Progress → Progress

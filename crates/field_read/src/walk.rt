@@ -31,8 +31,10 @@ use leaf_read::read_leaves;
 use listing::Progress;
 use listing::Went;
 use listing::at_place;
+use listing::entry::is_full;
 use listing::role;
 use numbers::kinds;
+use numbers::limits::WORDS_PER_ENTRY;
 use rules::BitPlace;
 use rules::Content;
 use rules::Refusal;
@@ -43,11 +45,13 @@ use table_records::bodies::STRUCTURE_SIZE;
 ghost use mathlib.Core.Path.{_≡_};
 ghost use Prim.Native.Nat.{_+_, _^_, _≤_, _<_};
 ghost use lib.ListN.{length};
+ghost use Rattle.rules.specs.Limits.{wordsPerEntry};
 ghost use Rattle.rules.specs.Record.{u8};
 ghost use Rattle.rules.specs.Class.{sets};
 ghost use Rattle.rules.specs.Verdict.{stopAt};
 ghost use Rattle.rules.specs.Field.{read, readMembers, times};
 ghost use Rattle.frame.specs.Framed.{Framed, envOf};
+ghost use Rattle.class_layout.specs.Numbers.{numberAt};
 ghost use Rattle.class_layout.specs.Trees.{whole, wholeMembers, stoodAt, classAt, membersAt};
 ghost use Rattle.class_layout.specs.Notes.{notes, Prepared};
 ghost use Rattle.field_inside.specs.Inside.{elementOf};
@@ -58,7 +62,7 @@ ghost use Rattle.field_read.specs.Reads.{FieldReads, stoppedField, enter
 pub fn read_field(
     table: &[u8],
     sizes: &[u16],
-    aligns: &[u16],
+    aligns: &[u32],
     uuid: &[u8],
     stream: &[u8],
     frame: Frame,
@@ -69,11 +73,13 @@ pub fn read_field(
     list: &mut [u64],
 ) -> Field
     requires { ⌜ whole left (now table) at ⌝ }
-    requires { ⌜ (28 ≤ u8 (now table) at) × (4 ≤ length (now list)) ⌝ }
+    requires { ⌜ (28 ≤ u8 (now table) at) × (wordsPerEntry ≤ length (now list)) ⌝ }
     requires { ⌜ Prepared (now table) (notes (now sizes) (now aligns)) ⌝ }
     requires { ⌜ Framed (now stream) frame (st .place) ⌝ }
     ensures { λ r. ⌜
-        FieldReads (read (envOf (now (stream .entry)) (now (uuid .entry)) frame) (classAt left (now (table .entry)) at)) st slots r
+        FieldReads
+        (read (envOf (now (stream .entry)) (now (uuid .entry)) frame) (numberAt (now (table .entry)) at) (classAt left (now (table .entry)) at))
+        st slots r
         (now (list .entry)) (now (list .exit))
         ⌝ }
 {
@@ -103,7 +109,7 @@ pub fn read_field(
             left - 1, // for elements
             next,
             slots,
-            &mut list[4..],
+            &mut list[WORDS_PER_ENTRY..],
         )
     } else {
         walk_members(
@@ -118,7 +124,7 @@ pub fn read_field(
             left - 1, // for members
             next,
             slots,
-            &mut list[4..],
+            &mut list[WORDS_PER_ENTRY..],
         )
     };
     behind_entry(r, st, slots)
@@ -126,18 +132,18 @@ pub fn read_field(
 
 // A field's own entry stands before what is inside it. What stopped hands back what came to the field, not what its entry left.
 fn behind_entry(inside: Field, st: Progress, slots: [Slot; 64]) -> Field
-    requires { ⌜ 4 + inside .used < 2 ^ 64 ⌝ }
+    requires { ⌜ wordsPerEntry + inside .used < 2 ^ 64 ⌝ }
     ensures { λ r. ⌜ r ≡ entered inside st slots ⌝ }
 {
     let went = inside.went;
     match went {
-        Went::Stopped(stop) => stopped(stop, 4 + inside.used, st, slots),
+        Went::Stopped(stop) => stopped(stop, WORDS_PER_ENTRY + inside.used, st, slots),
         Went::On => {
             let state = inside.state;
             let changed = inside.slots;
             Field {
                 went: Went::On,
-                used: 4 + inside.used,
+                used: WORDS_PER_ENTRY + inside.used,
                 state,
                 slots: changed,
             }
@@ -149,7 +155,7 @@ fn behind_entry(inside: Field, st: Progress, slots: [Slot; 64]) -> Field
 pub fn walk_members(
     table: &[u8],
     sizes: &[u16],
-    aligns: &[u16],
+    aligns: &[u32],
     uuid: &[u8],
     stream: &[u8],
     frame: Frame,
@@ -165,7 +171,8 @@ pub fn walk_members(
     requires { ⌜ Framed (now stream) frame (st .place) ⌝ }
     ensures { λ r. ⌜
         FieldReads
-        (readMembers (envOf (now (stream .entry)) (now (uuid .entry)) frame) (membersAt (stoodAt left (now (table .entry))) at count))
+        (readMembers (envOf (now (stream .entry)) (now (uuid .entry)) frame) (numberAt (now (table .entry)) at)
+        (membersAt (stoodAt left (now (table .entry))) at count))
         st given r (now (list .entry)) (now (list .exit))
         ⌝ }
 {
@@ -188,7 +195,7 @@ pub fn walk_members(
 fn walk_elements(
     table: &[u8],
     sizes: &[u16],
-    aligns: &[u16],
+    aligns: &[u32],
     uuid: &[u8],
     stream: &[u8],
     frame: Frame,
@@ -205,7 +212,8 @@ fn walk_elements(
     requires { ⌜ Prepared (now table) (notes (now sizes) (now aligns)) ⌝ }
     requires { ⌜ Framed (now stream) frame (st .place) ⌝ }
     ensures { λ r. ⌜
-        FieldReads (times count (elementOf (envOf (now (stream .entry)) (now (uuid .entry)) frame) (classAt left (now (table .entry)) at)))
+        FieldReads (times count (elementOf (envOf (now (stream .entry)) (now (uuid .entry)) frame) (numberAt (now (table .entry)) at)
+        (classAt left (now (table .entry)) at)))
         st given r (now (list .entry)) (now (list .exit))
         ⌝ }
 {
@@ -231,7 +239,7 @@ fn walk_elements(
 fn walk(
     table: &[u8],
     sizes: &[u16],
-    aligns: &[u16],
+    aligns: &[u32],
     uuid: &[u8],
     stream: &[u8],
     frame: Frame,
@@ -274,7 +282,7 @@ fn walk(
                 slots,
             };
         }
-        if list.len() - used < 4 {
+        if is_full(list.len() - used) {
             return refused(Refusal::ListFull, place, used, st, given); // 40
         }
         let next = first(run);
@@ -289,6 +297,7 @@ fn walk(
             let r = read_leaves(
                 table,
                 sizes,
+                aligns,
                 uuid,
                 stream,
                 frame,
@@ -343,7 +352,7 @@ fn walk(
                 return refused(Refusal::PastBound, place, used, st, given);
             }
             run = opened(run, next + STRUCTURE_SIZE, wide(table[next + 1]));
-            used = used + 4;
+            used = used + WORDS_PER_ENTRY;
             continue;
         }
         let mut content = Content::Unset;
@@ -369,7 +378,7 @@ fn walk(
                 return refused(why, place, used, st, given);
             }
             run = into(kind, run, sizes, o.from, o.count, o.elements, o.forgets);
-            used = used + 4;
+            used = used + WORDS_PER_ENTRY;
             continue;
         }
         let r = read_field(

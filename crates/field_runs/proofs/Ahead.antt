@@ -16,11 +16,13 @@ use Rattle.facts.proofs.Numbers.{lt-or-ge}
 use Rattle.facts.proofs.Truth.{clash, and-left, and-right}
 use Rattle.facts.proofs.Steps.{after-after, seq-assoc, pass-seq, seq-pass}
 use Rattle.facts.proofs.Forgets.{forget-again, times-kept}
+use Rattle.class_layout.specs.Numbers.{numberAt}
 use Rattle.class_layout.specs.Trees.{Stood, stoodAt, classAt, nextAt, membersAt, whole, wholeMembers}
 use Rattle.class_layout.specs.Fields.{readFields, wholeFields, onward}
 use Rattle.class_layout.specs.Notes.{SizedClasses}
 use Rattle.class_layout.specs.Words.{SaysSet}
 use Rattle.class_layout.proofs.Standing.{no-member, first}
+use Rattle.class_layout.proofs.NumberedReads.{members-first}
 use Rattle.field_runs.specs.declared.Run.{Run}
 use Rattle.field_runs.specs.Run.{membersRun, elementsRun, aloneRun, forgetting, free, over, element, firstAt, countOf}
 use Rattle.field_runs.specs.Run.{border, forwardRun, behindRun, takenRun}
@@ -66,10 +68,14 @@ module _ (d : ℕ) (t : List ℕ) where
   stood = stoodAt d t
 
   abbrev pub membersRead : Env → ℕ → ℕ → Step
-  membersRead e at n = readMembers e (membersAt stood at n)
+  membersRead e at n = readMembers e (numberAt t at) (membersAt stood at n)
+
+  -- the class at a byte, by its record's number
+  abbrev pub classRead : Env → ℕ → Step
+  classRead e at = read e (numberAt t at) (classAt d t at)
 
   abbrev pub elementsRead : Env → Bool → ℕ → ℕ → Step
-  elementsRead e b at n = times n (elementRead b e (classAt d t at))
+  elementsRead e b at n = times n (elementRead b e (numberAt t at) (classAt d t at))
 
   abbrev pub closed : Bool → ℕ → Step
   closed b at = closes b (classAt d t at)
@@ -92,7 +98,7 @@ module _ (d : ℕ) (t : List ℕ) where
   members-reads e at n =
       rw (
         closes-none (classAt d t at),
-        no-times 0 (elementRead false e (classAt d t at)) (omega arith),
+        no-times 0 (elementRead false e (numberAt t at) (classAt d t at)) (omega arith),
         no-members e at 0 (omega arith),
         pass-seq pass,
         pass-seq pass,
@@ -100,18 +106,18 @@ module _ (d : ℕ) (t : List ℕ) where
       (seq-pass _)
 
   -- an element's slots are forgotten in front of the first one, where there is one: twice is once
-  pub closes-first : (e : Env) (b : Bool) (c : Class) (n : ℕ) → (b ≡ true → 0 < n)
-      → (closes b c ⨾ times n (elementRead b e c)) ≡ times n (elementRead b e c)
+  pub closes-first : (e : Env) (b : Bool) (m : ℕ) (c : Class) (n : ℕ) → (b ≡ true → 0 < n)
+      → (closes b c ⨾ times n (elementRead b e m c)) ≡ times n (elementRead b e m c)
   unfolding closes elementRead
-  closes-first e false c n h = pass-seq _
-  closes-first e true c zero h = absurd (omega (arith, h refl))
-  closes-first e true c (suc n) h = unfold times in
-      (ap (λ m. forget c ⨾ m) (seq-assoc (forget c) (read e c ⨾ forget c) (times n (elementRead true e c)))
-      ∙ forget-again c _ ∙ sym (seq-assoc (forget c) (read e c ⨾ forget c) (times n (elementRead true e c))))
+  closes-first e false m c n h = pass-seq _
+  closes-first e true m c zero h = absurd (omega (arith, h refl))
+  closes-first e true m c (suc n) h = unfold times in
+      (ap (λ f. forget c ⨾ f) (seq-assoc (forget c) (read e m c ⨾ forget c) (times n (elementRead true e m c)))
+      ∙ forget-again c _ ∙ sym (seq-assoc (forget c) (read e m c ⨾ forget c) (times n (elementRead true e m c))))
 
   -- as the rules read an array's elements
   pub elements-times : (e : Env) (at n : ℕ)
-      → elementsRead e true at n ≡ times n (forget (classAt d t at) ⨾ read e (classAt d t at) ⨾ forget (classAt d t at))
+      → elementsRead e true at n ≡ times n (forget (classAt d t at) ⨾ classRead e at ⨾ forget (classAt d t at))
   unfolding elementRead
   elements-times e at n = refl
 
@@ -122,7 +128,7 @@ module _ (d : ℕ) (t : List ℕ) where
     where
       none : (n ≡ 0) ⊎ (sets (classAt d t at) ≡ []) → elementsRead e false at n ≡ elementsRead e true at n
       none (inl z) = no-times n _ (omega (arith, z)) ∙ sym (no-times n _ (omega (arith, z)))
-      none (inr z) = unfold elementRead in sym (times-kept (classAt d t at) (read e (classAt d t at)) n z)
+      none (inr z) = unfold elementRead in sym (times-kept (classAt d t at) (classRead e at) n z)
 
       by : (b : Bool) → eqb f 0 ≡ b → elementsRead e (not b) at n ≡ elementsRead e true at n
       by true h = none (q .none (eqb-true f 0 h))
@@ -134,7 +140,7 @@ module _ (d : ℕ) (t : List ℕ) where
   elements-reads e at n f q =
       rw (no-members e at 0 (omega arith))
       (pass-seq _ ∙ ap (λ m. closed (forgetsBy f) at ⨾ m) (seq-pass _)
-      ∙ closes-first e (forgetsBy f) (classAt d t at) n (λ h. forgets-some n f _ q h .0)
+      ∙ closes-first e (forgetsBy f) (numberAt t at) (classAt d t at) n (λ h. forgets-some n f _ q h .0)
       ∙ elements-forget e at n f q)
 
   pub members-stand : (at n : ℕ) → Members at n → WholeRun d t (membersRun at n)
@@ -188,7 +194,7 @@ module _ (d : ℕ) (t : List ℕ) where
       rw (
         f,
         no-members e (r .next) (r .todo) (omega arith),
-        no-times (r .more) (elementRead false e (classAt d t (r .again))) (omega arith),
+        no-times (r .more) (elementRead false e (numberAt t (r .again)) (classAt d t (r .again))) (omega arith),
         no-members e (r .later) (r .rest) (omega arith),
       )
       (pass-seq _ ∙ ap (λ m. m ⨾ (pass ⨾ pass)) (closes-none (classAt d t (r .again))) ∙ pass-seq _ ∙ pass-seq _)
@@ -228,17 +234,17 @@ module _ (d : ℕ) (t : List ℕ) where
       by (inl k) = rw (first-member r k) (first (whole d t) stood (r .next) (r .todo) k (w .members) .whole)
       by (inr k) = rw (first-element r k) (w .elements (some-element r k h))
 
-  pub member-reads : (e : Env) (r : Run) → WholeRun d t r → 0 < r .todo → ahead d t e r ≡ (read e (classAt d t (r .next)) ⨾ restRead e r)
-  unfolding ahead restRead readMembers
+  pub member-reads : (e : Env) (r : Run) → WholeRun d t r → 0 < r .todo → ahead d t e r ≡ (classRead e (r .next) ⨾ restRead e r)
+  unfolding ahead restRead
   member-reads e r w h =
-      rw (first (whole d t) stood (r .next) (r .todo) h (w .members) .classes) (seq-assoc _ _ _)
+      rw (members-first e d t (r .next) (r .todo) h (w .members)) (seq-assoc _ _ _)
 
   one-times : (n : ℕ) (m : Step) → 0 < n → times n m ≡ (m ⨾ times (n - 1) m)
   unfolding times
   one-times zero m h = absurd (omega arith)
   one-times (suc n) m h = let e : suc n - 1 ≡ n = omega arith in rw e refl
 
-  pub one-member : (e : Env) (at : ℕ) → membersRead e at 1 ≡ read e (classAt d t at)
+  pub one-member : (e : Env) (at : ℕ) → membersRead e at 1 ≡ classRead e at
   unfolding readMembers membersAt
   one-member e at = seq-pass _
 
@@ -254,10 +260,10 @@ module _ (d : ℕ) (t : List ℕ) where
               plain k,
               no-members e (r .next) (r .todo) k,
               one-member e (r .again),
-              one-times (r .more) (elementRead false e (classAt d t (r .again))) more,
+              one-times (r .more) (elementRead false e (numberAt t (r .again)) (classAt d t (r .again))) more,
             )
             (pass-seq _ ∙ (unfold closes elementRead in
-            (pass-seq _ ∙ seq-assoc _ _ _ ∙ ap (λ m. read e (classAt d t (r .again)) ⨾ m) (sym (pass-seq _))))));
+            (pass-seq _ ∙ seq-assoc _ _ _ ∙ ap (λ m. classRead e (r .again) ⨾ m) (sym (pass-seq _))))));
         stands = record {
           members = unfold wholeMembers in (w .elements more, tt);
           elements = λ _. w .elements more;
@@ -273,19 +279,20 @@ module _ (d : ℕ) (t : List ℕ) where
   unfolding ahead forgetting
   taken-reads e r k more f =
       let c = classAt d t (r .again) in
-      let left = times (r .more - 1) (elementRead true e c) in
+      let one = classRead e (r .again) in
+      let left = elementsRead e true (r .again) (r .more - 1) in
       let later = membersRead e (r .later) (r .rest) in
       rw (
         taken-element r k,
         f,
         no-members e (r .next) (r .todo) k,
         one-member e (r .again),
-        one-times (r .more) (elementRead true e (classAt d t (r .again))) more,
+        one-times (r .more) (elementRead true e (numberAt t (r .again)) (classAt d t (r .again))) more,
       )
       (pass-seq _ ∙ (unfold closes elementRead in
-      (ap (λ m. forget c ⨾ m) (seq-assoc _ left later ∙ seq-assoc (forget c) (read e c ⨾ forget c) (left ⨾ later))
+      (ap (λ m. forget c ⨾ m) (seq-assoc _ left later ∙ seq-assoc (forget c) (one ⨾ forget c) (left ⨾ later))
       ∙ forget-again c _
-      ∙ ap (λ m. forget c ⨾ m) (seq-assoc (read e c) (forget c) (left ⨾ later)))))
+      ∙ ap (λ m. forget c ⨾ m) (seq-assoc one (forget c) (left ⨾ later)))))
 
   forgotten-by : (r : Run) → r .todo ≤ 0 → (b : Bool) → forgetting r ≡ b → forgotten r ≡ closed b (r .again)
   unfolding forgotten
@@ -319,7 +326,7 @@ module _ (d : ℕ) (t : List ℕ) where
             rw (
               border-forgets r h,
               no-members e (r .next) (r .todo) h,
-              no-times (r .more) (elementRead (forgetting r) e (classAt d t (r .again))) k,
+              no-times (r .more) (elementRead (forgetting r) e (numberAt t (r .again)) (classAt d t (r .again))) k,
             )
             (pass-seq _ ∙ ap (λ m. closed (forgetting r) (r .again) ⨾ m) (pass-seq _ ∙ sym (members-reads e (r .later) (r .rest))));
         stands = members-stand (r .later) (r .rest) (w .later);

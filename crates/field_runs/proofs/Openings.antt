@@ -13,6 +13,7 @@ use Rattle.rules.specs.Step.{State, Step, _⨾_, pass}
 use Rattle.rules.specs.Field.{Env, read, readMembers, times}
 use Rattle.facts.proofs.Truth.{clash, and-left, and-right}
 use Rattle.facts.proofs.Steps.{seq-assoc, pass-seq, seq-pass}
+use Rattle.class_layout.specs.Numbers.{numberAt}
 use Rattle.class_layout.specs.Trees.{classAt, nextAt, membersAt, behindMembers, whole, wholeMembers}
 use Rattle.class_layout.specs.Notes.{SizedClasses}
 use Rattle.class_layout.specs.Words.{SaysSet}
@@ -24,7 +25,7 @@ use Rattle.field_runs.specs.Ahead.{elementRead, ahead, WholeRun, Forgets
 use Rattle.field_runs.proofs.Cases.{into-elements, into-variant, into-parts}
 use Rattle.field_runs.proofs.Ahead.{stood, membersRead, elementsRead, Members, no-members, no-times, none-whole, not-true}
 use Rattle.field_runs.proofs.Ahead.{forgetsBy, forgets-some, closes-none, closes-first, elements-forget}
-use Rattle.field_runs.proofs.Ahead.{heldRead, restRead, member-reads, instead}
+use Rattle.field_runs.proofs.Ahead.{classRead, heldRead, restRead, member-reads, instead}
 
 -- at a state a run reads m, and then what another one does, which stands whole
 pub record OpensTo (d : ℕ) (t : List ℕ) (e : Env) (s : State) (m : Step) (r r′ : Run) : Type 0 where
@@ -37,25 +38,29 @@ module _ (d : ℕ) (t : List ℕ) (r : Run) (w : WholeRun d t r) (h : 0 < r .tod
 
   -- n parts from a byte on, which end where the member ends
   module _ (from n : ℕ) (parts : Members d t from n) (ends : behindMembers (stood d t) from n ≡ nextAt d t (r .next)) where
+    -- they, and what is behind the member
+    both : Members d t from (n + (r .todo - 1))
+    both = whole-join (stood d t) (whole d t) n (r .todo - 1) from parts (rw ends rest-whole)
+
     opened-reads : (e : Env) → ahead d t e (openedRun r from n) ≡ (membersRead d t e from n ⨾ restRead d t e r)
     unfolding ahead openedRun restRead forgetting
     opened-reads e =
         let k : r .todo - 1 + n ≡ n + (r .todo - 1) = omega arith in
-        rw (k, read-split (stood d t) e n (r .todo - 1) from, ends) (seq-assoc _ _ _)
+        rw (k, read-split e d t n (r .todo - 1) from both, ends) (seq-assoc _ _ _)
 
     opened-stands : WholeRun d t (openedRun r from n)
     unfolding openedRun forgetting
     opened-stands =
         let k : r .todo - 1 + n ≡ n + (r .todo - 1) = omega arith in
         record {
-          members = rw k (whole-join (stood d t) (whole d t) n (r .todo - 1) from parts (rw ends rest-whole));
+          members = rw k both;
           elements = w .elements;
           element = w .element;
           forgotten = w .forgotten;
           later = w .later;
         }
 
-    pub opened-opens : (e : Env) (s : State) (m : Step) → read e (classAt d t (r .next)) s ≡ (m ⨾ membersRead d t e from n) s
+    pub opened-opens : (e : Env) (s : State) (m : Step) → classRead d t e (r .next) s ≡ (m ⨾ membersRead d t e from n) s
         → OpensTo d t e s m r (openedRun r from n)
     opened-opens e s m k = record {
       reads =
@@ -88,7 +93,7 @@ module _ (d : ℕ) (t : List ℕ) (r : Run) (w : WholeRun d t r) (h : 0 < r .tod
         rw (
           no-forgets,
           closes-none (classAt d t (r .again)),
-          no-times (r .more) (elementRead false e (classAt d t (r .again))) (omega (arith, no-more)),
+          no-times (r .more) (elementRead false e (numberAt t (r .again)) (classAt d t (r .again))) (omega (arith, no-more)),
           no-members d t e (r .later) (r .rest) (omega (arith, no-rest)),
           pass-seq pass,
           pass-seq pass,
@@ -102,7 +107,7 @@ module _ (d : ℕ) (t : List ℕ) (r : Run) (w : WholeRun d t r) (h : 0 < r .tod
         rw (behind-first, rest-reads e, no-members d t e at 0 (omega arith))
         (pass-seq _ ∙ sym (seq-assoc _ _ _)
         ∙ ap (λ m. m ⨾ membersRead d t e (nextAt d t (r .next)) (r .todo - 1))
-        (closes-first d t e (forgetsBy forgets) (classAt d t at) n (λ g. some g .0)))
+        (closes-first d t e (forgetsBy forgets) (numberAt t at) (classAt d t at) n (λ g. some g .0)))
 
     put-off-stands : WholeRun d t (putOffRun r sizes at n forgets)
     unfolding putOffRun forgetting
@@ -115,7 +120,7 @@ module _ (d : ℕ) (t : List ℕ) (r : Run) (w : WholeRun d t r) (h : 0 < r .tod
     }
 
     pub put-off-opens : (e : Env) (s : State) (m : Step)
-        → read e (classAt d t (r .next)) s ≡ (m ⨾ elementsRead d t e (forgetsBy forgets) at n) s
+        → classRead d t e (r .next) s ≡ (m ⨾ elementsRead d t e (forgetsBy forgets) at n) s
         → OpensTo d t e s m r (putOffRun r sizes at n forgets)
     put-off-opens e s m k = record {
       reads =
@@ -143,7 +148,7 @@ module _ (d : ℕ) (t : List ℕ) (r : Run) (w : WholeRun d t r) (h : 0 < r .tod
 
   pub into-opens : (sizes : List ℕ) (k from n : ℕ) (elements : Bool) (f : ℕ) → Holds sizes k from n elements
       → (elements ≡ true → Forgets n f (sets (classAt d t from))) → (e : Env) (s : State) (m : Step)
-      → read e (classAt d t (r .next)) s ≡ (m ⨾ heldRead d t e from n elements) s
+      → classRead d t e (r .next) s ≡ (m ⨾ heldRead d t e from n elements) s
       → OpensTo d t e s m r (intoRun k r sizes from n elements f)
   unfolding heldRead
   into-opens sizes k from n true f q forgets e s m h =

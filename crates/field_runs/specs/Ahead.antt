@@ -1,4 +1,5 @@
--- What a run still reads, by the classes that stand at its bytes of the table t, d depths each; and that these stand whole.
+-- What a run still reads, by the classes that stand at its bytes of the table t, d depths each, and their records' numbers; and that these
+-- stand whole.
 use mathlib.Core.Path.{_≡_}
 use Prim.Native.Nat.{ℕ, _<_}
 use mathlib.Core.List.{List, []}
@@ -7,6 +8,7 @@ use mathlib.Core.Bool.{Bool, true, false}
 use Rattle.rules.specs.Class.{Class, sets}
 use Rattle.rules.specs.Step.{Step, _⨾_, pass}
 use Rattle.rules.specs.Field.{Env, read, readMembers, times, forget}
+use Rattle.class_layout.specs.Numbers.{numberAt}
 use Rattle.class_layout.specs.Trees.{stoodAt, classAt, membersAt, whole, wholeMembers}
 use Rattle.class_layout.specs.Words.{SaysSet}
 use Rattle.field_runs.specs.declared.Run.{Run}
@@ -17,16 +19,16 @@ unfoldable pub closes : Bool → Class → Step
 closes true c = forget c
 closes false c = pass
 
-unfoldable pub elementRead : Bool → Env → Class → Step
-elementRead true e c = forget c ⨾ read e c ⨾ forget c
-elementRead false e c = read e c
+unfoldable pub elementRead : Bool → Env → ℕ → Class → Step
+elementRead true e m c = forget c ⨾ read e m c ⨾ forget c
+elementRead false e m c = read e m c
 
 unfoldable pub ahead : ℕ → List ℕ → Env → Run → Step
 ahead d t e r =
-    readMembers e (membersAt (stoodAt d t) (r .next) (r .todo))
+    readMembers e (numberAt t (r .next)) (membersAt (stoodAt d t) (r .next) (r .todo))
     ⨾ closes (forgetting r) (classAt d t (r .again))
-    ⨾ times (r .more) (elementRead (forgetting r) e (classAt d t (r .again)))
-    ⨾ readMembers e (membersAt (stoodAt d t) (r .later) (r .rest))
+    ⨾ times (r .more) (elementRead (forgetting r) e (numberAt t (r .again)) (classAt d t (r .again)))
+    ⨾ readMembers e (numberAt t (r .later)) (membersAt (stoodAt d t) (r .later) (r .rest))
 
 pub record WholeRun (d : ℕ) (t : List ℕ) (r : Run) : Type 0 where
   pub members : wholeMembers (whole d t) (stoodAt d t) (r .next) (r .todo)

@@ -16,16 +16,16 @@ pub(crate) fn say_readings() {
 fn say_first(list: &mut [u64]) {
     let table =
         b"\x01\x02\x04\x00\x00\x00\x00\x00\x00\x00\x00\xFF\x05\x00\x00\x00\x00\x00\x00\x00\x00\x00\x00\x00\x00\x00\x00\x00\x00\x06\x05\x1C\x01\x00\x12\x08\x00\x00\xFF\x00";
-    say(b"2A in 32 words:");
-    say_reading(table, b"\x2A", list, 32);
-    say(b"2A in 31 words:");
-    say_reading(table, b"\x2A", list, 31);
+    say(b"2A in 40 words:");
+    say_reading(table, b"\x2A", list, 40);
+    say(b"2A in 39 words:");
+    say_reading(table, b"\x2A", list, 39);
     say(b"2A, the event class left out:");
     say_reading(
         b"\x01\x02\x04\x00\x00\x00\x00\x00\x00\x00\x00\xFF",
         b"\x2A",
         list,
-        32,
+        40,
     );
 }
 
@@ -47,14 +47,14 @@ fn say_depths(list: &mut [u64]) {
         b"\x01\x02\x04\x00\x00\x00\x00\x00\x00\x00\x00\xFF\x05\x00\x00\x00\x00\x00\x00\x00\x00\x00\x00\x00\x00\x00\x00\x00\x00\x06\x05\x1C\x01\x00\x1C\x01\x00\x1C\x01\x00\x1C\x01\x00\x1C\x01\x00\x1C\x01\x00\x1C\x01\x00\x12\x08\x00\x00\xFF\x00",
         b"\x2A",
         list,
-        64,
+        80,
     );
     say(b"depth 9:");
     say_reading(
         b"\x01\x02\x04\x00\x00\x00\x00\x00\x00\x00\x00\xFF\x05\x00\x00\x00\x00\x00\x00\x00\x00\x00\x00\x00\x00\x00\x00\x00\x00\x06\x05\x1C\x01\x00\x1C\x01\x00\x1C\x01\x00\x1C\x01\x00\x1C\x01\x00\x1C\x01\x00\x1C\x01\x00\x1C\x01\x00\x12\x08\x00\x00\xFF\x00",
         b"\x2A",
         list,
-        64,
+        80,
     );
 }
 
@@ -77,8 +77,8 @@ fn say_reading(table: &[u8], stream: &[u8], list: &mut [u64], words: usize) {
 }
 
 // Room for 65,544 entries: 65,535 elements, and nine more.
-fn list_room() -> [u64; 262176]
-    ensures { λ r. ⌜ 262176 ≡ length r ⌝ }
+fn list_room() -> [u64; 327720]
+    ensures { λ r. ⌜ 327720 ≡ length r ⌝ }
 {
-    [0; 262176]
+    [0; 327720]
 }

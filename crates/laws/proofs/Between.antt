@@ -45,7 +45,7 @@ use Rattle.leb128.proofs.ValueSays.{unsigned-value, signed-value}
 use Rattle.leb128.proofs.Settled.{unsigned-reaches, signed-reaches}
 use Rattle.text.proofs.Laws.{zero-found}
 use Rattle.laws.specs.Between.{Between}
-use Rattle.laws.proofs.Law.{Any, any-slot, Law, fits, law-read}
+use Rattle.laws.proofs.Law.{Any, any-slot, AnyRecord, Law, fits, law-read}
 use Rattle.laws.proofs.Triple.{Ok, Triple, then, passing, changing, looser, refusing, refusing-at, checks, tested-at, untested}
 use Rattle.laws.proofs.Triple.{untested-at, dued}
 use Rattle.laws.proofs.Places.{alignFrom-le, start-le, align-one, ahead-fits, LebFits, LebReaches, start-tenth, tenth-fits}
@@ -111,9 +111,9 @@ module _ (e : Env) where
     plain-fit a n h = untested-at In At NoMore _ _ at-bound _ h
 
     -- a field that fits
-    put-field : (k a n v : ℕ) → 1 ≤ a → Fine (Fit a n) (field e k a n v) (Behind n)
+    put-field : (m k a n v : ℕ) → 1 ≤ a → Fine (Fit a n) (field e m k a n v) (Behind n)
     unfolding field listed aligned
-    put-field k a n v h = record {
+    put-field m k a n v h = record {
       at = λ s x.
           let g = x .0 in
           let b : alignFrom (e .start .0) a (s .place .0) + n ≤ e .bound .0 = x .1 in
@@ -123,18 +123,18 @@ module _ (e : Env) where
           ((omega arith, tt), (record { from = omega arith; to = b; kept = kept }, omega arith));
     }
 
-    a-field : (k a n v : ℕ) → 1 ≤ a → Fine (Fit a n) (field e k a n v) Holds
-    a-field k a n v h = looser In At NoMore (λ s x. x .0) (put-field k a n v h)
+    a-field : (m k a n v : ℕ) → 1 ≤ a → Fine (Fit a n) (field e m k a n v) Holds
+    a-field m k a n v h = looser In At NoMore (λ s x. x .0) (put-field m k a n v h)
 
     -- a field of text that fits
-    text-field : (x : List ℕ) (k n v : ℕ) → Fine (Fit 8 n) (asText x ⨾ field e k 8 n v) Holds
+    text-field : (x : List ℕ) (m k n v : ℕ) → Fine (Fit 8 n) (asText x ⨾ field e m k 8 n v) Holds
     unfolding asText
-    text-field x k n v = untested In At NoMore (λ r i s y. stops r i s (y .0)) _ NotText tt (a-field k 8 n v (omega arith))
+    text-field x m k n v = untested In At NoMore (λ r i s y. stops r i s (y .0)) _ NotText tt (a-field m k 8 n v (omega arith))
 
-    tagged : (k v : ℕ) → Holding J (field e k 1 0 v)
+    tagged : (m k v : ℕ) → Holding J (field e m k 1 0 v)
     unfolding aligned
-    tagged k v = record {
-      at = λ s h. a-field k 1 0 v (le-refl 1) .at s (h, omega (arith, align-one (e .start .0) (s .place .0) (h .from), h .to));
+    tagged m k v = record {
+      at = λ s h. a-field m k 1 0 v (le-refl 1) .at s (h, omega (arith, align-one (e .start .0) (s .place .0) (h .from), h .to));
     }
 
     -- what leaves place and said alone
@@ -162,7 +162,7 @@ module _ (e : Env) where
     held-clock l (some c) =
         by ⨾ᵇ changing In At NoMore (withClock c) (λ s h. unfold withClock in record { from = h .from; to = h .to; kept = h .kept })
       where
-        by : Holding J (λ s. listed (entry clockAdvanced (s .place) l c) (s .place) s)
+        by : Holding J (λ s. listed (entry clockAdvanced (s .place) l c 0) (s .place) s)
         by = unfold listed in record { at = λ s h. (((h .from, h .to), tt), record { from = h .from; to = h .to; kept = h .kept }) }
 
     module _ (n : ℕ) (w : N n) where
@@ -204,38 +204,38 @@ module _ (e : Env) where
     held-blobRole sequence b = held-pass
     held-blobRole eventClassId b = held-pass
 
-    held-fixed : (k : Sort) (n : ℕ) (o : Order) (a i : ℕ) (r : Role) → N n → 1 ≤ a → Holding J (readFixed e k n o a i r)
+    held-fixed : (m : ℕ) (k : Sort) (n : ℕ) (o : Order) (a i : ℕ) (r : Role) → N n → 1 ≤ a → Holding J (readFixed e m k n o a i r)
     unfolding readFixed
-    held-fixed k n o a i r w h =
+    held-fixed m k n o a i r w h =
         dued In At NoMore stops tt (plain-fit a 0 (untested In At NoMore stops _ OrderChanged tt (fitting a n (record {
           at = λ s x.
               (let v : ℕ = bits o (e .bytes) ((aligned e a s) .0) n in
-              put-field (kindOf k) a n (valueOf k n v) h ⨾ᵇ set-order n (Was o) ⨾ᵇ set-slot n i (slotOf k n v)
+              put-field m (kindOf k) a n (valueOf k n v) h ⨾ᵇ set-order n (Was o) ⨾ᵇ set-slot n i (slotOf k n v)
               ⨾ᵇ held-role n w r n (valueOf k n v)) .at s x;
         }))))
 
-    held-leb : (k : ℕ) (sl : ℕ → Content) (i : ℕ) (r : Role) (x : Leb) (s : State) → Holds s → (aligned e 8 s) .0 ≤ e .bound .0
-        → LebFits (ahead e (aligned e 8 s)) x → LebReaches (ahead e (aligned e 8 s)) x → Ok In At NoMore Holds (readLeb e k sl i r x s)
+    held-leb : (m k : ℕ) (sl : ℕ → Content) (i : ℕ) (r : Role) (x : Leb) (s : State) → Holds s → (aligned e 8 s) .0 ≤ e .bound .0
+        → LebFits (ahead e (aligned e 8 s)) x → LebReaches (ahead e (aligned e 8 s)) x → Ok In At NoMore Holds (readLeb e m k sl i r x s)
     unfolding readLeb
-    held-leb k sl i r Past s h b g t = refusing-at In At NoMore _ _ at-bound .at s h
-    held-leb k sl i r Large s h b g t = unfold refuseAt in (tt, (start-tenth e s, tenth-fits e s b (t refl)))
-    held-leb k sl i r (Value v n) s h b g t =
+    held-leb m k sl i r Past s h b g t = refusing-at In At NoMore _ _ at-bound .at s h
+    held-leb m k sl i r Large s h b g t = unfold refuseAt in (tt, (start-tenth e s, tenth-fits e s b (t refl)))
+    held-leb m k sl i r (Value v n) s h b g t =
         let y = g v n refl in
         let w : N (8 * n .0) = j .some-bits (8 * n .0) (omega (arith, y .some)) in
-        (put-field k 8 (8 * n .0) v (omega arith) ⨾ᵇ set-slot (8 * n .0) i (sl v) ⨾ᵇ held-role (8 * n .0) w r (7 * n .0) v) .at s
+        (put-field m k 8 (8 * n .0) v (omega arith) ⨾ᵇ set-slot (8 * n .0) i (sl v) ⨾ᵇ held-role (8 * n .0) w r (7 * n .0) v) .at s
         (h, ahead-fits e (aligned e 8 s) (n .0) b (y .inside))
 
-    held-zero : (x : Ended) (s : State) → Holds s → (aligned e 8 s) .0 ≤ e .bound .0
+    held-zero : (m : ℕ) (x : Ended) (s : State) → Holds s → (aligned e 8 s) .0 ≤ e .bound .0
         → ((n : ByteLength) → x ≡ After n → n .0 < length (ahead e (aligned e 8 s)))
-        → Ok In At NoMore Holds (readZero e x s)
+        → Ok In At NoMore Holds (readZero e m x s)
     unfolding readZero _⨾_
-    held-zero Never s h b g = refusing In At NoMore stops NoZeroByte tt .at s h
-    held-zero (After n) s h b g =
+    held-zero m Never s h b g = refusing In At NoMore stops NoZeroByte tt .at s h
+    held-zero m (After n) s h b g =
         let l : n .0 < length (ahead e (aligned e 8 s)) = g n refl in
         let x = bytesAt e (aligned e 8 s) (n .0) in
-        text-field x 23 (8 * (n .0 + 1)) (n .0) .at s (h, ahead-fits e (aligned e 8 s) (n .0 + 1) b (omega arith))
+        text-field x m 23 (8 * (n .0 + 1)) (n .0) .at s (h, ahead-fits e (aligned e 8 s) (n .0 + 1) b (omega arith))
 
-    pub held-law : Law e N Any Any (Holding J) (Holding J)
+    pub held-law : Law e AnyRecord N Any Any (Holding J) (Holding J)
     unfolding fromSlot
     held-law = record {
       none? = tt;
@@ -249,27 +249,29 @@ module _ (e : Env) where
       inNone = refusing In At NoMore stops SelectorInNoOption tt;
       within = λ n h. untested In At NoMore stops _ LengthTooLarge tt h;
       slot = λ i f h. record { at = λ s x. h (slotAt (s .slots) i) (any-slot (slotAt (s .slots) i)) .at s x };
-      fixes = λ k n o a i r w z. held-fixed k n o (2 ^ a) i r w (pow-pos a);
-      lebs = λ i r z. at-zero 8 (record {
-        at = λ s x. held-leb 21 Unsigned i r (lebUnsigned (ahead e (aligned e 8 s))) s (x .0) (x .1) (unsigned-value _)
+      fixes = λ m k n o a i r y w z. held-fixed m k n o (2 ^ a) i r w (pow-pos a);
+      lebs = λ m i r y z. at-zero 8 (record {
+        at = λ s x. held-leb m 21 Unsigned i r (lebUnsigned (ahead e (aligned e 8 s))) s (x .0) (x .1) (unsigned-value _)
             (unsigned-reaches _);
       });
-      signedLebs = λ i z. at-zero 8 (record {
-        at = λ s x. held-leb 22 Signed i noRole (lebSigned (ahead e (aligned e 8 s))) s (x .0) (x .1) (signed-value _)
+      signedLebs = λ m i y z. at-zero 8 (record {
+        at = λ s x. held-leb m 22 Signed i noRole (lebSigned (ahead e (aligned e 8 s))) s (x .0) (x .1) (signed-value _)
             (signed-reaches _);
       });
-      zeros = at-zero 8 (record { at = λ s x. held-zero (zeroAt (ahead e (aligned e 8 s))) s (x .0) (x .1) (λ n z. zero-found _ n z .0) });
-      texts = λ k n h. unfold readText in
+      zeros = λ m y. at-zero 8 (record {
+        at = λ s x. held-zero m (zeroAt (ahead e (aligned e 8 s))) s (x .0) (x .1) (λ n z. zero-found _ n z .0);
+      });
+      texts = λ m k n h y. unfold readText in
           plain-fit 8 0 (fitting 8 (8 * n) (record {
-            at = λ s x. let b = bytesAt e (aligned e 8 s) n in text-field b k (8 * n) (textLength b) .at s x;
+            at = λ s x. let b = bytesAt e (aligned e 8 s) n in text-field b m k (8 * n) (textLength b) .at s x;
           }));
-      blobs = λ k n r h. unfold readBlob in
+      blobs = λ m k n r h y. unfold readBlob in
           plain-fit 8 0 (fitting 8 (8 * n) (record {
-            at = λ s x. (a-field k 8 (8 * n) n (omega arith) ⨾ᵇ held-blobRole r (bytesAt e (aligned e 8 s) n)) .at s x;
+            at = λ s x. (a-field m k 8 (8 * n) n (omega arith) ⨾ᵇ held-blobRole r (bytesAt e (aligned e 8 s) n)) .at s x;
           }));
-      heads = λ k a v h g w x. fitting a 0 (a-field k a 0 v g ⨾ᵇ x);
-      tags = λ k v h w x. tagged k v ⨾ᵇ x;
-      tag = λ k v h w. tagged k v;
+      heads = λ m k a v h y g w x. fitting a 0 (a-field m k a 0 v g ⨾ᵇ x);
+      tags = λ m k v h y w x. tagged m k v ⨾ᵇ x;
+      tag = λ m k v h y w. tagged m k v;
     }
 
   -- Where the place was, for any class
@@ -277,7 +279,7 @@ module _ (e : Env) where
   at-least : (q : ℕ) → Kept e Any (λ p d. q ≤ p)
   at-least q = record { some-bits = λ n h. tt; moves = λ p p′ d l k. omega arith; says = λ n p d d′ w l k. k }
 
-  from-law : (q : ℕ) → Law e Any Any Any (Holding (λ p d. q ≤ p)) (Holding (λ p d. q ≤ p))
+  from-law : (q : ℕ) → Law e AnyRecord Any Any Any (Holding (λ p d. q ≤ p)) (Holding (λ p d. q ≤ p))
   from-law q = held-law (at-least q)
 
   went : (m : Step) → ((q : ℕ) → Holding (λ p d. q ≤ p) m) → (s : State) (es : List Entry) (s′ : State)
@@ -288,7 +290,7 @@ module _ (e : Env) where
       let x = subst (Ok In At NoMore (Held e (λ p d. s .place .0 ≤ p))) g (h (s .place .0) .at s held) in
       (x .1 .kept, x .1 .to)
 
-  pub read-between : (c : Class) (s : State) (es : List Entry) (s′ : State)
-      → e .start .0 ≤ s .place .0 → s .place .0 ≤ e .bound .0 → read e c s ≡ go es s′
+  pub read-between : (m : ℕ) (c : Class) (s : State) (es : List Entry) (s′ : State)
+      → e .start .0 ≤ s .place .0 → s .place .0 ≤ e .bound .0 → read e m c s ≡ go es s′
       → (s .place .0 ≤ s′ .place .0) × (s′ .place .0 ≤ e .bound .0)
-  read-between c = went (read e c) (λ q. law-read e (from-law q) c (fits Any Any Any (λ n. tt) (λ n. tt) (λ n. tt) c))
+  read-between m c = went (read e m c) (λ q. law-read e (from-law q) m c (fits Any Any Any (λ n. tt) (λ n. tt) (λ n. tt) c))

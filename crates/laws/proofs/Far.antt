@@ -58,14 +58,14 @@ module _ (e e′ : Env) where
   unfolding aligned
   start-aligned a s = start-le (e .start .0) a (s .place .0)
 
-  pub exact-field : (k a n v : ℕ) → Exact (field e k a n v) (field e′ k a n v)
+  pub exact-field : (m k a n v : ℕ) → Exact (field e m k a n v) (field e′ m k a n v)
   unfolding field listed farOut farAll farEntry aligned far
-  exact-field k a n v = record {
+  exact-field m k a n v = record {
     at = λ l s.
         let x : ℕ = alignFrom (e .start .0) a (s .place .0) in
         let x′ : ℕ = alignFrom (e′ .start .0) a (away e e′ (s .place .0)) in
         let out : ℕ → ℕ → Out =
-        λ y z. go (entry k (bitPlace y) n v ∷ []) (record {
+        λ y z. go (entry k (bitPlace y) n v m ∷ []) (record {
           place = bitPlace z;
           room = s .room - wordsPerEntry;
           slots = s .slots;

@@ -24,7 +24,7 @@ use Rattle.rules.specs.Packet.{readRoot}
 use Rattle.rules.specs.Parse.{good, parse}
 use Rattle.facts.proofs.Slots.{no-slot}
 use Rattle.laws.specs.Kept.{RootKeeps, LeavesUnset, KeepsSlots}
-use Rattle.laws.proofs.Law.{Any, FitRoot}
+use Rattle.laws.proofs.Law.{Any, AnyRecord, FitRoot}
 use Rattle.laws.proofs.Simple.{view, Simple, simple-fits}
 use Rattle.laws.proofs.Triple.{Ok, Triple, then, passing, changing, refusing, refusing-at, checks, untested, untested-at, dued}
 use Rattle.laws.proofs.Accepted.{SetUnder, Tells, accepted-fits}
@@ -51,7 +51,7 @@ module _ (P : Slots → Type 0) (S : ℕ → Type 0) (set-kept : (l : Slots) (i 
   stops : (r : Refusal) → AnyRefusal r → (s : State) → Has s → AnyStop (stopAt r (s .place))
   stops r i s h = tt
 
-  keeps-simple : (e : Env) → Simple e S Keeps Keeps
+  keeps-simple : (e : Env) → Simple e AnyRecord S Keeps Keeps
   unfolding refuseAt fromSlot field listed store say withSlots withOrder withClock withSaid
   keeps-simple e = record {
     seq = λ a b. then AnyEntry AnyStop AnyRefusal a b;
@@ -68,7 +68,7 @@ module _ (P : Slots → Type 0) (S : ℕ → Type 0) (set-kept : (l : Slots) (i 
     looks = λ f a. record { at = λ s h. a (view s) .at s h };
     looksʳ = λ f a. record { at = λ s h. a (view s) .at s h };
     slots = λ i f a. record { at = λ s h. a (slotAt (s .slots) i) .at s h };
-    fields = λ k a n v g l. record { at = λ s h. ((tt, tt), h) };
+    fields = λ m k a n v g z l. record { at = λ s h. ((tt, tt), h) };
     clocked = λ l c. record { at = λ s h. ((tt, tt), h) };
     stores = λ i x w. changing AnyEntry AnyStop AnyRefusal _ (λ s h. set-kept (s .slots) i x w h);
     orders = λ o. changing AnyEntry AnyStop AnyRefusal _ (λ s h. h);
@@ -76,9 +76,10 @@ module _ (P : Slots → Type 0) (S : ℕ → Type 0) (set-kept : (l : Slots) (i 
     says = λ f. changing AnyEntry AnyStop AnyRefusal _ (λ s h. h);
   }
 
-  root-keeps : (c : Option Class) → FitRoot Any S Any c → (e : Env) (s : State) (es : List Entry) (s′ : State) → readRoot e c s ≡ go es s′
+  root-keeps : (c : Option Class) → FitRoot Any S Any c → (e : Env) (m : ℕ) (s : State) (es : List Entry) (s′ : State)
+      → readRoot e m c s ≡ go es s′
       → P (s .slots) → P (s′ .slots)
-  root-keeps c w e s es s′ g h = subst (Ok AnyEntry AnyStop AnyRefusal Has) g (simple-fits e (keeps-simple e) c w .at s h) .1
+  root-keeps c w e m s es s′ g h = subst (Ok AnyEntry AnyStop AnyRefusal Has) g (simple-fits e (keeps-simple e) m c w .at s h) .1
 
 -- An event's root: the packet's slots are kept where another is set; 255, no slot, is another
 
@@ -93,8 +94,8 @@ unfolding packetSlots setSlot
 set-keeps l i x h = rw (take-set l packetSlotCount i (slot x) h) refl
 
 event-root : (r : ℕ) → 2 ≤ r → (c : Option Class) → FitRoot Any (SetUnder r) Any c → RootKeeps c
-event-root r h c w e s es s′ g =
-    root-keeps (λ l. packetSlots l ≡ packetSlots (s .slots)) (SetUnder r) (λ l i x k q. set-keeps l i x (k .0 h) ∙ q) c w e s es s′ g refl
+event-root r h c w e m s es s′ g =
+    root-keeps (λ l. packetSlots l ≡ packetSlots (s .slots)) (SetUnder r) (λ l i x k q. set-keeps l i x (k .0 h) ∙ q) c w e m s es s′ g refl
 
 -- A packet's root: slots 16 to 63 stay unset where another is set
 

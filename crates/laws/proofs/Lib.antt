@@ -7,6 +7,7 @@ pub mod Between
 pub mod Moved
 pub mod Sound
 pub mod Accepted
+pub mod Numbering
 pub mod Kept
 pub mod Two
 pub mod Far

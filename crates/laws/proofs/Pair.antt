@@ -45,7 +45,7 @@ use Rattle.facts.proofs.Steps.{onto-nil, onto-onto, after-onto}
 use Rattle.facts.proofs.Numbers.{lt-or-ge}
 use Rattle.text.proofs.Laws.{zero-found}
 use Rattle.laws.specs.Between.{Between}
-use Rattle.laws.proofs.Law.{Any, Law}
+use Rattle.laws.proofs.Law.{Any, AnyRecord, Law}
 use Rattle.laws.proofs.Triple.{Ok, Triple, ok-after, then, passing, changing, refusing, checks, dued}
 use Rattle.laws.proofs.Between.{Kept, Held, In, At, NoMore, Holding, held-law}
 use Rattle.laws.proofs.Places.{align-one}
@@ -82,7 +82,7 @@ onward-check t r q = checks Whatever Wherever Why (λ r i s a. tt) t r tt
 onward-pass : Onward pass
 onward-pass q = passing Whatever Wherever Why
 
-onward-tick : (l c : ℕ) → Onward (λ s. listed (entry clockAdvanced (s .place) l c) (s .place) s)
+onward-tick : (l c : ℕ) → Onward (λ s. listed (entry clockAdvanced (s .place) l c 0) (s .place) s)
 unfolding listed
 onward-tick l c q = record { at = λ s a. ((tt, tt), a) }
 
@@ -137,13 +137,14 @@ onto-go es (stop gs v) fs t q = let z : _≡_ {A = ℕ} 0 1 = cc in absurd (omeg
 onto-go es (go gs u) fs t q = let p : u ≡ t = cc in (gs, ap (go gs) p)
 
 -- a field of n bits, and what does not go back
-reach-field : (x : Env) (k a n v : ℕ) (rest : Step) → Onward rest → (s : State) (fs : List Entry) (t : State)
-    → (field x k a n v ⨾ rest) s ≡ go fs t → (aligned x a s) .0 + n ≤ t .place .0
+reach-field : (x : Env) (m k a n v : ℕ) (rest : Step) → Onward rest → (s : State) (fs : List Entry) (t : State)
+    → (field x m k a n v ⨾ rest) s ≡ go fs t → (aligned x a s) .0 + n ≤ t .place .0
 unfolding field listed _⨾_
-reach-field x k a n v rest h s fs t q =
+reach-field x m k a n v rest h s fs t q =
     let at : ℕ = (aligned x a s) .0 + n in
-    let ok : Ok Whatever Wherever Why (λ u. at ≤ u .place .0) (after (field x k a n v s) rest) =
-    ok-after Whatever Wherever Why (λ u. at ≤ u .place .0) (λ u. at ≤ u .place .0) (field x k a n v s) rest ((tt, tt), le-refl at) (h at) in
+    let ok : Ok Whatever Wherever Why (λ u. at ≤ u .place .0) (after (field x m k a n v s) rest) =
+    ok-after Whatever Wherever Why (λ u. at ≤ u .place .0) (λ u. at ≤ u .place .0) (field x m k a n v s) rest ((tt, tt), le-refl at)
+    (h at) in
     subst (Ok Whatever Wherever Why (λ u. at ≤ u .place .0)) q ok .1
 
 module _ (e e′ : Env) (y : Like e e′) where
@@ -168,7 +169,7 @@ module _ (e e′ : Env) (y : Like e e′) where
   at-least : (x : Env) (q : ℕ) → Kept x Any (λ p d. q ≤ p)
   at-least x q = record { some-bits = λ n h. tt; moves = λ p p′ d l k. omega arith; says = λ n p d d′ w l k. k }
 
-  pub from : (x : Env) (q : ℕ) → Law x Any Any Any (Holding x (λ p d. q ≤ p)) (Holding x (λ p d. q ≤ p))
+  pub from : (x : Env) (q : ℕ) → Law x AnyRecord Any Any Any (Holding x (λ p d. q ≤ p)) (Holding x (λ p d. q ≤ p))
   from x q = held-law x (at-least x q)
 
   -- the state there is between its start and bound
@@ -251,8 +252,8 @@ module _ (e e′ : Env) (y : Like e e′) where
   exact-clock w none = exact-refuse e e′ ClockTooLarge
   exact-clock w (some c) = exact-seq e e′ here (exact-change (withClock c) (λ l s. unfold withClock far in refl))
     where
-      here : Exact e e′ (λ s. listed (entry clockAdvanced (s .place) w c) (s .place) s)
-          (λ s. listed (entry clockAdvanced (s .place) w c) (s .place) s)
+      here : Exact e e′ (λ s. listed (entry clockAdvanced (s .place) w c 0) (s .place) s)
+          (λ s. listed (entry clockAdvanced (s .place) w c 0) (s .place) s)
       here = record { at = λ l s. unfold listed farOut farAll farEntry far in refl }
 
   exact-say : (f : Said → Said) → Exact e e′ (say f) (say f)
@@ -337,24 +338,24 @@ module _ (e e′ : Env) (y : Like e e′) where
       ∙ sym (ap (λ x. take n (drop x (e .bytes))) u ∙ piece (y .w) (e .bytes) (y .post) (e .start .0 / 8) (y .here) (q / 8) n k)
 
   -- kinds 16 to 20
-  module _ (k : Sort) (n : ℕ) (o : Order) (a i : ℕ) (r : Role) where
+  module _ (m : ℕ) (k : Sort) (n : ℕ) (o : Order) (a i : ℕ) (r : Role) where
     abbrev body : Env → ℕ → Step
-    body x v = field x (kindOf k) a n (valueOf k n v) ⨾ change (withOrder (Was o)) ⨾ store i (slotOf k n v) ⨾ role r n (valueOf k n v)
+    body x v = field x m (kindOf k) a n (valueOf k n v) ⨾ change (withOrder (Was o)) ⨾ store i (slotOf k n v) ⨾ role r n (valueOf k n v)
 
     body-exact : (v : ℕ) → Exact e e′ (body e v) (body e′ v)
     body-exact v =
-        exact-seq e e′ (exact-field e e′ (kindOf k) a n (valueOf k n v))
+        exact-seq e e′ (exact-field e e′ m (kindOf k) a n (valueOf k n v))
         (exact-seq e e′ (exact-order (Was o)) (exact-seq e e′ (exact-store i (slotOf k n v)) (exact-role r n (valueOf k n v))))
 
     body-reach : (v : ℕ) (s : State) (fs : List Entry) (t : State) → body e′ v s ≡ go fs t → (aligned e′ a s) .0 + n ≤ t .place .0
     body-reach v s fs t q =
-        reach-field e′ (kindOf k) a n (valueOf k n v) _
+        reach-field e′ m (kindOf k) a n (valueOf k n v) _
         (onward-seq (onward-order (Was o)) (onward-seq (onward-store i (slotOf k n v)) (onward-role r n (valueOf k n v)))) s fs t q
 
     abbrev value : Env → State → ℕ
     value x s = bits o (x .bytes) ((aligned x a s) .0) n
 
-    rel-fixed : (l : ℕ → ℕ) (s : State) → Beside l (readFixed e k n o a i r s) (readFixed e′ k n o a i r (there l s))
+    rel-fixed : (l : ℕ → ℕ) (s : State) → Beside l (readFixed e m k n o a i r s) (readFixed e′ m k n o a i r (there l s))
     unfolding readFixed
     rel-fixed l s =
         rel-due e e′ l _ _ s
@@ -417,32 +418,33 @@ module _ (e e′ : Env) (y : Like e e′) where
       ap length same ∙ omega (arith, length-take k (drop (q / 8) (y .w)), length-drop (q / 8) (y .w))
 
   -- what a reading of bytes ahead comes to: the same; or here there were too few, and there, with n bytes, it went past them
-  module _ (k : ℕ) (c : ℕ → Content) (i : ℕ) (r : Role) where
-    leb-same : (x : Leb) (l : ℕ → ℕ) (s : State) → Beside l (readLeb e k c i r x s) (readLeb e′ k c i r x (there l s))
+  module _ (m k : ℕ) (c : ℕ → Content) (i : ℕ) (r : Role) where
+    leb-same : (x : Leb) (l : ℕ → ℕ) (s : State) → Beside l (readLeb e m k c i r x s) (readLeb e′ m k c i r x (there l s))
     unfolding readLeb
     leb-same (Value v n) l s =
-        inl (exact-seq e e′ (exact-field e e′ k 8 (8 * n .0) v) (exact-seq e e′ (exact-store i (c v)) (exact-role r (7 * n .0) v)) .at l s)
+        inl (exact-seq e e′ (exact-field e e′ m k 8 (8 * n .0) v)
+        (exact-seq e e′ (exact-store i (c v)) (exact-role r (7 * n .0) v)) .at l s)
     leb-same Past l s = rel-past e e′ (y .inside) (y .inside′) (y .narrower) l s
     leb-same Large l s = inl (exact-large e e′ .at l s)
 
-    leb-reach : (x : Leb) (s : State) (fs : List Entry) (t : State) → readLeb e′ k c i r x s ≡ go fs t
+    leb-reach : (x : Leb) (s : State) (fs : List Entry) (t : State) → readLeb e′ m k c i r x s ≡ go fs t
         → (v : ℕ) × (n : ByteLength) × (x ≡ Value v n) × ((aligned e′ 8 s) .0 + 8 * n .0 ≤ t .place .0)
     unfolding readLeb
     leb-reach (Value v n) s fs t q =
-        (v, n, refl, reach-field e′ k 8 (8 * n .0) v _ (onward-seq (onward-store i (c v)) (onward-role r (7 * n .0) v)) s fs t q)
+        (v, n, refl, reach-field e′ m k 8 (8 * n .0) v _ (onward-seq (onward-store i (c v)) (onward-role r (7 * n .0) v)) s fs t q)
     leb-reach Past s fs t q = unfold refuseAt in let z : _≡_ {A = ℕ} 0 1 = cc in absurd (omega arith)
     leb-reach Large s fs t q = unfold refuseAt in let z : _≡_ {A = ℕ} 0 1 = cc in absurd (omega arith)
 
     leb-cut : (l : ℕ → ℕ) (s : State) (x x′ : Leb) → (aligned e 8 s) .0 ≤ e .bound .0
         → e .bound .0 - e .start .0 < e′ .bound .0 - e′ .start .0
         → x ≡ Past → ((v : ℕ) (n : ByteLength) → x′ ≡ Value v n → (e .bound .0 - (aligned e 8 s) .0) / 8 < n .0)
-        → Cut e e′ (readLeb e k c i r x s) (readLeb e′ k c i r x′ (there l s))
+        → Cut e e′ (readLeb e m k c i r x s) (readLeb e′ m k c i r x′ (there l s))
     leb-cut l s x x′ f w p h = record {
       es = [];
       v = stopAt PastBound (e .bound);
-      stops = unfold readLeb refuseAt in ap (λ z. readLeb e k c i r z s) p;
+      stops = unfold readLeb refuseAt in ap (λ z. readLeb e m k c i r z s) p;
       short = inl refl;
-      rest = readLeb e′ k c i r x′ (there l s);
+      rest = readLeb e′ m k c i r x′ (there l s);
       goes = unfold farAll in sym (onto-nil _);
       wider = w;
       beyond = λ fs t q.
@@ -458,11 +460,11 @@ module _ (e e′ : Env) (y : Like e e′) where
         → ((xs ys : List ℕ) → (read (xs ++ ys) ≡ read xs)
         ⊎ ((read xs ≡ Past) × ((v : ℕ) (n : ByteLength) → read (xs ++ ys) ≡ Value v n → length xs < n .0)))
         → (l : ℕ → ℕ) (s : State)
-        → Beside l ((fit e 8 0 ⨾ λ u. readLeb e k c i r (read (ahead e (aligned e 8 u))) u) s)
-        ((fit e′ 8 0 ⨾ λ u. readLeb e′ k c i r (read (ahead e′ (aligned e′ 8 u))) u) (there l s))
+        → Beside l ((fit e 8 0 ⨾ λ u. readLeb e m k c i r (read (ahead e (aligned e 8 u))) u) s)
+        ((fit e′ 8 0 ⨾ λ u. readLeb e′ m k c i r (read (ahead e′ (aligned e′ 8 u))) u) (there l s))
     rel-leb read longer l s = fits l 8 0 _ _ s (λ f. by (omega arith)) (λ f fs t q. reaches fs t q)
       where
-        reaches : (fs : List Entry) (t : State) → readLeb e′ k c i r (read (ahead e′ (aligned e′ 8 (there l s)))) (there l s) ≡ go fs t
+        reaches : (fs : List Entry) (t : State) → readLeb e′ m k c i r (read (ahead e′ (aligned e′ 8 (there l s)))) (there l s) ≡ go fs t
             → (aligned e′ 8 (there l s)) .0 + 0 ≤ t .place .0
         reaches fs t q =
             let g = leb-reach (read (ahead e′ (aligned e′ 8 (there l s)))) (there l s) fs t q in
@@ -470,13 +472,13 @@ module _ (e e′ : Env) (y : Like e e′) where
             omega arith
 
         same : read (ahead e′ (aligned e′ 8 (there l s))) ≡ read (ahead e (aligned e 8 s))
-            → Beside l (readLeb e k c i r (read (ahead e (aligned e 8 s))) s)
-            (readLeb e′ k c i r (read (ahead e′ (aligned e′ 8 (there l s)))) (there l s))
+            → Beside l (readLeb e m k c i r (read (ahead e (aligned e 8 s))) s)
+            (readLeb e′ m k c i r (read (ahead e′ (aligned e′ 8 (there l s)))) (there l s))
         same p = rw p (leb-same (read (ahead e (aligned e 8 s))) l s)
 
         by : (aligned e 8 s) .0 ≤ e .bound .0
-            → Beside l (readLeb e k c i r (read (ahead e (aligned e 8 s))) s)
-            (readLeb e′ k c i r (read (ahead e′ (aligned e′ 8 (there l s)))) (there l s))
+            → Beside l (readLeb e m k c i r (read (ahead e (aligned e 8 s))) s)
+            (readLeb e′ m k c i r (read (ahead e′ (aligned e′ 8 (there l s)))) (there l s))
         by f = ⊎-elim
             (λ (w : e .bound .0 - e .start .0 < e′ .bound .0 - e′ .start .0). further f w (longer (ahead e (aligned e 8 s)) (more l s)))
             (λ (w : e′ .bound .0 - e′ .start .0 ≤ e .bound .0 - e .start .0). same
@@ -488,77 +490,77 @@ module _ (e e′ : Env) (y : Like e e′) where
                 ⊎ ((read (ahead e (aligned e 8 s)) ≡ Past)
                 × ((v : ℕ) (n : ByteLength) → read (ahead e (aligned e 8 s) ++ more l s) ≡ Value v n
                 → length (ahead e (aligned e 8 s)) < n .0))
-                → Beside l (readLeb e k c i r (read (ahead e (aligned e 8 s))) s)
-                (readLeb e′ k c i r (read (ahead e′ (aligned e′ 8 (there l s)))) (there l s))
+                → Beside l (readLeb e m k c i r (read (ahead e (aligned e 8 s))) s)
+                (readLeb e′ m k c i r (read (ahead e′ (aligned e′ 8 (there l s)))) (there l s))
             further f w (inl p) = same (ap read (ahead-there l s f) ∙ p)
             further f w (inr p) = inr (leb-cut l s _ _ f w (p .0) (λ v n q.
                 let u : length (ahead e (aligned e 8 s)) < n .0 = p .1 v n (sym (ap read (ahead-there l s f)) ∙ q) in
                 omega (arith, ahead-length s f)))
 
   -- a field of text
-  exact-text : (x : List ℕ) (k n v : ℕ) → Exact e e′ (asText x ⨾ field e k 8 n v) (asText x ⨾ field e′ k 8 n v)
+  exact-text : (x : List ℕ) (m k n v : ℕ) → Exact e e′ (asText x ⨾ field e m k 8 n v) (asText x ⨾ field e′ m k 8 n v)
   unfolding asText
-  exact-text x k n v = exact-seq e e′ (exact-check _ _ NotText (λ l s. refl)) (exact-field e e′ k 8 n v)
+  exact-text x m k n v = exact-seq e e′ (exact-check _ _ NotText (λ l s. refl)) (exact-field e e′ m k 8 n v)
 
-  reach-only : (x : Env) (k a n v : ℕ) (s : State) (fs : List Entry) (t : State) → field x k a n v s ≡ go fs t
+  reach-only : (x : Env) (m k a n v : ℕ) (s : State) (fs : List Entry) (t : State) → field x m k a n v s ≡ go fs t
       → (aligned x a s) .0 + n ≤ t .place .0
   unfolding field listed
-  reach-only x k a n v s fs t q =
+  reach-only x m k a n v s fs t q =
       let at : ℕ = (aligned x a s) .0 + n in
-      let ok : Ok Whatever Wherever Why (λ u. at ≤ u .place .0) (field x k a n v s) = ((tt, tt), le-refl at) in
+      let ok : Ok Whatever Wherever Why (λ u. at ≤ u .place .0) (field x m k a n v s) = ((tt, tt), le-refl at) in
       subst (Ok Whatever Wherever Why (λ u. at ≤ u .place .0)) q ok .1
 
-  reach-text : (x : List ℕ) (k n v : ℕ) (s : State) (fs : List Entry) (t : State) → (asText x ⨾ field e′ k 8 n v) s ≡ go fs t
+  reach-text : (x : List ℕ) (m k n v : ℕ) (s : State) (fs : List Entry) (t : State) → (asText x ⨾ field e′ m k 8 n v) s ≡ go fs t
       → (aligned e′ 8 s) .0 + n ≤ t .place .0
   unfolding asText
-  reach-text x k n v s fs t q = reach-only e′ k 8 n v s fs t (through _ NotText _ s fs t q)
+  reach-text x m k n v s fs t q = reach-only e′ m k 8 n v s fs t (through _ NotText _ s fs t q)
 
   -- kind 23
-  zero-same : (x : Ended) (l : ℕ → ℕ) (s : State) → ((n : ByteLength) → x ≡ After n → (aligned e 8 s) .0 + 8 * n .0 ≤ e .bound .0)
-      → readZero e′ x (there l s) ≡ farOut e e′ l (readZero e x s)
+  zero-same : (m : ℕ) (x : Ended) (l : ℕ → ℕ) (s : State) → ((n : ByteLength) → x ≡ After n → (aligned e 8 s) .0 + 8 * n .0 ≤ e .bound .0)
+      → readZero e′ m x (there l s) ≡ farOut e e′ l (readZero e m x s)
   unfolding readZero _⨾_
-  zero-same (After n) l s f =
-      ap (λ b. (asText b ⨾ field e′ 23 8 (8 * (n .0 + 1)) (n .0)) (there l s)) (bytes-there (n .0) l s (f n refl))
-      ∙ exact-text (bytesAt e (aligned e 8 s) (n .0)) 23 (8 * (n .0 + 1)) (n .0) .at l s
-  zero-same Never l s f = exact-refuse e e′ NoZeroByte .at l s
+  zero-same m (After n) l s f =
+      ap (λ b. (asText b ⨾ field e′ m 23 8 (8 * (n .0 + 1)) (n .0)) (there l s)) (bytes-there (n .0) l s (f n refl))
+      ∙ exact-text (bytesAt e (aligned e 8 s) (n .0)) m 23 (8 * (n .0 + 1)) (n .0) .at l s
+  zero-same m Never l s f = exact-refuse e e′ NoZeroByte .at l s
 
-  zero-reach : (x : Ended) (s : State) (fs : List Entry) (t : State) → readZero e′ x s ≡ go fs t
+  zero-reach : (m : ℕ) (x : Ended) (s : State) (fs : List Entry) (t : State) → readZero e′ m x s ≡ go fs t
       → (n : ByteLength) × (x ≡ After n) × ((aligned e′ 8 s) .0 + 8 * (n .0 + 1) ≤ t .place .0)
   unfolding readZero _⨾_
-  zero-reach (After n) s fs t q =
-      (n, refl, reach-text (bytesAt e′ (aligned e′ 8 s) (n .0)) 23 (8 * (n .0 + 1)) (n .0) s fs t q)
-  zero-reach Never s fs t q = unfold refuse in let z : _≡_ {A = ℕ} 0 1 = cc in absurd (omega arith)
+  zero-reach m (After n) s fs t q =
+      (n, refl, reach-text (bytesAt e′ (aligned e′ 8 s) (n .0)) m 23 (8 * (n .0 + 1)) (n .0) s fs t q)
+  zero-reach m Never s fs t q = unfold refuse in let z : _≡_ {A = ℕ} 0 1 = cc in absurd (omega arith)
 
-  rel-zero : (l : ℕ → ℕ) (s : State) → Beside l ((fit e 8 0 ⨾ λ u. readZero e (zeroAt (ahead e (aligned e 8 u))) u) s)
-      ((fit e′ 8 0 ⨾ λ u. readZero e′ (zeroAt (ahead e′ (aligned e′ 8 u))) u) (there l s))
-  rel-zero l s = fits l 8 0 _ _ s (λ f. by (omega arith)) (λ f fs t q. reaches fs t q)
+  rel-zero : (m : ℕ) (l : ℕ → ℕ) (s : State) → Beside l ((fit e 8 0 ⨾ λ u. readZero e m (zeroAt (ahead e (aligned e 8 u))) u) s)
+      ((fit e′ 8 0 ⨾ λ u. readZero e′ m (zeroAt (ahead e′ (aligned e′ 8 u))) u) (there l s))
+  rel-zero m l s = fits l 8 0 _ _ s (λ f. by (omega arith)) (λ f fs t q. reaches fs t q)
     where
-      reaches : (fs : List Entry) (t : State) → readZero e′ (zeroAt (ahead e′ (aligned e′ 8 (there l s)))) (there l s) ≡ go fs t
+      reaches : (fs : List Entry) (t : State) → readZero e′ m (zeroAt (ahead e′ (aligned e′ 8 (there l s)))) (there l s) ≡ go fs t
           → (aligned e′ 8 (there l s)) .0 + 0 ≤ t .place .0
       reaches fs t q =
-          let g = zero-reach (zeroAt (ahead e′ (aligned e′ 8 (there l s)))) (there l s) fs t q in
+          let g = zero-reach m (zeroAt (ahead e′ (aligned e′ 8 (there l s)))) (there l s) fs t q in
           let d : (aligned e′ 8 (there l s)) .0 + 8 * (g .0 .0 + 1) ≤ t .place .0 = g .2 in
           omega arith
 
       same : (aligned e 8 s) .0 ≤ e .bound .0 → zeroAt (ahead e′ (aligned e′ 8 (there l s))) ≡ zeroAt (ahead e (aligned e 8 s))
-          → Beside l (readZero e (zeroAt (ahead e (aligned e 8 s))) s)
-          (readZero e′ (zeroAt (ahead e′ (aligned e′ 8 (there l s)))) (there l s))
-      same f p = inl (ap (λ x. readZero e′ x (there l s)) p ∙ zero-same (zeroAt (ahead e (aligned e 8 s))) l s
+          → Beside l (readZero e m (zeroAt (ahead e (aligned e 8 s))) s)
+          (readZero e′ m (zeroAt (ahead e′ (aligned e′ 8 (there l s)))) (there l s))
+      same f p = inl (ap (λ x. readZero e′ m x (there l s)) p ∙ zero-same m (zeroAt (ahead e (aligned e 8 s))) l s
           (λ n q. omega (arith, zero-found (ahead e (aligned e 8 s)) n q .0, ahead-length s f)))
 
       cut : (aligned e 8 s) .0 ≤ e .bound .0 → e .bound .0 - e .start .0 < e′ .bound .0 - e′ .start .0
           → (x x′ : Ended) → x ≡ Never → ((n : ByteLength) → x′ ≡ After n → (e .bound .0 - (aligned e 8 s) .0) / 8 ≤ n .0)
-          → Cut e e′ (readZero e x s) (readZero e′ x′ (there l s))
+          → Cut e e′ (readZero e m x s) (readZero e′ m x′ (there l s))
       cut f w x x′ p h = record {
         es = [];
         v = stopAt NoZeroByte (s .place);
-        stops = unfold readZero refuse in ap (λ z. readZero e z s) p;
+        stops = unfold readZero refuse in ap (λ z. readZero e m z s) p;
         short = inr (inl refl);
-        rest = readZero e′ x′ (there l s);
+        rest = readZero e′ m x′ (there l s);
         goes = unfold farAll in sym (onto-nil _);
         wider = w;
         beyond = λ fs t q.
-            let g = zero-reach x′ (there l s) fs t q in
+            let g = zero-reach m x′ (there l s) fs t q in
             let u : (e .bound .0 - (aligned e 8 s) .0) / 8 ≤ g .0 .0 = h (g .0) (g .1) in
             let d : (aligned e′ 8 (there l s)) .0 + 8 * (g .0 .0 + 1) ≤ t .place .0 = g .2 in
             let j : e .start .0 ≤ (aligned e 8 s) .0 = start-aligned e e′ 8 s in
@@ -569,16 +571,16 @@ module _ (e e′ : Env) (y : Like e e′) where
           → (zeroAt (ahead e (aligned e 8 s) ++ more l s) ≡ zeroAt (ahead e (aligned e 8 s)))
           ⊎ ((zeroAt (ahead e (aligned e 8 s)) ≡ Never)
           × ((n : ByteLength) → zeroAt (ahead e (aligned e 8 s) ++ more l s) ≡ After n → length (ahead e (aligned e 8 s)) ≤ n .0))
-          → Beside l (readZero e (zeroAt (ahead e (aligned e 8 s))) s)
-          (readZero e′ (zeroAt (ahead e′ (aligned e′ 8 (there l s)))) (there l s))
+          → Beside l (readZero e m (zeroAt (ahead e (aligned e 8 s))) s)
+          (readZero e′ m (zeroAt (ahead e′ (aligned e′ 8 (there l s)))) (there l s))
       further f w (inl p) = same f (ap zeroAt (ahead-there l s f) ∙ p)
       further f w (inr p) = inr (cut f w _ _ (p .0) (λ n q.
           let u : length (ahead e (aligned e 8 s)) ≤ n .0 = p .1 n (sym (ap zeroAt (ahead-there l s f)) ∙ q) in
           omega (arith, ahead-length s f)))
 
       by : (aligned e 8 s) .0 ≤ e .bound .0
-          → Beside l (readZero e (zeroAt (ahead e (aligned e 8 s))) s)
-          (readZero e′ (zeroAt (ahead e′ (aligned e′ 8 (there l s)))) (there l s))
+          → Beside l (readZero e m (zeroAt (ahead e (aligned e 8 s))) s)
+          (readZero e′ m (zeroAt (ahead e′ (aligned e′ 8 (there l s)))) (there l s))
       by f = ⊎-elim
           (λ (w : e .bound .0 - e .start .0 < e′ .bound .0 - e′ .start .0). further f w (zero-more (ahead e (aligned e 8 s)) (more l s)))
           (λ (w : e′ .bound .0 - e′ .start .0 ≤ e .bound .0 - e .start .0). same f
@@ -586,24 +588,24 @@ module _ (e e′ : Env) (y : Like e e′) where
           (lt-or-ge (e .bound .0 - e .start .0) (e′ .bound .0 - e′ .start .0))
 
   -- kinds 24 to 27
-  rel-text : (k n : ℕ) (l : ℕ → ℕ) (s : State) → Beside l (readText e k n s) (readText e′ k n (there l s))
+  rel-text : (m k n : ℕ) (l : ℕ → ℕ) (s : State) → Beside l (readText e m k n s) (readText e′ m k n (there l s))
   unfolding readText
-  rel-text k n l s =
+  rel-text m k n l s =
       fits l 8 0 _ _ s
       (λ f. fits l 8 (8 * n) (λ u. put e (of e u) u) (λ u. put e′ (of e′ u) u) s
-      (λ g. inl (ap (λ b. put e′ b (there l s)) (bytes-there n l s g) ∙ exact-text (of e s) k (8 * n) (textLength (of e s)) .at l s))
-      (λ g fs t q. reach-text (of e′ (there l s)) k (8 * n) (textLength (of e′ (there l s))) (there l s) fs t q))
+      (λ g. inl (ap (λ b. put e′ b (there l s)) (bytes-there n l s g) ∙ exact-text (of e s) m k (8 * n) (textLength (of e s)) .at l s))
+      (λ g fs t q. reach-text (of e′ (there l s)) m k (8 * n) (textLength (of e′ (there l s))) (there l s) fs t q))
       (λ f fs t q.
       let q₂ = through-fit e′ 8 (8 * n) (λ u. put e′ (of e′ u) u) (there l s) fs t q in
       let z : (aligned e′ 8 (there l s)) .0 + 8 * n ≤ t .place .0 =
-      reach-text (of e′ (there l s)) k (8 * n) (textLength (of e′ (there l s))) (there l s) fs t q₂ in
+      reach-text (of e′ (there l s)) m k (8 * n) (textLength (of e′ (there l s))) (there l s) fs t q₂ in
       omega arith)
     where
       of : Env → State → List ℕ
       of x u = bytesAt x (aligned x 8 u) n
 
       put : Env → List ℕ → Step
-      put x b = asText b ⨾ field x k 8 (8 * n) (textLength b)
+      put x b = asText b ⨾ field x m k 8 (8 * n) (textLength b)
 
   onward-blob : (x : Env) (r : Role) (b : List ℕ) → Onward (blobRole x r b)
   unfolding blobRole
@@ -620,63 +622,63 @@ module _ (e e′ : Env) (y : Like e e′) where
   onward-blob x sequence b = onward-pass
   onward-blob x eventClassId b = onward-pass
 
-  rel-blob : (k n : ℕ) (r : Role) (l : ℕ → ℕ) (s : State) → Beside l (readBlob e k n r s) (readBlob e′ k n r (there l s))
+  rel-blob : (m k n : ℕ) (r : Role) (l : ℕ → ℕ) (s : State) → Beside l (readBlob e m k n r s) (readBlob e′ m k n r (there l s))
   unfolding readBlob
-  rel-blob k n r l s =
+  rel-blob m k n r l s =
       fits l 8 0 _ _ s
       (λ f. fits l 8 (8 * n) (λ u. put e (of e u) u) (λ u. put e′ (of e′ u) u) s
       (λ g. inl (ap (λ b. put e′ b (there l s)) (bytes-there n l s g)
-      ∙ exact-seq e e′ (exact-field e e′ k 8 (8 * n) n) (exact-blob r (of e s)) .at l s))
-      (λ g fs t q. reach-field e′ k 8 (8 * n) n _ (onward-blob e′ r (of e′ (there l s))) (there l s) fs t q))
+      ∙ exact-seq e e′ (exact-field e e′ m k 8 (8 * n) n) (exact-blob r (of e s)) .at l s))
+      (λ g fs t q. reach-field e′ m k 8 (8 * n) n _ (onward-blob e′ r (of e′ (there l s))) (there l s) fs t q))
       (λ f fs t q.
       let q₂ = through-fit e′ 8 (8 * n) (λ u. put e′ (of e′ u) u) (there l s) fs t q in
       let z : (aligned e′ 8 (there l s)) .0 + 8 * n ≤ t .place .0 =
-      reach-field e′ k 8 (8 * n) n _ (onward-blob e′ r (of e′ (there l s))) (there l s) fs t q₂ in
+      reach-field e′ m k 8 (8 * n) n _ (onward-blob e′ r (of e′ (there l s))) (there l s) fs t q₂ in
       omega arith)
     where
       of : Env → State → List ℕ
       of x u = bytesAt x (aligned x 8 u) n
 
       put : Env → List ℕ → Step
-      put x b = field x k 8 (8 * n) n ⨾ blobRole x r b
+      put x b = field x m k 8 (8 * n) n ⨾ blobRole x r b
 
   -- kinds 28 to 32: the entry, and what is inside
-  held-field : (x : Env) (q k a v : ℕ) (s : State) → x .start .0 ≤ (aligned x a s) .0 → (aligned x a s) .0 + 0 ≤ x .bound .0
+  held-field : (x : Env) (q i k a v : ℕ) (s : State) → x .start .0 ≤ (aligned x a s) .0 → (aligned x a s) .0 + 0 ≤ x .bound .0
       → q ≤ (aligned x a s) .0
-      → Ok (In x) (At x) (NoMore x) (Held x (λ p d. q ≤ p)) (field x k a 0 v s)
+      → Ok (In x) (At x) (NoMore x) (Held x (λ p d. q ≤ p)) (field x i k a 0 v s)
   unfolding field listed
-  held-field x q k a v s f t h = ((omega arith, tt), record { from = omega arith; to = t; kept = omega arith })
+  held-field x q i k a v s f t h = ((omega arith, tt), record { from = omega arith; to = t; kept = omega arith })
 
-  rel-inside : (l : ℕ → ℕ) (k a v : ℕ) (m m′ : Step) → Pair l m m′ → (s : State) → (aligned e a s) .0 + 0 ≤ e .bound .0
-      → Beside l ((field e k a 0 v ⨾ m) s) ((field e′ k a 0 v ⨾ m′) (there l s))
+  rel-inside : (l : ℕ → ℕ) (i k a v : ℕ) (m m′ : Step) → Pair l m m′ → (s : State) → (aligned e a s) .0 + 0 ≤ e .bound .0
+      → Beside l ((field e i k a 0 v ⨾ m) s) ((field e′ i k a 0 v ⨾ m′) (there l s))
   unfolding _⨾_
-  rel-inside l k a v m m′ h s f =
+  rel-inside l i k a v m m′ h s f =
       let g : e .start .0 ≤ (aligned e a s) .0 = start-aligned e e′ a s in
       let z : (aligned e′ a (there l s)) .0 ≡ e′ .start .0 + ((aligned e a s) .0 - e .start .0) = stand a l s in
       let g′ : e′ .start .0 ≤ (aligned e′ a (there l s)) .0 = omega arith in
       let f′ : (aligned e′ a (there l s)) .0 + 0 ≤ e′ .bound .0 = omega (arith, y .inside, y .inside′, y .narrower) in
-      rel-after l (field e k a 0 v s) (field e′ k a 0 v (there l s)) m m′ (inl (exact-field e e′ k a 0 v .at l s))
-      (held-field e 0 k a v s g f (omega arith)) (held-field e′ 0 k a v (there l s) g′ f′ (omega arith)) h
+      rel-after l (field e i k a 0 v s) (field e′ i k a 0 v (there l s)) m m′ (inl (exact-field e e′ i k a 0 v .at l s))
+      (held-field e 0 i k a v s g f (omega arith)) (held-field e′ 0 i k a v (there l s) g′ f′ (omega arith)) h
 
-  reach-inside : (k a v : ℕ) (m′ : Step) → ((q : ℕ) → Holding e′ (λ p d. q ≤ p) m′) → (s : State) → e′ .start .0 ≤ (aligned e′ a s) .0
+  reach-inside : (i k a v : ℕ) (m′ : Step) → ((q : ℕ) → Holding e′ (λ p d. q ≤ p) m′) → (s : State) → e′ .start .0 ≤ (aligned e′ a s) .0
       → (aligned e′ a s) .0 + 0 ≤ e′ .bound .0
-      → (fs : List Entry) (t : State) → (field e′ k a 0 v ⨾ m′) s ≡ go fs t → (aligned e′ a s) .0 + 0 ≤ t .place .0
+      → (fs : List Entry) (t : State) → (field e′ i k a 0 v ⨾ m′) s ≡ go fs t → (aligned e′ a s) .0 + 0 ≤ t .place .0
   unfolding _⨾_
-  reach-inside k a v m′ h s g f fs t q =
+  reach-inside i k a v m′ h s g f fs t q =
       let at : ℕ = (aligned e′ a s) .0 in
-      let ok : Ok (In e′) (At e′) (NoMore e′) (Held e′ (λ p d. at ≤ p)) (after (field e′ k a 0 v s) m′) =
-      ok-after (In e′) (At e′) (NoMore e′) (Held e′ (λ p d. at ≤ p)) (Held e′ (λ p d. at ≤ p)) (field e′ k a 0 v s) m′
-      (held-field e′ at k a v s g f (le-refl at)) (h at) in
+      let ok : Ok (In e′) (At e′) (NoMore e′) (Held e′ (λ p d. at ≤ p)) (after (field e′ i k a 0 v s) m′) =
+      ok-after (In e′) (At e′) (NoMore e′) (Held e′ (λ p d. at ≤ p)) (Held e′ (λ p d. at ≤ p)) (field e′ i k a 0 v s) m′
+      (held-field e′ at i k a v s g f (le-refl at)) (h at) in
       let x = subst (Ok (In e′) (At e′) (NoMore e′) (Held e′ (λ p d. at ≤ p))) q ok in
       let u : at ≤ t .place .0 = x .1 .kept in
       omega arith
 
-  rel-head : (l : ℕ → ℕ) (k a v : ℕ) (m m′ : Step) → Pair l m m′ → (s : State)
-      → Beside l ((fit e a 0 ⨾ field e k a 0 v ⨾ m) s) ((fit e′ a 0 ⨾ field e′ k a 0 v ⨾ m′) (there l s))
-  rel-head l k a v m m′ h s =
-      fits l a 0 _ _ s (λ f. rel-inside l k a v m m′ h s f)
+  rel-head : (l : ℕ → ℕ) (i k a v : ℕ) (m m′ : Step) → Pair l m m′ → (s : State)
+      → Beside l ((fit e a 0 ⨾ field e i k a 0 v ⨾ m) s) ((fit e′ a 0 ⨾ field e′ i k a 0 v ⨾ m′) (there l s))
+  rel-head l i k a v m m′ h s =
+      fits l a 0 _ _ s (λ f. rel-inside l i k a v m m′ h s f)
       (λ f fs t q. let g′ : e′ .start .0 ≤ (aligned e′ a (there l s)) .0 = start-aligned e′ e a (there l s) in
-      reach-inside k a v m′ (h .held′) (there l s) g′ f fs t q)
+      reach-inside i k a v m′ (h .held′) (there l s) g′ f fs t q)
 
   at-place : (s : State) → Between e (s .place .0) → (aligned e 1 s) .0 + 0 ≤ e .bound .0
   unfolding aligned
@@ -735,40 +737,53 @@ module _ (e e′ : Env) (y : Like e e′) where
       held = λ q. from e q .slot i f (λ x p. h x .held q);
       held′ = λ q. from e′ q .slot i f′ (λ x p. h x .held′ q);
     };
-    fixes = λ k n o a i r. record {
-      rel = λ s b. rel-fixed k n o (2 ^ a) i r l s;
-      held = λ q. from e q .fixes k n o a i r tt tt;
+    fixes = λ i k n o a j r. record {
+      rel = λ s b. rel-fixed i k n o (2 ^ a) j r l s;
+      held = λ q. from e q .fixes i k n o a j r tt tt tt;
       held′ =
-          λ q. from e′ q .fixes k n o a i r tt tt;
+          λ q. from e′ q .fixes i k n o a j r tt tt tt;
     };
-    lebs = λ i r. record {
-      rel = λ s b. rel-leb 21 Unsigned i r lebUnsigned leb-more l s;
-      held = λ q. from e q .lebs i r tt;
+    lebs = λ i j r. record {
+      rel = λ s b. rel-leb i 21 Unsigned j r lebUnsigned leb-more l s;
+      held = λ q. from e q .lebs i j r tt tt;
       held′ =
-          λ q. from e′ q .lebs i r tt;
+          λ q. from e′ q .lebs i j r tt tt;
     };
-    signedLebs = λ i. record {
-      rel = λ s b. rel-leb 22 Signed i noRole lebSigned leb-signed-more l s;
-      held = λ q. from e q .signedLebs i tt;
+    signedLebs = λ i j. record {
+      rel = λ s b. rel-leb i 22 Signed j noRole lebSigned leb-signed-more l s;
+      held = λ q. from e q .signedLebs i j tt tt;
       held′ =
-          λ q. from e′ q .signedLebs i tt;
+          λ q. from e′ q .signedLebs i j tt tt;
     };
-    zeros = record { rel = λ s b. rel-zero l s; held = λ q. from e q .zeros; held′ = λ q. from e′ q .zeros };
-    texts = λ k n g. record { rel = λ s b. rel-text k n l s; held = λ q. from e q .texts k n g; held′ = λ q. from e′ q .texts k n g };
-    blobs = λ k n r g. record
-        { rel = λ s b. rel-blob k n r l s; held = λ q. from e q .blobs k n r g; held′ = λ q. from e′ q .blobs k n r g };
-    heads = λ k a v g d {m} {m′} h. record {
-      rel = λ s b. rel-head l k a v m m′ h s;
-      held = λ q. from e q .heads k a v g d tt (h .held q);
-      held′ = λ q. from e′ q .heads k a v g d tt (h .held′ q);
+    zeros = λ i. record { rel = λ s b. rel-zero i l s; held = λ q. from e q .zeros i tt; held′ = λ q. from e′ q .zeros i tt };
+    texts = λ i k n g. record {
+      rel = λ s b. rel-text i k n l s;
+      held = λ q. from e q .texts i k n g tt;
+      held′ =
+          λ q. from e′ q .texts i k n g tt;
     };
-    tags = λ k v g {m} {m′} h. record {
-      rel = λ s b. rel-inside l k 1 v m m′ h s (at-place s b);
-      held = λ q. from e q .tags k v g tt (h .held q);
-      held′ = λ q. from e′ q .tags k v g tt (h .held′ q);
+    blobs = λ i k n r g. record {
+      rel = λ s b. rel-blob i k n r l s;
+      held = λ q. from e q .blobs i k n r g tt;
+      held′ =
+          λ q. from e′ q .blobs i k n r g tt;
     };
-    tag = λ k v g. record
-        { rel = λ s b. inl (exact-field e e′ k 1 0 v .at l s); held = λ q. from e q .tag k v g tt; held′ = λ q. from e′ q .tag k v g tt };
+    heads = λ i k a v g d {f} {f′} h. record {
+      rel = λ s b. rel-head l i k a v f f′ h s;
+      held = λ q. from e q .heads i k a v g tt d tt (h .held q);
+      held′ = λ q. from e′ q .heads i k a v g tt d tt (h .held′ q);
+    };
+    tags = λ i k v g {f} {f′} h. record {
+      rel = λ s b. rel-inside l i k 1 v f f′ h s (at-place s b);
+      held = λ q. from e q .tags i k v g tt tt (h .held q);
+      held′ = λ q. from e′ q .tags i k v g tt tt (h .held′ q);
+    };
+    tag = λ i k v g. record {
+      rel = λ s b. inl (exact-field e e′ i k 1 0 v .at l s);
+      held = λ q. from e q .tag i k v g tt tt;
+      held′ =
+          λ q. from e′ q .tag i k v g tt tt;
+    };
   }
     where
       rel-slot : (i : ℕ) (f f′ : Content → Step) (l : ℕ → ℕ) (s : State)
@@ -777,5 +792,5 @@ module _ (e e′ : Env) (y : Like e e′) where
       rel-slot i f f′ l s h = unfold fromSlot far in h
 
   -- a root's reading over bytes that agree
-  pub pair-root : (l : ℕ → ℕ) (c : Option Class) → Pair l (readRoot e c) (readRoot e′ c)
-  pair-root l c = two-root e e′ (pairs l) c
+  pub pair-root : (l : ℕ → ℕ) (m : ℕ) (c : Option Class) → Pair l (readRoot e m c) (readRoot e′ m c)
+  pair-root l m c = two-root e e′ (pairs l) m c

@@ -1,5 +1,6 @@
--- Laws that ask nothing of a field's bits or values, and of the slots that it sets only S: what holds of the primitive steps, and under
--- their composition, holds of every root. L is a law of steps, and R the same of steps that come where there is room for an entry.
+-- Laws that ask nothing of a field's bits or values, of the slots that it sets only S, and of its record only M: what holds of the
+-- primitive steps, and under their composition, holds of every root. L is a law of steps, and R the same of steps that come where there is
+-- room for an entry.
 use mathlib.Core.Path.{_≡_}
 use Prim.Native.Nat.{ℕ, _+_, _-_, _*_, _%_, _^_, _≤_}
 use native.Mathlib.Omega.{arith}
@@ -39,7 +40,7 @@ use Rattle.rules.specs.Field.{Env, aligned, fit, ahead, bytesAt, field, store, 
 use Rattle.rules.specs.Field.{valueOf, slotOf, otherOrder, turned, asText}
 use Rattle.rules.specs.Field.{readFixed, readLeb, readZero, readText, readBlob}
 use Rattle.rules.specs.Packet.{readRoot}
-use Rattle.laws.proofs.Law.{FieldKind, Any, any-slot, FitRoot, Law, law-root, law-any}
+use Rattle.laws.proofs.Law.{FieldKind, Any, any-slot, AnyRecord, NumberedRoot, FitRoot, Law, numbered-root, law-root, law-any}
 use Rattle.laws.proofs.Places.{tenthByte}
 
 -- what a step may look at beside the slots and the room
@@ -59,7 +60,7 @@ view s = record { place = s .place; order = s .order; clock = s .clock; last = s
 abbrev pub NotFull : Refusal → Type 0
 NotFull r = refusalNumber r ≡ 40 → ⊥
 
-pub record Simple (e : Env) (S : ℕ → Type 0) (L R : Step → Type 0) : Type 0 where
+pub record Simple (e : Env) (M : ℕ → ℕ → Type 0) (S : ℕ → Type 0) (L R : Step → Type 0) : Type 0 where
   pub seq : {m n : Step} → L m → L n → L (m ⨾ n)
   pub seqʳ : {m n : Step} → R m → L n → R (m ⨾ n)
   pub narrow : {m : Step} → L m → R m
@@ -75,8 +76,8 @@ pub record Simple (e : Env) (S : ℕ → Type 0) (L R : Step → Type 0) : Type 
   pub looks : (f : View → Step) → ((x : View) → L (f x)) → L (λ s. f (view s) s)
   pub looksʳ : (f : View → Step) → ((x : View) → R (f x)) → R (λ s. f (view s) s)
   pub slots : (i : ℕ) (f : Content → Step) → ((x : Content) → R (f x)) → R (fromSlot i f)
-  pub fields : (k a n v : ℕ) → FieldKind k → 1 ≤ a → R (field e k a n v)
-  pub clocked : (l c : ℕ) → R (λ s. listed (entry clockAdvanced (s .place) l c) (s .place) s)
+  pub fields : (m k a n v : ℕ) → FieldKind k → M m k → 1 ≤ a → R (field e m k a n v)
+  pub clocked : (l c : ℕ) → R (λ s. listed (entry clockAdvanced (s .place) l c 0) (s .place) s)
   pub stores : (i : ℕ) (x : Content) → S i → L (store i x)
   pub orders : (o : LastOrder) → L (change (withOrder o))
   pub clocks : (c : ℕ) → L (change (withClock c))
@@ -92,7 +93,7 @@ kind-fields float = omega arith
 
 -- Fields
 
-module _ (e : Env) {S : ℕ → Type 0} {L R : Step → Type 0} (h : Simple e S L R) where
+module _ (e : Env) {M : ℕ → ℕ → Type 0} {S : ℕ → Type 0} {L R : Step → Type 0} (h : Simple e M S L R) where
   fitting : (a n : ℕ) {m : Step} → R m → R (fit e a n ⨾ m)
   unfolding fit aligned
   fitting a n g = h .checksPastʳ (λ x. ltb (e .bound .0) (alignFrom (e .start .0) a (x .place .0) + n)) g
@@ -138,32 +139,33 @@ module _ (e : Env) {S : ℕ → Type 0} {L R : Step → Type 0} (h : Simple e S 
   simple-blobRole sequence b = h .passes
   simple-blobRole eventClassId b = h .passes
 
-  simple-fixed : (k : Sort) (n : ℕ) (o : Order) (a i : ℕ) (r : Role) → S i → 1 ≤ a → L (readFixed e k n o a i r)
+  simple-fixed : (m : ℕ) (k : Sort) (n : ℕ) (o : Order) (a i : ℕ) (r : Role) → M m (kindOf k) → S i → 1 ≤ a
+      → L (readFixed e m k n o a i r)
   unfolding readFixed aligned
-  simple-fixed k n o a i r w g =
+  simple-fixed m k n o a i r z w g =
       h .dueʳ (fitting a 0 (turning a o (fitting a n (h .looksʳ
       (λ x. let v = bits o (e .bytes) (alignFrom (e .start .0) a (x .place .0)) n in
-      field e (kindOf k) a n (valueOf k n v) ⨾ change (withOrder (Was o)) ⨾ store i (slotOf k n v) ⨾ role r n (valueOf k n v))
-      (λ x. h .seqʳ (h .fields (kindOf k) a n _ (kind-fields k) g)
+      field e m (kindOf k) a n (valueOf k n v) ⨾ change (withOrder (Was o)) ⨾ store i (slotOf k n v) ⨾ role r n (valueOf k n v))
+      (λ x. h .seqʳ (h .fields m (kindOf k) a n _ (kind-fields k) z g)
       (h .seq (h .orders (Was o)) (h .seq (h .stores i _ w) (simple-role r n _))))))))
 
-  simple-leb : (k : ℕ) (c : ℕ → Content) (i : ℕ) (r : Role) (x : Leb) → S i → FieldKind k → R (readLeb e k c i r x)
+  simple-leb : (m k : ℕ) (c : ℕ → Content) (i : ℕ) (r : Role) (x : Leb) → M m k → S i → FieldKind k → R (readLeb e m k c i r x)
   unfolding readLeb
-  simple-leb k c i r (Value v n) w g =
-      h .seqʳ (h .fields k 8 (8 * n .0) v g (omega arith)) (h .seq (h .stores i (c v) w) (simple-role r (7 * n .0) v))
-  simple-leb k c i r Past w g = h .refusesPast
-  simple-leb k c i r Large w g = h .refusesLarge
+  simple-leb m k c i r (Value v n) z w g =
+      h .seqʳ (h .fields m k 8 (8 * n .0) v g z (omega arith)) (h .seq (h .stores i (c v) w) (simple-role r (7 * n .0) v))
+  simple-leb m k c i r Past z w g = h .refusesPast
+  simple-leb m k c i r Large z w g = h .refusesLarge
 
   -- a field of text
-  texted : (k n v : ℕ) (x : View → List ℕ) → FieldKind k → R ((λ s. asText (x (view s)) s) ⨾ field e k 8 n v)
+  texted : (m k n v : ℕ) (x : View → List ℕ) → FieldKind k → M m k → R ((λ s. asText (x (view s)) s) ⨾ field e m k 8 n v)
   unfolding asText check refusalNumber
-  texted k n v x g = h .checksʳ (λ u. not (isText (x u))) NotText (λ z. omega arith) (h .fields k 8 n v g (omega arith))
+  texted m k n v x g z = h .checksʳ (λ u. not (isText (x u))) NotText (λ z. omega arith) (h .fields m k 8 n v g z (omega arith))
 
-  simple-zero : (x : Ended) → R (readZero e x)
+  simple-zero : (m : ℕ) (x : Ended) → M m 23 → R (readZero e m x)
   unfolding readZero aligned refusalNumber
-  simple-zero (After n) =
-      texted 23 (8 * (n .0 + 1)) (n .0) (λ x. bytesAt e (bitPlace (alignFrom (e .start .0) 8 (x .place .0))) (n .0)) (omega arith)
-  simple-zero Never = h .refuses NoZeroByte (λ z. omega arith)
+  simple-zero m (After n) z =
+      texted m 23 (8 * (n .0 + 1)) (n .0) (λ x. bytesAt e (bitPlace (alignFrom (e .start .0) 8 (x .place .0))) (n .0)) (omega arith) z
+  simple-zero m Never z = h .refuses NoZeroByte (λ z. omega arith)
 
   -- a step behind the alignment to whole bytes, which looks at the place
   bytewise : (f : BitPlace → Step) → ((p : BitPlace) → R (f p)) → R (fit e 8 0 ⨾ λ s. f (aligned e 8 s) s)
@@ -174,7 +176,7 @@ module _ (e : Env) {S : ℕ → Type 0} {L R : Step → Type 0} (h : Simple e S 
   unfolding aligned
   bytes n f g = fitting 8 0 (fitting 8 (8 * n) (h .looksʳ (λ x. f (bitPlace (alignFrom (e .start .0) 8 (x .place .0)))) (λ x. g _)))
 
-  simple-law : Law e Any S Any L R
+  simple-law : Law e M Any S Any L R
   unfolding refusalNumber
   simple-law = record {
     none? = tt;
@@ -188,24 +190,30 @@ module _ (e : Env) {S : ℕ → Type 0} {L R : Step → Type 0} (h : Simple e S 
     inNone = h .refuses SelectorInNoOption (λ z. omega arith);
     within = λ n a. h .checksʳ (λ x. ltb lengthLimit n) LengthTooLarge (λ z. omega arith) a;
     slot = λ i f a. h .slots i f (λ x. a x (any-slot x));
-    fixes = λ k n o a i r w z. simple-fixed k n o (2 ^ a) i r z (pow-pos a);
-    lebs = λ i r z. bytewise (λ p. readLeb e 21 Unsigned i r (lebUnsigned (ahead e p))) (λ p. simple-leb 21 Unsigned i r _ z (omega arith));
-    signedLebs = λ i z.
-        bytewise (λ p. readLeb e 22 Signed i noRole (lebSigned (ahead e p))) (λ p. simple-leb 22 Signed i noRole _ z (omega arith));
-    zeros = bytewise (λ p. readZero e (zeroAt (ahead e p))) (λ p. simple-zero _);
-    texts = λ k n g. unfold readText in
-        bytes n (λ p. asText (bytesAt e p n) ⨾ field e k 8 (8 * n) (textLength (bytesAt e p n)))
-        (λ p. texted k (8 * n) (textLength (bytesAt e p n)) (λ x. bytesAt e p n) g);
-    blobs = λ k n r g. unfold readBlob in
-        bytes n (λ p. field e k 8 (8 * n) n ⨾ blobRole e r (bytesAt e p n))
-        (λ p. h .seqʳ (h .fields k 8 (8 * n) n g (omega arith)) (simple-blobRole r _));
-    heads = λ k a v g l w b. fitting a 0 (h .seqʳ (h .fields k a 0 v g l) b);
-    tags = λ k v g w b. h .seqʳ (h .fields k 1 0 v g (le-refl 1)) b;
-    tag = λ k v g w. h .fields k 1 0 v g (le-refl 1);
+    fixes = λ m k n o a i r z w y. simple-fixed m k n o (2 ^ a) i r z y (pow-pos a);
+    lebs = λ m i r z w.
+        bytewise (λ p. readLeb e m 21 Unsigned i r (lebUnsigned (ahead e p))) (λ p. simple-leb m 21 Unsigned i r _ z w (omega arith));
+    signedLebs = λ m i z w.
+        bytewise (λ p. readLeb e m 22 Signed i noRole (lebSigned (ahead e p))) (λ p. simple-leb m 22 Signed i noRole _ z w (omega arith));
+    zeros = λ m z. bytewise (λ p. readZero e m (zeroAt (ahead e p))) (λ p. simple-zero m _ z);
+    texts = λ m k n g z. unfold readText in
+        bytes n (λ p. asText (bytesAt e p n) ⨾ field e m k 8 (8 * n) (textLength (bytesAt e p n)))
+        (λ p. texted m k (8 * n) (textLength (bytesAt e p n)) (λ x. bytesAt e p n) g z);
+    blobs = λ m k n r g z. unfold readBlob in
+        bytes n (λ p. field e m k 8 (8 * n) n ⨾ blobRole e r (bytesAt e p n))
+        (λ p. h .seqʳ (h .fields m k 8 (8 * n) n g z (omega arith)) (simple-blobRole r _));
+    heads = λ m k a v g z l w b. fitting a 0 (h .seqʳ (h .fields m k a 0 v g z l) b);
+    tags = λ m k v g z w b. h .seqʳ (h .fields m k 1 0 v g z (le-refl 1)) b;
+    tag = λ m k v g z w. h .fields m k 1 0 v g z (le-refl 1);
   }
 
-  pub simple-fits : (c : Option Class) → FitRoot Any S Any c → L (readRoot e c)
-  simple-fits c w = law-root e simple-law c w
+  -- slots and records that will do
+  pub simple-numbered : (m : ℕ) (c : Option Class) → FitRoot Any S Any c → NumberedRoot M m c → L (readRoot e m c)
+  simple-numbered m c w z = numbered-root e simple-law m c w z
 
-pub simple-root : (e : Env) {L R : Step → Type 0} → Simple e Any L R → (c : Option Class) → L (readRoot e c)
-simple-root e h c = law-any e (simple-law e h) c
+pub simple-fits : (e : Env) {S : ℕ → Type 0} {L R : Step → Type 0} → Simple e AnyRecord S L R → (m : ℕ) (c : Option Class)
+    → FitRoot Any S Any c → L (readRoot e m c)
+simple-fits e h m c w = law-root e (simple-law e h) m c w
+
+pub simple-root : (e : Env) {L R : Step → Type 0} → Simple e AnyRecord Any L R → (m : ℕ) (c : Option Class) → L (readRoot e m c)
+simple-root e h m c = law-any e (simple-law e h) m c

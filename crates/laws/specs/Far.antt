@@ -42,7 +42,7 @@ module _ (e e′ : Env) where
   away p = e′ .start .0 + (p - e .start .0)
 
   unfoldable pub farEntry : Entry → Entry
-  farEntry x = entry (x .kind) (bitPlace (away (x .place .0))) (x .bits) (x .value)
+  farEntry x = entry (x .kind) (bitPlace (away (x .place .0))) (x .bits) (x .value) (x .number)
 
   unfoldable pub farAll : List Entry → List Entry
   farAll es = map farEntry es

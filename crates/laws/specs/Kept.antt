@@ -14,11 +14,12 @@ use Rattle.rules.specs.Packet.{readRoot}
 
 abbrev pub RootKeeps : Option Class → Type 0
 RootKeeps c =
-    (e : Env) (s : State) (es : List Entry) (s′ : State) → readRoot e c s ≡ go es s′ → packetSlots (s′ .slots) ≡ packetSlots (s .slots)
+    (e : Env) (m : ℕ) (s : State) (es : List Entry) (s′ : State) → readRoot e m c s ≡ go es s′
+    → packetSlots (s′ .slots) ≡ packetSlots (s .slots)
 
 abbrev pub LeavesUnset : Option Class → Type 0
 LeavesUnset c =
-    (e : Env) (s : State) (es : List Entry) (s′ : State) → readRoot e c s ≡ go es s′ → packetSlots (s .slots) ≡ s .slots
+    (e : Env) (m : ℕ) (s : State) (es : List Entry) (s′ : State) → readRoot e m c s ≡ go es s′ → packetSlots (s .slots) ≡ s .slots
     → packetSlots (s′ .slots) ≡ s′ .slots
 
 -- the packet's header and context; and an event's roots

@@ -38,49 +38,50 @@ seen-fits (Refused p r) m h = tt
 no-stamp : {A : Type 0} → _≡_ {A = ℕ} 0 7 → A
 no-stamp e = absurd (omega arith)
 
-module _ {b : List ℕ} {f : Frame} {from : BitPlace} (framed : Framed b f from) where
+-- m is the number of the leaf's record
+module _ {b : List ℕ} {f : Frame} {from : BitPlace} (framed : Framed b f from) (m : ℕ) where
   -- only a number that is listed as it was found has a role
-  pub fixed-fits : (last : LastOrder) (n : ℕ) (o : Order) (a : ℕ) (k : Sort) (i r : ℕ) → (r ≡ 7 → (m v : ℕ) → valueOf k m v ≡ v)
-      → Fits (seen (foundBits b f from last n o a) (fixedSeen k o i r))
+  pub fixed-fits : (last : LastOrder) (n : ℕ) (o : Order) (a : ℕ) (k : Sort) (i r : ℕ) → (r ≡ 7 → (w v : ℕ) → valueOf k w v ≡ v)
+      → Fits (seen (foundBits b f from last n o a) (fixedSeen m k o i r))
   unfolding Fits fixedSeen
-  fixed-fits last n o a k i r same = seen-fits _ _ (λ p m v at.
+  fixed-fits last n o a k i r same = seen-fits _ _ (λ p w v at.
       let lies = bits-lie framed at last n o a refl in
-      (lies .0, λ e. rw (same e m v) (lies .1)))
+      (lies .0, λ e. rw (same e w v) (lies .1)))
 
-  pub unsigned-fits : Bytes b → (o : LastOrder) (i r : ℕ) → Fits (seen (foundUnsigned b f from) (lebSeen 21 Unsigned o i r))
+  pub unsigned-fits : Bytes b → (o : LastOrder) (i r : ℕ) → Fits (seen (foundUnsigned b f from) (lebSeen m 21 Unsigned o i r))
   unfolding Fits lebSeen
-  unsigned-fits h o i r = seen-fits _ _ (λ p m v at. let lies = unsigned-lies framed at h refl in (lies .0, λ e. lies .1))
+  unsigned-fits h o i r = seen-fits _ _ (λ p w v at. let lies = unsigned-lies framed at h refl in (lies .0, λ e. lies .1))
 
-  pub signed-fits : (o : LastOrder) (i : ℕ) → Fits (seen (foundSigned b f from) (lebSeen 22 Signed o i 0))
+  pub signed-fits : (o : LastOrder) (i : ℕ) → Fits (seen (foundSigned b f from) (lebSeen m 22 Signed o i 0))
   unfolding Fits lebSeen
-  signed-fits o i = seen-fits _ _ (λ p m v at. (signed-lies framed at refl, λ e. no-stamp e))
+  signed-fits o i = seen-fits _ _ (λ p w v at. (signed-lies framed at refl, λ e. no-stamp e))
 
-module _ (k : ℕ) (o : LastOrder) (p : BitPlace) (n v : ℕ) (h : p .0 + n < 2 ^ 64) where
-  plain-at : Fits (plainSeen k o p n v)
+module _ (m k : ℕ) (o : LastOrder) (p : BitPlace) (n v : ℕ) (h : p .0 + n < 2 ^ 64) where
+  plain-at : Fits (plainSeen m k o p n v)
   unfolding Fits plainSeen
   plain-at = (h, λ e. no-stamp e)
 
-pub plain-fits : (k : ℕ) (o : LastOrder) (x : Found) → Ends x → Fits (seen x (plainSeen k o))
-plain-fits k o x h = seen-fits x _ (λ p n v at. plain-at k o p n v (ends-at at h))
+pub plain-fits : (m k : ℕ) (o : LastOrder) (x : Found) → Ends x → Fits (seen x (plainSeen m k o))
+plain-fits m k o x h = seen-fits x _ (λ p n v at. plain-at m k o p n v (ends-at at h))
 
-module _ (b u : List ℕ) (o : LastOrder) where
-  uuid-at : (p : BitPlace) (n v : ℕ) → p .0 + n < 2 ^ 64 → Fits (uuidSeen b u o p n v)
+module _ (m : ℕ) (b u : List ℕ) (o : LastOrder) where
+  uuid-at : (p : BitPlace) (n v : ℕ) → p .0 + n < 2 ^ 64 → Fits (uuidSeen m b u o p n v)
   unfolding Fits uuidSeen
   uuid-at p n v l = by (sameBytes (take v (drop (p .0 / 8) b)) u) refl
     where
-      by : (t : Bool) → sameBytes (take v (drop (p .0 / 8) b)) u ≡ t → Fits (uuidSeen b u o p n v)
-      by true e = rw (e, uuidSeen) (plain-at 25 o p n v l)
+      by : (t : Bool) → sameBytes (take v (drop (p .0 / 8) b)) u ≡ t → Fits (uuidSeen m b u o p n v)
+      by true e = rw (e, uuidSeen) (plain-at m 25 o p n v l)
       by false e = rw (e, uuidSeen) l
 
-  blob-at : (r : ℕ) (p : BitPlace) (n v : ℕ) → p .0 + n < 2 ^ 64 → Fits (blobSeen b u r o p n v)
+  blob-at : (r : ℕ) (p : BitPlace) (n v : ℕ) → p .0 + n < 2 ^ 64 → Fits (blobSeen m b u r o p n v)
   unfolding blobSeen
   blob-at r p n v l = by (eqb r 4) refl
     where
-      by : (t : Bool) → eqb r 4 ≡ t → Fits (blobSeen b u r o p n v)
+      by : (t : Bool) → eqb r 4 ≡ t → Fits (blobSeen m b u r o p n v)
       by true e = rw (e, blobSeen) (uuid-at p n v l)
-      by false e = rw (e, blobSeen) (plain-at 25 o p n v l)
+      by false e = rw (e, blobSeen) (plain-at m 25 o p n v l)
 
-  pub blob-fits : (r : ℕ) (x : Found) → Ends x → Fits (seen x (blobSeen b u r o))
+  pub blob-fits : (r : ℕ) (x : Found) → Ends x → Fits (seen x (blobSeen m b u r o))
   blob-fits r x h = seen-fits x _ (λ p n v at. blob-at r p n v (ends-at at h))
 
 -- A length that a slot gives, or none

@@ -107,74 +107,78 @@ module _ (e : Env) where
       (λ (l : 12 ≤ r). rw (List·getD-eq-default roles noRole l) refl)
       (lt-or-ge r 12)
 
-module _ (b uuid : List ℕ) (f : Frame) (s : State) (h : 4 ≤ s .room) where
+-- m is the number of the leaf's record
+module _ (b uuid : List ℕ) (f : Frame) (m : ℕ) (s : State) (h : wordsPerEntry ≤ s .room) where
   abbrev env : Env
   env = envOf b uuid f
 
   -- Numbers
 
   pub fixed-read : (k : Sort) (n : ℕ) (o : Order) (a i r : ℕ) →
-      readFixed env k n o a i (roleOf r) s ≡ done (seen (foundBits b f (s .place) (s .order) n o a) (fixedSeen k o i r)) s
+      readFixed env m k n o a i (roleOf r) s ≡ done (seen (foundBits b f (s .place) (s .order) n o a) (fixedSeen m k o i r)) s
   unfolding readFixed _⨾_ fit turned aligned field foundBits within alignedAt seen done doneDue fixedSeen
   fixed-read k n o a i r = room-first _ s h
-      ∙ checkAt-seen _ _ _ _ s _ _ (fixedSeen k o i r) refl
-      (check-seen _ _ _ s _ _ (fixedSeen k o i r) refl (checkAt-seen _ _ _ _ s _ _ (fixedSeen k o i r) refl refl))
+      ∙ checkAt-seen _ _ _ _ s _ _ (fixedSeen m k o i r) refl
+      (check-seen _ _ _ s _ _ (fixedSeen m k o i r) refl (checkAt-seen _ _ _ _ s _ _ (fixedSeen m k o i r) refl refl))
 
   leb-read : (k i r : ℕ) (c : ℕ → Content) (x : Leb) →
-      readLeb env k c i (roleOf r) x s ≡ done (seen (foundLeb f (alignedAt f 8 (s .place)) x) (lebSeen k c (s .order) i r)) s
+      readLeb env m k c i (roleOf r) x s ≡ done (seen (foundLeb f (alignedAt f 8 (s .place)) x) (lebSeen m k c (s .order) i r)) s
   unfolding readLeb _⨾_ after listed change withOrder field aligned foundLeb alignedAt seen done doneDue lebSeen
   leb-read k i r c (Value v n) =
       let bytes : 8 * n .0 / 8 ≡ n .0 = omega arith in
-      rw (bytes) (ap (onto (entry k (alignedAt f 8 (s .place)) (8 * n .0) v ∷ [])) (sym (onto-nil _)))
+      rw (bytes) (ap (onto (entry k (alignedAt f 8 (s .place)) (8 * n .0) v m ∷ [])) (sym (onto-nil _)))
   leb-read k i r c Past = refl
   leb-read k i r c Large = refl
 
-  pub unsigned-read : (i r : ℕ) → read env (leb128 i (roleOf r)) s ≡ done (seen (foundUnsigned b f (s .place)) (lebSeen 21 Unsigned (s .order) i r)) s
+  pub unsigned-read : (i r : ℕ) → read env m (leb128 i (roleOf r)) s
+      ≡ done (seen (foundUnsigned b f (s .place)) (lebSeen m 21 Unsigned (s .order) i r)) s
   unfolding read fit aligned ahead foundUnsigned bytesAhead within alignedAt
-  unsigned-read i r = room-first _ s h ∙ checkAt-seen _ _ _ _ s _ _ (lebSeen 21 Unsigned (s .order) i r) refl (leb-read 21 i r Unsigned _)
+  unsigned-read i r = room-first _ s h ∙ checkAt-seen _ _ _ _ s _ _ (lebSeen m 21 Unsigned (s .order) i r) refl (leb-read 21 i r Unsigned _)
 
-  pub signed-read : (i : ℕ) → read env (signedLeb128 i) s ≡ done (seen (foundSigned b f (s .place)) (lebSeen 22 Signed (s .order) i 0)) s
+  pub signed-read : (i : ℕ) → read env m (signedLeb128 i) s
+      ≡ done (seen (foundSigned b f (s .place)) (lebSeen m 22 Signed (s .order) i 0)) s
   unfolding read fit aligned ahead foundSigned bytesAhead within alignedAt roleOf roles
-  signed-read i = room-first _ s h ∙ checkAt-seen _ _ _ _ s _ _ (lebSeen 22 Signed (s .order) i 0) refl (leb-read 22 i 0 Signed _)
+  signed-read i = room-first _ s h ∙ checkAt-seen _ _ _ _ s _ _ (lebSeen m 22 Signed (s .order) i 0) refl (leb-read 22 i 0 Signed _)
 
   module _ (long : length (s .slots) ≡ slotCount) where
     -- What has neither slot nor role
 
-    plain-listed : (k : ℕ) (p : BitPlace) (n v : ℕ) → listed (entry k p n v) (further p n) s ≡ done (plainSeen k (s .order) p n v) s
+    plain-listed : (k : ℕ) (p : BitPlace) (n v : ℕ) → listed (entry k p n v m) (further p n) s ≡ done (plainSeen m k (s .order) p n v) s
     unfolding done doneDue plainSeen _⨾_ after onto listed change withOrder store withSlots role roleOf roles pass
     plain-listed k p n v = rw (no-slot (s .slots) noSlot Unset long (omega arith)) refl
 
-    zero-read : (x : Ended) → readZero env x s
-        ≡ done (seen (foundZero b (s .place) (alignedAt f 8 (s .place)) x) (plainSeen 23 (s .order))) s
+    zero-read : (x : Ended) → readZero env m x s
+        ≡ done (seen (foundZero b (s .place) (alignedAt f 8 (s .place)) x) (plainSeen m 23 (s .order))) s
     unfolding readZero _⨾_ refuse refuseAt bytesAt field aligned foundZero alignedAt seen done
-    zero-read (After n) = text-seen _ _ s (At _ _ _) (plainSeen 23 (s .order)) (plain-listed 23 _ _ _)
+    zero-read (After n) = text-seen _ _ s (At _ _ _) (plainSeen m 23 (s .order)) (plain-listed 23 _ _ _)
     zero-read Never = refl
 
-    pub string-read : read env string s ≡ done (seen (foundString b f (s .place)) (plainSeen 23 (s .order))) s
+    pub string-read : read env m string s ≡ done (seen (foundString b f (s .place)) (plainSeen m 23 (s .order))) s
     unfolding read fit aligned ahead foundString bytesAhead within alignedAt
-    string-read = room-first _ s h ∙ checkAt-seen _ _ _ _ s _ _ (plainSeen 23 (s .order)) refl (zero-read _)
+    string-read = room-first _ s h ∙ checkAt-seen _ _ _ _ s _ _ (plainSeen m 23 (s .order)) refl (zero-read _)
 
-    text-read : (k n : ℕ) → readText env k n s ≡ done (seen (foundText b f (s .place) n) (plainSeen k (s .order))) s
+    text-read : (k n : ℕ) → readText env m k n s ≡ done (seen (foundText b f (s .place) n) (plainSeen m k (s .order))) s
     unfolding readText fit aligned bytesAt field foundText within alignedAt seen
     text-read k n =
-        let plain = plainSeen k (s .order) in
+        let plain = plainSeen m k (s .order) in
         checkAt-seen _ _ _ _ s _ _ plain refl
         (checkAt-seen _ _ _ _ s _ _ plain refl (text-seen _ _ s (At _ _ _) plain (plain-listed k _ _ _)))
 
-    pub static-string-read : (n : ℕ) → read env (staticString n) s ≡ done (seen (foundText b f (s .place) n) (plainSeen 24 (s .order))) s
+    pub static-string-read : (n : ℕ) → read env m (staticString n) s
+        ≡ done (seen (foundText b f (s .place) n) (plainSeen m 24 (s .order))) s
     unfolding read
     static-string-read n = room-first _ s h ∙ text-read 24 n
 
     -- a step that goes on and lists nothing changes nothing behind an entry
-    listing-goes : (k : ℕ) (p : BitPlace) (n v : ℕ) (m : Step) → m (behindEntry p n s) ≡ go [] (behindEntry p n s)
-        → (listed (entry k p n v) (further p n) ⨾ m) s ≡ done (plainSeen k (s .order) p n v) s
+    listing-goes : (k : ℕ) (p : BitPlace) (n v : ℕ) (step : Step) → step (behindEntry p n s) ≡ go [] (behindEntry p n s)
+        → (listed (entry k p n v m) (further p n) ⨾ step) s ≡ done (plainSeen m k (s .order) p n v) s
     unfolding listed _⨾_ after onto
-    listing-goes k p n v m e = ap (onto (entry k p n v ∷ [])) e ∙ plain-listed k p n v
+    listing-goes k p n v step e = ap (onto (entry k p n v m ∷ [])) e ∙ plain-listed k p n v
 
-    blob-read : (k n : ℕ) → readBlob env k n noRole s ≡ done (seen (foundBlob f (s .place) n) (plainSeen k (s .order))) s
+    blob-read : (k n : ℕ) → readBlob env m k n noRole s ≡ done (seen (foundBlob f (s .place) n) (plainSeen m k (s .order))) s
     unfolding readBlob _⨾_ fit aligned bytesAt field foundBlob within alignedAt seen blobRole pass
     blob-read k n =
-        let plain = plainSeen k (s .order) in
+        let plain = plainSeen m k (s .order) in
         checkAt-seen _ _ _ _ s _ _ plain refl (checkAt-seen _ _ _ _ s _ _ plain refl (listing-goes k _ _ _ pass refl))
 
     -- Static BLOBs
@@ -182,50 +186,53 @@ module _ (b uuid : List ℕ) (f : Frame) (s : State) (h : 4 ≤ s .room) where
     module _ (p : BitPlace) (n v : ℕ) where
       -- what a BLOB with a role does behind its tests
       abbrev Roled : ℕ → Step
-      Roled r = listed (entry 25 p n v) (further p n) ⨾ blobRole env (roleOf r) (bytesAt env p v)
+      Roled r = listed (entry 25 p n v m) (further p n) ⨾ blobRole env (roleOf r) (bytesAt env p v)
 
-      uuid-listed : Roled 4 s ≡ done (uuidSeen b uuid (s .order) p n v) s
+      uuid-listed : Roled 4 s ≡ done (uuidSeen m b uuid (s .order) p n v) s
       unfolding uuidSeen bytesAt done roleOf roles blobRole listed _⨾_ after
       uuid-listed = by (sameBytes (bytesAt env p v) uuid) refl
         where
-          by : (t : Bool) → sameBytes (bytesAt env p v) uuid ≡ t → Roled 4 s ≡ done (uuidSeen b uuid (s .order) p n v) s
+          by : (t : Bool) → sameBytes (bytesAt env p v) uuid ≡ t → Roled 4 s ≡ done (uuidSeen m b uuid (s .order) p n v) s
           by true e = rw (e, uuidSeen) (listing-goes 25 p n v (check (λ s. false) WrongUuid) (check-goes _ WrongUuid _ refl))
-          by false e = rw (e, uuidSeen) (ap (onto (entry 25 p n v ∷ [])) (check-stops _ WrongUuid _ refl))
+          by false e = rw (e, uuidSeen) (ap (onto (entry 25 p n v m ∷ [])) (check-stops _ WrongUuid _ refl))
 
-      blob-listed : (r : ℕ) → Roled r s ≡ done (blobSeen b uuid r (s .order) p n v) s
+      blob-listed : (r : ℕ) → Roled r s ≡ done (blobSeen m b uuid r (s .order) p n v) s
       unfolding blobSeen
       blob-listed r = by (eqb r 4) refl
         where
-          by : (t : Bool) → eqb r 4 ≡ t → Roled r s ≡ done (blobSeen b uuid r (s .order) p n v) s
+          by : (t : Bool) → eqb r 4 ≡ t → Roled r s ≡ done (blobSeen m b uuid r (s .order) p n v) s
           by true e = rw (e, blobSeen) (rw (eqb-true r 4 e) uuid-listed)
           by false e = rw (e, blobSeen) (listing-goes 25 p n v _ (passes env r (eqb-false r 4 e) _ _))
 
-    pub static-blob-read : (n r : ℕ) → read env (staticBlob n (roleOf r)) s ≡ done (seen (foundBlob f (s .place) n) (blobSeen b uuid r (s .order))) s
+    pub static-blob-read : (n r : ℕ) → read env m (staticBlob n (roleOf r)) s
+        ≡ done (seen (foundBlob f (s .place) n) (blobSeen m b uuid r (s .order))) s
     unfolding read readBlob _⨾_ fit aligned field foundBlob within alignedAt seen
     static-blob-read n r =
-        let blob = blobSeen b uuid r (s .order) in
+        let blob = blobSeen m b uuid r (s .order) in
         room-first _ s h ∙ checkAt-seen _ _ _ _ s _ _ blob refl (checkAt-seen _ _ _ _ s _ _ blob refl (blob-listed _ _ _ r))
 
     -- Lengths that a slot gives
 
-    length-read : (x : Content) (m : ℕ → Step) (g : ℕ → Seen) → ((n : ℕ) → m n s ≡ done (g n) s)
-        → asLength x m s ≡ done (forLength (s .place) (lengthOf x) g) s
+    length-read : (x : Content) (step : ℕ → Step) (g : ℕ → Seen) → ((n : ℕ) → step n s ≡ done (g n) s)
+        → asLength x step s ≡ done (forLength (s .place) (lengthOf x) g) s
     unfolding asLength asNumber lengthOf forLength done _⨾_ after refuse refuseAt
-    length-read Unset m g e = refl
-    length-read (Flag t) m g e = refl
-    length-read (Unsigned n) m g e = by (ltb lengthLimit n) refl
+    length-read Unset step g e = refl
+    length-read (Flag t) step g e = refl
+    length-read (Unsigned n) step g e = by (ltb lengthLimit n) refl
       where
-        by : (t : Bool) → ltb lengthLimit n ≡ t → asLength (Unsigned n) m s ≡ done (forLength (s .place) (lengthOf (Unsigned n)) g) s
-        by true i = ap (λ o. after o (m n)) (check-stops _ LengthTooLarge s i) ∙ rw (i, lengthOf) refl
-        by false i = ap (λ o. after o (m n)) (check-goes _ LengthTooLarge s i) ∙ onto-nil (m n s) ∙ rw (i, lengthOf) (e n)
-    length-read (Signed n) m g e = refl
+        by : (t : Bool) → ltb lengthLimit n ≡ t → asLength (Unsigned n) step s ≡ done (forLength (s .place) (lengthOf (Unsigned n)) g) s
+        by true i = ap (λ o. after o (step n)) (check-stops _ LengthTooLarge s i) ∙ rw (i, lengthOf) refl
+        by false i = ap (λ o. after o (step n)) (check-goes _ LengthTooLarge s i) ∙ onto-nil (step n s) ∙ rw (i, lengthOf) (e n)
+    length-read (Signed n) step g e = refl
 
-    pub dynamic-string-read : (i : ℕ) → read env (dynamicString i) s
-        ≡ done (forLength (s .place) (lengthOf (slotAt (s .slots) i)) (λ n. seen (foundText b f (s .place) n) (plainSeen 26 (s .order)))) s
+    pub dynamic-string-read : (i : ℕ) → read env m (dynamicString i) s
+        ≡ done (forLength (s .place) (lengthOf (slotAt (s .slots) i)) (λ n.
+        seen (foundText b f (s .place) n) (plainSeen m 26 (s .order)))) s
     unfolding read fromSlot
     dynamic-string-read i = room-first _ s h ∙ length-read _ _ _ (text-read 26)
 
-    pub dynamic-blob-read : (i : ℕ) → read env (dynamicBlob i) s
-        ≡ done (forLength (s .place) (lengthOf (slotAt (s .slots) i)) (λ n. seen (foundBlob f (s .place) n) (plainSeen 27 (s .order)))) s
+    pub dynamic-blob-read : (i : ℕ) → read env m (dynamicBlob i) s
+        ≡ done (forLength (s .place) (lengthOf (slotAt (s .slots) i)) (λ n.
+        seen (foundBlob f (s .place) n) (plainSeen m 27 (s .order)))) s
     unfolding read fromSlot
     dynamic-blob-read i = room-first _ s h ∙ length-read _ _ _ (blob-read 27)

@@ -59,43 +59,43 @@ Fits (Stops v) = Unit {0}
 
 -- What is seen
 
--- by a leaf's place, bits and value
+-- by a leaf's place, bits and value; m is its record's number throughout
 abbrev pub Told : Type 0
 Told = BitPlace → ℕ → ℕ → Seen
 
 unfoldable pub seen : Found → Told → Seen
-seen (At n p v) m = m p n v
-seen (Refused p r) m = Stops (stopAt r p)
+seen (At n p v) f = f p n v
+seen (Refused p r) f = Stops (stopAt r p)
 
 abbrev fieldSeen : Entry → LastOrder → ℕ → Content → ℕ → ℕ → Seen
 fieldSeen x o i c r w = Field (record { entry = x; order = o; slot = i; content = c; role = r; width = w })
 
 -- kinds 16 to 20, which leave their order as the packet's last
-unfoldable pub fixedSeen : Sort → Order → ℕ → ℕ → Told
-fixedSeen k o i r p n v = fieldSeen (entry (kindOf k) p n (valueOf k n v)) (Was o) i (slotOf k n v) r n
+unfoldable pub fixedSeen : ℕ → Sort → Order → ℕ → ℕ → Told
+fixedSeen m k o i r p n v = fieldSeen (entry (kindOf k) p n (valueOf k n v) m) (Was o) i (slotOf k n v) r n
 
 -- kinds 16 and 20, which have neither slot nor role: "their bits as unsigned" (The list)
-unfoldable pub bitsSeen : ℕ → Order → Told
-bitsSeen k o p n v = fieldSeen (entry k p n v) (Was o) noSlot Unset 0 n
+unfoldable pub bitsSeen : ℕ → ℕ → Order → Told
+bitsSeen m k o p n v = fieldSeen (entry k p n v m) (Was o) noSlot Unset 0 n
 
 -- the others leave the packet's last order as it was. "L the field's bits (7 times its bytes for LEB128)"
-unfoldable pub lebSeen : ℕ → (ℕ → Content) → LastOrder → ℕ → ℕ → Told
-lebSeen k c o i r p n v = fieldSeen (entry k p n v) o i (c v) r (7 * (n / 8))
+unfoldable pub lebSeen : ℕ → ℕ → (ℕ → Content) → LastOrder → ℕ → ℕ → Told
+lebSeen m k c o i r p n v = fieldSeen (entry k p n v m) o i (c v) r (7 * (n / 8))
 
 -- neither slot nor role
-unfoldable pub plainSeen : ℕ → LastOrder → Told
-plainSeen k o p n v = fieldSeen (entry k p n v) o noSlot Unset 0 0
+unfoldable pub plainSeen : ℕ → ℕ → LastOrder → Told
+plainSeen m k o p n v = fieldSeen (entry k p n v m) o noSlot Unset 0 0
 
 -- a BLOB of a stream whose bytes must be a UUID's
-unfoldable pub uuidSeen : List ℕ → List ℕ → LastOrder → Told
-uuidSeen b u o p n v =
-    elim (sameBytes (take v (drop (p .0 / 8) b)) u) [ true ↦ plainSeen 25 o p n v | false ↦ OtherUuid (entry 25 p n v) ]
+unfoldable pub uuidSeen : ℕ → List ℕ → List ℕ → LastOrder → Told
+uuidSeen m b u o p n v =
+    elim (sameBytes (take v (drop (p .0 / 8) b)) u) [ true ↦ plainSeen m 25 o p n v | false ↦ OtherUuid (entry 25 p n v m) ]
 
 -- a static BLOB, which may have the UUID's role
-unfoldable pub blobSeen : List ℕ → List ℕ → ℕ → LastOrder → Told
-blobSeen b u r o p n v = elim (eqb r 4) [ true ↦ uuidSeen b u o p n v | false ↦ plainSeen 25 o p n v ]
+unfoldable pub blobSeen : ℕ → List ℕ → List ℕ → ℕ → LastOrder → Told
+blobSeen m b u r o p n v = elim (eqb r 4) [ true ↦ uuidSeen m b u o p n v | false ↦ plainSeen m 25 o p n v ]
 
 -- a length that a slot gives; or none, for a leaf from a place on
 unfoldable pub forLength : BitPlace → Length → (ℕ → Seen) → Seen
-forLength p (Of n) m = m n
-forLength p (NotOf r) m = Stops (stopAt r p)
+forLength p (Of n) f = f n
+forLength p (NotOf r) f = Stops (stopAt r p)

@@ -16,7 +16,7 @@ use Rattle.rules.specs.declared.Order.{Order}
 use Rattle.rules.specs.declared.Order.the-variants.{Big}
 use Rattle.rules.specs.declared.Content.{Content}
 use Rattle.rules.specs.declared.Content.the-variants.{Unsigned, Signed}
-use Rattle.rules.specs.Limits.{noSlot, slotCount}
+use Rattle.rules.specs.Limits.{noSlot, slotCount, wordsPerEntry}
 use Rattle.rules.specs.Verdict.{stopAt}
 use Rattle.rules.specs.Class.{Sort, bitArray, boolean, unsignedInt, signedInt, float, Class}
 use Rattle.rules.specs.Record.{bitField, u8, u16}
@@ -147,67 +147,67 @@ module _ (t : List ℕ) (at : ℕ) where
   slot-of k e h l s = rw (e, le-ltb k 26 h, leafSlot) at s
 
 -- what names no slot sets none
-pub plain-apart : (k : ℕ) (o : LastOrder) (x : Found) (d : Due) → seen x (plainSeen k o) ≡ Field d → slotCount ≤ d .slot
+pub plain-apart : (m k : ℕ) (o : LastOrder) (x : Found) (d : Due) → seen x (plainSeen m k o) ≡ Field d → slotCount ≤ d .slot
 unfolding seen plainSeen
-plain-apart k o (At n p v) d e = let same : noSlot ≡ d .slot = cc in omega (arith, same)
-plain-apart k o (Refused p r) d e = let z : _≡_ {A = ℕ} 0 1 = cc in absurd (omega arith)
+plain-apart m k o (At n p v) d e = let same : noSlot ≡ d .slot = cc in omega (arith, same)
+plain-apart m k o (Refused p r) d e = let z : _≡_ {A = ℕ} 0 1 = cc in absurd (omega arith)
 
-pub dynamic-apart : (b : List ℕ) (f : Frame) (p : BitPlace) (o : LastOrder) (k : ℕ) (l : Length) (d : Due)
-    → forLength p l (dynamicSeen b f p o k) ≡ Field d → slotCount ≤ d .slot
+pub dynamic-apart : (m : ℕ) (b : List ℕ) (f : Frame) (p : BitPlace) (o : LastOrder) (k : ℕ) (l : Length) (d : Due)
+    → forLength p l (dynamicSeen m b f p o k) ≡ Field d → slotCount ≤ d .slot
 unfolding forLength dynamicSeen
-dynamic-apart b f p o k (Of n) d e = by (eqb k 26) refl e
+dynamic-apart m b f p o k (Of n) d e = by (eqb k 26) refl e
   where
-    by : (t : Bool) → eqb k 26 ≡ t → dynamicSeen b f p o k n ≡ Field d → slotCount ≤ d .slot
-    by true i e = plain-apart k o _ d (rw (i, dynamicSeen) at e)
-    by false i e = plain-apart k o _ d (rw (i, dynamicSeen) at e)
-dynamic-apart b f p o k (NotOf r) d e = let z : _≡_ {A = ℕ} 0 1 = cc in absurd (omega arith)
+    by : (t : Bool) → eqb k 26 ≡ t → dynamicSeen m b f p o k n ≡ Field d → slotCount ≤ d .slot
+    by true i e = plain-apart m k o _ d (rw (i, dynamicSeen) at e)
+    by false i e = plain-apart m k o _ d (rw (i, dynamicSeen) at e)
+dynamic-apart m b f p o k (NotOf r) d e = let z : _≡_ {A = ℕ} 0 1 = cc in absurd (omega arith)
 
--- to do what is seen is to read the class that stands there
-abbrev pub SeesAt : List ℕ → List ℕ → Frame → List ℕ → ℕ → Content → BitPlace → LastOrder → Seen → Type 0
-SeesAt b u f t at = LeafSeen (read (envOf b u f) (classAt 1 t at)) (leafSlot t at)
+-- to do what is seen, with a number m, is to read the class that stands there, with that number
+abbrev pub SeesAt : ℕ → List ℕ → List ℕ → Frame → List ℕ → ℕ → Content → BitPlace → LastOrder → Seen → Type 0
+SeesAt m b u f t at = LeafSeen (read (envOf b u f) m (classAt 1 t at)) (leafSlot t at)
 
 -- kinds 26 and 27, by what the slot holds
-abbrev dynamically : List ℕ → Frame → Content → ℕ → BitPlace → LastOrder → Seen
-dynamically b f x k p o = forLength p (lengthOf x) (dynamicSeen b f p o k)
+abbrev dynamically : ℕ → List ℕ → Frame → Content → ℕ → BitPlace → LastOrder → Seen
+dynamically m b f x k p o = forLength p (lengthOf x) (dynamicSeen m b f p o k)
 
-module _ (t b u : List ℕ) (f : Frame) (at : ℕ) (p : BitPlace) (o : LastOrder) (x : Content) where
+module _ (m : ℕ) (t b u : List ℕ) (f : Frame) (at : ℕ) (p : BitPlace) (o : LastOrder) (x : Content) where
   -- what is seen of the leaf at a byte, by its kind
-  pub seen-of : (k : ℕ) → u8 t at ≡ k → seenAt t b u f at p o x ≡ seenIn t b u f at p o x (shapeOf k)
+  pub seen-of : (k : ℕ) → u8 t at ≡ k → seenAt m t b u f at p o x ≡ seenIn m t b u f at p o x (shapeOf k)
   unfolding seenAt
   seen-of k e = rw (e) refl
 
-  pub sees-of : {r : Seen} (k : ℕ) → u8 t at ≡ k → r ≡ seenIn t b u f at p o x (shapeOf k) → r ≡ seenAt t b u f at p o x
+  pub sees-of : {r : Seen} (k : ℕ) → u8 t at ≡ k → r ≡ seenIn m t b u f at p o x (shapeOf k) → r ≡ seenAt m t b u f at p o x
   sees-of k e is = is ∙ sym (seen-of k e)
 
   -- what the code finds of kinds 16 to 20, by the numbers that it reads
   pub bits-of : {w e : ℕ} {d : Order} {y : Found} {r : Seen} → BitsSay t at w d e → y ≡ foundBits b f p o w d (2 ^ e)
-      → (k : Sort) (i ro : ℕ) → r ≡ seen y (fixedSeen k d i ro) → seenAt t b u f at p o x ≡ bitsSeenAt t b f at p o k i ro
-      → r ≡ seenAt t b u f at p o x
+      → (k : Sort) (i ro : ℕ) → r ≡ seen y (fixedSeen m k d i ro) → seenAt m t b u f at p o x ≡ bitsSeenAt m t b f at p o k i ro
+      → r ≡ seenAt m t b u f at p o x
   unfolding bitsSeenAt
   bits-of n found k i ro is sees = rw (found, n .width, n .order, n .exponent) at is ∙ sym sees
 
-  dynamic-is : 26 ≤ u8 t at → u8 t at < 28 → seenAt t b u f at p o x ≡ dynamically b f x (u8 t at) p o
+  dynamic-is : 26 ≤ u8 t at → u8 t at < 28 → seenAt m t b u f at p o x ≡ dynamically m b f x (u8 t at) p o
   unfolding shapeOf shapes seenIn
   dynamic-is low high = ⊎-elim
       (λ (h : u8 t at < 27). let k : u8 t at ≡ 26 = omega arith in rw (k) (seen-of 26 k))
       (λ (h : 27 ≤ u8 t at). let k : u8 t at ≡ 27 = omega arith in rw (k) (seen-of 27 k))
       (lt-or-ge (u8 t at) 27)
 
-  pub dynamic-of : {r : Seen} → 26 ≤ u8 t at → u8 t at < 28 → r ≡ dynamically b f x (u8 t at) p o → r ≡ seenAt t b u f at p o x
+  pub dynamic-of : {r : Seen} → 26 ≤ u8 t at → u8 t at < 28 → r ≡ dynamically m b f x (u8 t at) p o → r ≡ seenAt m t b u f at p o x
   dynamic-of low high is = is ∙ sym (dynamic-is low high)
 
 no-role : {A : Type 0} → _≡_ {A = ℕ} 0 7 → A
 no-role e = absurd (omega arith)
 
-module _ (b u : List ℕ) (f : Frame) (t : List ℕ) (at : ℕ) (p : BitPlace) (o : LastOrder) (x : Content) (framed : Framed b f p) where
+module _ (m : ℕ) (b u : List ℕ) (f : Frame) (t : List ℕ) (at : ℕ) (p : BitPlace) (o : LastOrder) (x : Content) (framed : Framed b f p) where
   abbrev this : Seen
-  this = seenAt t b u f at p o x
+  this = seenAt m t b u f at p o x
 
   -- y is what is seen from a place on, with an order as the last
   by-class : (c : Class) (y : BitPlace → LastOrder → Seen) → classAt 1 t at ≡ c → this ≡ y p o → Fits (y p o)
-      → ((s : State) → 4 ≤ s .room → length (s .slots) ≡ slotCount → slotAt (s .slots) (leafSlot t at) ≡ x
-      → read (envOf b u f) c s ≡ done (y (s .place) (s .order)) s)
-      → SeesAt b u f t at x p o this
+      → ((s : State) → wordsPerEntry ≤ s .room → length (s .slots) ≡ slotCount → slotAt (s .slots) (leafSlot t at) ≡ x
+      → read (envOf b u f) m c s ≡ done (y (s .place) (s .order)) s)
+      → SeesAt m b u f t at x p o this
   by-class c y e is fits law = record {
     same = λ s room long slot place order.
         rw (e) (law s room long slot ∙ ap (λ q. done (y q (s .order)) s) place ∙ ap (λ l. done (y p l) s) order
@@ -215,70 +215,70 @@ module _ (b u : List ℕ) (f : Frame) (t : List ℕ) (at : ℕ) (p : BitPlace) (
     fits = rw (is) fits;
   }
 
-  bits-sees : (k : Sort) (i ro : ℕ) → classAt 1 t at ≡ fixedAt k t at i ro → this ≡ bitsSeenAt t b f at p o k i ro
-      → (ro ≡ 7 → (m v : ℕ) → valueOf k m v ≡ v) → SeesAt b u f t at x p o this
+  bits-sees : (k : Sort) (i ro : ℕ) → classAt 1 t at ≡ fixedAt k t at i ro → this ≡ bitsSeenAt m t b f at p o k i ro
+      → (ro ≡ 7 → (n v : ℕ) → valueOf k n v ≡ v) → SeesAt m b u f t at x p o this
   unfolding read bitsSeenAt
   bits-sees k i ro c is same =
       let d = orderOf (u8 t (at + 2)) in
       let w = u8 t (at + 1) in
       let a = 2 ^ u8 t (at + 3) in
-      by-class _ (λ q l. seen (foundBits b f q l w d a) (fixedSeen k d i ro)) c is
-      (fixed-fits framed o w d a k i ro same)
-      (λ s room long slot. fixed-read b u f s room k w d a i ro)
+      by-class _ (λ q l. seen (foundBits b f q l w d a) (fixedSeen m k d i ro)) c is
+      (fixed-fits framed m o w d a k i ro same)
+      (λ s room long slot. fixed-read b u f m s room k w d a i ro)
 
   -- kinds 26 and 27
-  dynamic-fits : (k : ℕ) → Fits (dynamically b f x k p o)
+  dynamic-fits : (k : ℕ) → Fits (dynamically m b f x k p o)
   unfolding forLength dynamicSeen Fits
   dynamic-fits k = by (lengthOf x)
     where
-      by-kind : (n : ℕ) (t : Bool) → eqb k 26 ≡ t → Fits (dynamicSeen b f p o k n)
-      by-kind n true e = rw (e, dynamicSeen) (plain-fits k o _ (text-ends framed n refl))
-      by-kind n false e = rw (e, dynamicSeen) (plain-fits k o _ (blob-ends framed n refl))
+      by-kind : (n : ℕ) (t : Bool) → eqb k 26 ≡ t → Fits (dynamicSeen m b f p o k n)
+      by-kind n true e = rw (e, dynamicSeen) (plain-fits m k o _ (text-ends framed n refl))
+      by-kind n false e = rw (e, dynamicSeen) (plain-fits m k o _ (blob-ends framed n refl))
 
-      by : (l : Length) → Fits (forLength p l (dynamicSeen b f p o k))
+      by : (l : Length) → Fits (forLength p l (dynamicSeen m b f p o k))
       by (Of n) = by-kind n (eqb k 26) refl
       by (NotOf r) = tt
 
   module _ (bytes : Bytes b) where
     abbrev Sees : ℕ → Type 0
-    Sees i = u8 t at ≡ 16 + i → SeesAt b u f t at x p o this
+    Sees i = u8 t at ≡ 16 + i → SeesAt m b u f t at x p o this
 
-    is : (k : ℕ) → u8 t at ≡ k → this ≡ seenIn t b u f at p o x (shapeOf k)
-    is k e = seen-of t b u f at p o x k e
+    is : (k : ℕ) → u8 t at ≡ k → this ≡ seenIn m t b u f at p o x (shapeOf k)
+    is k e = seen-of m t b u f at p o x k e
 
     sees : (i : ℕ) → i < 12 → Sees i
     unfolding shapeOf shapes classIn seenIn valueOf dynamicSeen
     sees = below Sees 12
         ((λ k. bits-sees bitArray noSlot 0 (class-of t at 16 k) (is 16 k) (λ z. no-role z))
         ▷ (λ k. bits-sees boolean (u8 t (at + 4)) 0 (class-of t at 17 k) (is 17 k) (λ z. no-role z))
-        ▷ (λ k. bits-sees unsignedInt (u8 t (at + 4)) (u8 t (at + 5)) (class-of t at 18 k) (is 18 k) (λ z m v. refl))
+        ▷ (λ k. bits-sees unsignedInt (u8 t (at + 4)) (u8 t (at + 5)) (class-of t at 18 k) (is 18 k) (λ z n v. refl))
         ▷ (λ k. bits-sees signedInt (u8 t (at + 4)) 0 (class-of t at 19 k) (is 19 k) (λ z. no-role z))
         ▷ (λ k. bits-sees float noSlot 0 (class-of t at 20 k) (is 20 k) (λ z. no-role z))
-        ▷ (λ k. by-class _ (λ q l. seen (foundUnsigned b f q) (lebSeen 21 Unsigned l (u8 t (at + 1)) (u8 t (at + 2))))
-        (class-of t at 21 k) (is 21 k) (unsigned-fits framed bytes o _ _)
-        (λ s room long slot. unsigned-read b u f s room _ _))
-        ▷ (λ k. by-class _ (λ q l. seen (foundSigned b f q) (lebSeen 22 Signed l (u8 t (at + 1)) 0))
-        (class-of t at 22 k) (is 22 k) (signed-fits framed o _)
-        (λ s room long slot. signed-read b u f s room _))
-        ▷ (λ k. by-class _ (λ q l. seen (foundString b f q) (plainSeen 23 l))
-        (class-of t at 23 k) (is 23 k) (plain-fits 23 o _ (string-ends framed refl))
-        (λ s room long slot. string-read b u f s room long))
-        ▷ (λ k. by-class _ (λ q l. seen (foundText b f q (u16 t (at + 1))) (plainSeen 24 l))
-        (class-of t at 24 k) (is 24 k) (plain-fits 24 o _ (text-ends framed _ refl))
-        (λ s room long slot. static-string-read b u f s room long _))
-        ▷ (λ k. by-class _ (λ q l. seen (foundBlob f q (u16 t (at + 1))) (blobSeen b u (u8 t (at + 3)) l))
-        (class-of t at 25 k) (is 25 k) (blob-fits b u o _ _ (blob-ends framed _ refl))
-        (λ s room long slot. static-blob-read b u f s room long _ _))
-        ▷ (λ k. by-class _ (dynamically b f x 26)
+        ▷ (λ k. by-class _ (λ q l. seen (foundUnsigned b f q) (lebSeen m 21 Unsigned l (u8 t (at + 1)) (u8 t (at + 2))))
+        (class-of t at 21 k) (is 21 k) (unsigned-fits framed m bytes o _ _)
+        (λ s room long slot. unsigned-read b u f m s room _ _))
+        ▷ (λ k. by-class _ (λ q l. seen (foundSigned b f q) (lebSeen m 22 Signed l (u8 t (at + 1)) 0))
+        (class-of t at 22 k) (is 22 k) (signed-fits framed m o _)
+        (λ s room long slot. signed-read b u f m s room _))
+        ▷ (λ k. by-class _ (λ q l. seen (foundString b f q) (plainSeen m 23 l))
+        (class-of t at 23 k) (is 23 k) (plain-fits m 23 o _ (string-ends framed refl))
+        (λ s room long slot. string-read b u f m s room long))
+        ▷ (λ k. by-class _ (λ q l. seen (foundText b f q (u16 t (at + 1))) (plainSeen m 24 l))
+        (class-of t at 24 k) (is 24 k) (plain-fits m 24 o _ (text-ends framed _ refl))
+        (λ s room long slot. static-string-read b u f m s room long _))
+        ▷ (λ k. by-class _ (λ q l. seen (foundBlob f q (u16 t (at + 1))) (blobSeen m b u (u8 t (at + 3)) l))
+        (class-of t at 25 k) (is 25 k) (blob-fits m b u o _ _ (blob-ends framed _ refl))
+        (λ s room long slot. static-blob-read b u f m s room long _ _))
+        ▷ (λ k. by-class _ (dynamically m b f x 26)
         (class-of t at 26 k) (is 26 k) (dynamic-fits 26)
-        (λ s room long slot. dynamic-string-read b u f s room long _ ∙ rw (slot-of t at 26 k (omega arith) (s .slots) slot) refl))
-        ▷ (λ k. by-class _ (dynamically b f x 27)
+        (λ s room long slot. dynamic-string-read b u f m s room long _ ∙ rw (slot-of t at 26 k (omega arith) (s .slots) slot) refl))
+        ▷ (λ k. by-class _ (dynamically m b f x 27)
         (class-of t at 27 k) (is 27 k) (dynamic-fits 27)
-        (λ s room long slot. dynamic-blob-read b u f s room long _ ∙ rw (slot-of t at 27 k (omega arith) (s .slots) slot) refl))
+        (λ s room long slot. dynamic-blob-read b u f m s room long _ ∙ rw (slot-of t at 27 k (omega arith) (s .slots) slot) refl))
         ▷ tt)
 
     -- to do what is seen of the leaf at a byte is to read its class
-    pub leaf-sees : whole 1 t at → u8 t at < 28 → SeesAt b u f t at x p o this
+    pub leaf-sees : whole 1 t at → u8 t at < 28 → SeesAt m b u f t at x p o this
     unfolding whole
     leaf-sees w h = sees (u8 t at - 16) (omega (arith, w .low)) (omega (arith, w .low))
 
@@ -298,23 +298,23 @@ module _ {b : List ℕ} {f : Frame} {p : BitPlace} (framed : Framed b f p) where
 
 -- A length that a slot gives, or none
 
-module _ (b : List ℕ) (f : Frame) (p : BitPlace) (o : LastOrder) {x y : Length} (is : x ≡ y) where
-  pub no-length-seen : {why : Refusal} → x ≡ NotOf why → (k : ℕ) → Stops (stopAt why p) ≡ forLength p y (dynamicSeen b f p o k)
+module _ (m : ℕ) (b : List ℕ) (f : Frame) (p : BitPlace) (o : LastOrder) {x y : Length} (is : x ≡ y) where
+  pub no-length-seen : {why : Refusal} → x ≡ NotOf why → (k : ℕ) → Stops (stopAt why p) ≡ forLength p y (dynamicSeen m b f p o k)
   unfolding forLength
   no-length-seen e k = rw (← is, e) refl
 
   module _ {n : ℕ} (e : x ≡ Of n) (k : ℕ) where
-    text-is : k ≡ 26 → seen (foundText b f p n) (plainSeen k o) ≡ forLength p y (dynamicSeen b f p o k)
+    text-is : k ≡ 26 → seen (foundText b f p n) (plainSeen m k o) ≡ forLength p y (dynamicSeen m b f p o k)
     unfolding forLength dynamicSeen
     text-is h = rw (← is, e, eq-eqb k 26 h, dynamicSeen) refl
 
-    blob-is : (k ≡ 26 → ⊥) → seen (foundBlob f p n) (plainSeen k o) ≡ forLength p y (dynamicSeen b f p o k)
+    blob-is : (k ≡ 26 → ⊥) → seen (foundBlob f p n) (plainSeen m k o) ≡ forLength p y (dynamicSeen m b f p o k)
     unfolding forLength dynamicSeen
     blob-is h = rw (← is, e, ne-eqb k 26 h, dynamicSeen) refl
 
-    module _ {z : Found} {r : Seen} (sees : r ≡ seen z (plainSeen k o)) where
-      pub text-seen : k ≡ 26 → z ≡ foundText b f p n → r ≡ forLength p y (dynamicSeen b f p o k)
+    module _ {z : Found} {r : Seen} (sees : r ≡ seen z (plainSeen m k o)) where
+      pub text-seen : k ≡ 26 → z ≡ foundText b f p n → r ≡ forLength p y (dynamicSeen m b f p o k)
       text-seen h found = rw (found) at sees ∙ text-is h
 
-      pub blob-seen : (k ≡ 26 → ⊥) → z ≡ foundBlob f p n → r ≡ forLength p y (dynamicSeen b f p o k)
+      pub blob-seen : (k ≡ 26 → ⊥) → z ≡ foundBlob f p n → r ≡ forLength p y (dynamicSeen m b f p o k)
       blob-seen h found = rw (found) at sees ∙ blob-is h

@@ -71,29 +71,30 @@ unfolding oneOrNone
 one-or-none true = refl
 one-or-none false = refl
 
-uuid-apart : (b u : List ℕ) (o : LastOrder) (p : BitPlace) (n v : ℕ) (d : Due) → uuidSeen b u o p n v ≡ Field d → slotCount ≤ d .slot
+uuid-apart : (m : ℕ) (b u : List ℕ) (o : LastOrder) (p : BitPlace) (n v : ℕ) (d : Due) → uuidSeen m b u o p n v ≡ Field d
+    → slotCount ≤ d .slot
 unfolding uuidSeen seen
-uuid-apart b u o p n v d e = by (sameBytes (take v (drop (p .0 / 8) b)) u) refl e
+uuid-apart m b u o p n v d e = by (sameBytes (take v (drop (p .0 / 8) b)) u) refl e
   where
-    by : (t : Bool) → sameBytes (take v (drop (p .0 / 8) b)) u ≡ t → uuidSeen b u o p n v ≡ Field d → slotCount ≤ d .slot
-    by true i e = plain-apart 25 o (Lies n p v) d (rw (i, uuidSeen) at e)
+    by : (t : Bool) → sameBytes (take v (drop (p .0 / 8) b)) u ≡ t → uuidSeen m b u o p n v ≡ Field d → slotCount ≤ d .slot
+    by true i e = plain-apart m 25 o (Lies n p v) d (rw (i, uuidSeen) at e)
     by false i e = let h : OtherUuid _ ≡ Field d = rw (i, uuidSeen) at e in let z : _≡_ {A = ℕ} 0 1 = cc in absurd (omega arith)
 
-blob-apart : (b u : List ℕ) (r : ℕ) (o : LastOrder) (p : BitPlace) (n v : ℕ) (d : Due) → blobSeen b u r o p n v ≡ Field d
+blob-apart : (m : ℕ) (b u : List ℕ) (r : ℕ) (o : LastOrder) (p : BitPlace) (n v : ℕ) (d : Due) → blobSeen m b u r o p n v ≡ Field d
     → slotCount ≤ d .slot
 unfolding blobSeen seen
-blob-apart b u r o p n v d e = by (eqb r 4) refl e
+blob-apart m b u r o p n v d e = by (eqb r 4) refl e
   where
-    by : (t : Bool) → eqb r 4 ≡ t → blobSeen b u r o p n v ≡ Field d → slotCount ≤ d .slot
-    by true i e = uuid-apart b u o p n v d (rw (i, blobSeen) at e)
-    by false i e = plain-apart 25 o (Lies n p v) d (rw (i, blobSeen) at e)
+    by : (t : Bool) → eqb r 4 ≡ t → blobSeen m b u r o p n v ≡ Field d → slotCount ≤ d .slot
+    by true i e = uuid-apart m b u o p n v d (rw (i, blobSeen) at e)
+    by false i e = plain-apart m 25 o (Lies n p v) d (rw (i, blobSeen) at e)
 
-module _ (t b u : List ℕ) (f : Frame) (at : ℕ) (p : BitPlace) (o : LastOrder) (x : Content) where
+module _ (m : ℕ) (t b u : List ℕ) (f : Frame) (at : ℕ) (p : BitPlace) (o : LastOrder) (x : Content) where
   abbrev Says : ℕ → Type 0
-  Says i = u8 t at ≡ 16 + i → ContentDue (16 + i) (seenAt t b u f at p o x)
+  Says i = u8 t at ≡ 16 + i → ContentDue (16 + i) (seenAt m t b u f at p o x)
 
-  is : (k : ℕ) → u8 t at ≡ k → seenAt t b u f at p o x ≡ seenIn t b u f at p o x (shapeOf k)
-  is k e = seen-of t b u f at p o x k e
+  is : (k : ℕ) → u8 t at ≡ k → seenAt m t b u f at p o x ≡ seenIn m t b u f at p o x (shapeOf k)
+  is k e = seen-of m t b u f at p o x k e
 
   says : (i : ℕ) → i < 12 → Says i
   unfolding shapeOf shapes seenIn bitsSeenAt fixedSeen lebSeen valueOf slotOf contentOf
@@ -105,14 +106,14 @@ module _ (t b u : List ℕ) (f : Frame) (at : ℕ) (p : BitPlace) (o : LastOrder
       ▷ (λ k. rw (is 20 k) (seen-content 20 _ _ (λ q n v. field-content 20 _ (λ s. absurd (omega arith)))))
       ▷ (λ k. rw (is 21 k) (seen-content 21 _ _ (λ q n v. field-content 21 _ (λ s. refl))))
       ▷ (λ k. rw (is 22 k) (seen-content 22 _ _ (λ q n v. field-content 22 _ (λ s. refl))))
-      ▷ (λ k. rw (is 23 k) (apart-content 23 _ (λ d. plain-apart 23 o _ d)))
-      ▷ (λ k. rw (is 24 k) (apart-content 24 _ (λ d. plain-apart 24 o _ d)))
-      ▷ (λ k. rw (is 25 k) (seen-content 25 _ _ (λ q n v. apart-content 25 _ (blob-apart b u _ o q n v))))
-      ▷ (λ k. rw (is 26 k) (apart-content 26 _ (λ d. dynamic-apart b f p o 26 (lengthOf x) d)))
-      ▷ (λ k. rw (is 27 k) (apart-content 27 _ (λ d. dynamic-apart b f p o 27 (lengthOf x) d)))
+      ▷ (λ k. rw (is 23 k) (apart-content 23 _ (λ d. plain-apart m 23 o _ d)))
+      ▷ (λ k. rw (is 24 k) (apart-content 24 _ (λ d. plain-apart m 24 o _ d)))
+      ▷ (λ k. rw (is 25 k) (seen-content 25 _ _ (λ q n v. apart-content 25 _ (blob-apart m b u _ o q n v))))
+      ▷ (λ k. rw (is 26 k) (apart-content 26 _ (λ d. dynamic-apart m b f p o 26 (lengthOf x) d)))
+      ▷ (λ k. rw (is 27 k) (apart-content 27 _ (λ d. dynamic-apart m b f p o 27 (lengthOf x) d)))
       ▷ tt)
 
-  pub content-due : whole 1 t at → u8 t at < 28 → (d : Due) → seenAt t b u f at p o x ≡ Field d → d .slot < slotCount
+  pub content-due : whole 1 t at → u8 t at < 28 → (d : Due) → seenAt m t b u f at p o x ≡ Field d → d .slot < slotCount
       → d .content ≡ contentOf (u8 t at) (d .entry .value)
   unfolding whole
   content-due w h d e s =
@@ -121,13 +122,13 @@ module _ (t b u : List ℕ) (f : Frame) (at : ℕ) (p : BitPlace) (o : LastOrder
 
 -- Kinds below 26 read no slot
 
-module _ (t b u : List ℕ) (f : Frame) (at : ℕ) (p : BitPlace) (o : LastOrder) (x y : Content) where
+module _ (m : ℕ) (t b u : List ℕ) (f : Frame) (at : ℕ) (p : BitPlace) (o : LastOrder) (x y : Content) where
   abbrev Alike : ℕ → Type 0
-  Alike i = u8 t at ≡ 16 + i → seenAt t b u f at p o x ≡ seenAt t b u f at p o y
+  Alike i = u8 t at ≡ 16 + i → seenAt m t b u f at p o x ≡ seenAt m t b u f at p o y
 
-  alike-at : (k : ℕ) → seenIn t b u f at p o x (shapeOf k) ≡ seenIn t b u f at p o y (shapeOf k) → u8 t at ≡ k
-      → seenAt t b u f at p o x ≡ seenAt t b u f at p o y
-  alike-at k h e = seen-of t b u f at p o x k e ∙ h ∙ sym (seen-of t b u f at p o y k e)
+  alike-at : (k : ℕ) → seenIn m t b u f at p o x (shapeOf k) ≡ seenIn m t b u f at p o y (shapeOf k) → u8 t at ≡ k
+      → seenAt m t b u f at p o x ≡ seenAt m t b u f at p o y
+  alike-at k h e = seen-of m t b u f at p o x k e ∙ h ∙ sym (seen-of m t b u f at p o y k e)
 
   alike : (i : ℕ) → i < 10 → Alike i
   unfolding shapeOf shapes seenIn
@@ -135,7 +136,7 @@ module _ (t b u : List ℕ) (f : Frame) (at : ℕ) (p : BitPlace) (o : LastOrder
       (alike-at 16 refl ▷ alike-at 17 refl ▷ alike-at 18 refl ▷ alike-at 19 refl ▷ alike-at 20 refl
       ▷ alike-at 21 refl ▷ alike-at 22 refl ▷ alike-at 23 refl ▷ alike-at 24 refl ▷ alike-at 25 refl ▷ tt)
 
-  pub seen-alike : whole 1 t at → u8 t at < 26 → seenAt t b u f at p o x ≡ seenAt t b u f at p o y
+  pub seen-alike : whole 1 t at → u8 t at < 26 → seenAt m t b u f at p o x ≡ seenAt m t b u f at p o y
   unfolding whole
   seen-alike w h = alike (u8 t at - 16) (omega (arith, w .low)) (omega (arith, w .low))
 
@@ -196,9 +197,9 @@ clock-place l (some c) s = refl
 due-place : (m : Step) (s : State) → placeOf (m s) ≡ s .place → placeOf ((due ⨾ m) s) ≡ s .place
 unfolding placeOf refuse
 due-place m s e = ⊎-elim
-    (λ (h : s .room < 4). ap placeOf (no-room-first m s h))
-    (λ (h : 4 ≤ s .room). ap placeOf (room-first m s h) ∙ e)
-    (lt-or-ge (s .room) 4)
+    (λ (h : s .room < wordsPerEntry). ap placeOf (no-room-first m s h))
+    (λ (h : wordsPerEntry ≤ s .room). ap placeOf (room-first m s h) ∙ e)
+    (lt-or-ge (s .room) wordsPerEntry)
 
 -- a role is done at the place behind its field
 role-place : (r : Role) (l v : ℕ) (s : State) → placeOf (role r l v s) ≡ s .place
@@ -225,17 +226,17 @@ module _ (e : Env) where
   ok-between (stop es v) h = h .1
   ok-between (go es s) h = (h .1 .from, h .1 .to)
 
-  read-ends : (c : Class) (s : State) → Between e (s .place .0) → Between e (placeOf (read e c s) .0)
-  read-ends c s h =
-      ok-between (read e c s) (law-read e (held-law e anywhere) c (fits Any Any Any (λ n. tt) (λ n. tt) (λ n. tt) c) .at s
+  read-ends : (m : ℕ) (c : Class) (s : State) → Between e (s .place .0) → Between e (placeOf (read e m c s) .0)
+  read-ends m c s h =
+      ok-between (read e m c s) (law-read e (held-law e anywhere) m c (fits Any Any Any (λ n. tt) (λ n. tt) (λ n. tt) c) .at s
       (record { from = h .0; to = h .1; kept = tt }))
 
   -- what is due of a class's field lies between the packet's start and the bound
-  pub due-between : (c : Class) (d : Due) (s : State) → Between e (s .place .0) → read e c s ≡ doneDue d s
+  pub due-between : (m : ℕ) (c : Class) (d : Due) (s : State) → Between e (s .place .0) → read e m c s ≡ doneDue d s
       → Between e (d .entry .place .0 + d .entry .bits)
   unfolding store change withSlots _⨾_ after
-  due-between c d s h is =
-      let ends = read-ends c s h in
+  due-between m c d s h is =
+      let ends = read-ends m c s h in
       let place : placeOf (doneDue d s) ≡ behindEntry (d .entry)
       = ap placeOf (due-goes d s) ∙ onto-place _ _ ∙ onto-place [] _ ∙ role-place (roleOf (d .role)) (d .width) (d .entry .value) _ in
       subst (λ (q : BitPlace). Between e (q .0)) (ap placeOf is ∙ place) ends

@@ -35,6 +35,7 @@ use Rattle.leaf_after.specs.declared.Leaves.{Leaves}
 use Rattle.leaf_after.specs.declared.Seen.{Seen}
 use Rattle.leaf_after.specs.declared.Seen.the-variants.{Field, OtherUuid, Stops}
 use Rattle.leaf_after.specs.Seeing.{Fits, DueFits, done}
+use Rattle.class_layout.specs.Numbers.{numberAt}
 use Rattle.class_layout.specs.Trees.{classAt, nextAt, whole}
 use Rattle.class_layout.specs.Fields.{readFields, wholeFields, onward}
 use Rattle.class_layout.proofs.Standing.{leaf-whole, leaf-class}
@@ -54,7 +55,8 @@ pub record LeafFirst (again : Bool) (d : ℕ) (t : List ℕ) (at n : ℕ) : Type
   pub ends : nextAt d t at ≡ nextAt 1 t at
   pub rest : wholeFields again d t (onward again at (nextAt 1 t at)) (n - 1)
   pub reads : (e : Env)
-      → readFields again d t at n e ≡ (read e (classAt 1 t at) ⨾ readFields again d t (onward again at (nextAt 1 t at)) (n - 1) e)
+      → readFields again d t at n e
+      ≡ (read e (numberAt t at) (classAt 1 t at) ⨾ readFields again d t (onward again at (nextAt 1 t at)) (n - 1) e)
 
 pub leaf-first : (again : Bool) (d : ℕ) (t : List ℕ) (at n : ℕ) → 0 < n → wholeFields again d t at n → u8 t at < 28
     → LeafFirst again d t at n
@@ -79,7 +81,7 @@ onward-again false at next e = absurd (clash e)
 -- where leaves go on behind one
 pub record Onward (t : List ℕ) (next n room slot role : ℕ) : Type 0 where
   pub some : 0 < n
-  pub fits : 4 ≤ room
+  pub fits : wordsPerEntry ≤ room
   pub kind : u8 t next < 26
   pub idle : slotCount ≤ slot
   pub plain : role ≡ 0
@@ -123,7 +125,7 @@ dueThen again d t e r =
 
 -- leaves that went on, of n from a byte on, from the rules' state s on
 pub record LeavesWent (again : Bool) (d : ℕ) (t b u : List ℕ) (f : Frame) (at n : ℕ) (s : State) (y : LeavesListed) : Type 0 where
-  pub some : 4 ≤ y .leaves .used
+  pub some : wordsPerEntry ≤ y .leaves .used
   pub less : y .leaves .todo < n
   pub framed : Framed b f (y .leaves .place)
   pub same : again ≡ true → y .leaves .at ≡ at
@@ -136,7 +138,7 @@ pub record LeavesWent (again : Bool) (d : ℕ) (t b u : List ℕ) (f : Frame) (a
 
 -- what leaves did is the rules' reading, whether it stopped or went on
 pub record LeavesSay (again : Bool) (d : ℕ) (t b u : List ℕ) (f : Frame) (at n : ℕ) (s : State) (y : LeavesListed) : Type 0 where
-  pub counted : y .leaves .used ≡ 4 * length (y .entries)
+  pub counted : y .leaves .used ≡ wordsPerEntry * length (y .entries)
   pub room : y .leaves .used ≤ s .room
   pub stops : y .leaves .on ≡ false
       → readFields again d t at n (envOf b u f) s ≡ stop (y .entries) (stopAt (y .leaves .why) (y .leaves .place))
@@ -144,13 +146,14 @@ pub record LeavesSay (again : Bool) (d : ℕ) (t b u : List ℕ) (f : Frame) (at
 
 -- what is due of a leaf in a frame ends within it; s is a state in which its slot holds x
 pub due-framed : (b u : List ℕ) (f : Frame) (t : List ℕ) (at : ℕ) (x : Content) (s : State) (q : Due) {y : Seen}
-    → SeesAt b u f t at x (s .place) (s .order) y → y ≡ Field q → Framed b f (s .place) → 4 ≤ s .room → length (s .slots) ≡ slotCount
+    → SeesAt (numberAt t at) b u f t at x (s .place) (s .order) y → y ≡ Field q → Framed b f (s .place) → wordsPerEntry ≤ s .room
+    → length (s .slots) ≡ slotCount
     → slotAt (s .slots) (leafSlot t at) ≡ x → Framed b f (behindEntry (q .entry))
 unfolding done
 due-framed b u f t at x s q sees is framed room many told =
     let e = envOf b u f in
     let reads = sees .same s room many told refl refl ∙ ap (λ z. done z s) is in
-    let between = due-between e (classAt 1 t at) q s (framed .begun, framed .within) reads in
+    let between = due-between e (numberAt t at) (classAt 1 t at) q s (framed .begun, framed .within) reads in
     record { whole = framed .whole; begun = between .0; within = between .1; ends = framed .ends; small = framed .small }
 
 -- one leaf in front: it is read as what is seen of it is done
@@ -159,7 +162,7 @@ record OneLeaf (again : Bool) (d : ℕ) (t b u : List ℕ) (f : Frame) (x : Cont
   pub some : 0 < n
   pub kind : u8 t at < 28
   pub framed : Framed b f (s .place)
-  pub room : 4 ≤ s .room
+  pub room : wordsPerEntry ≤ s .room
   pub many : length (s .slots) ≡ slotCount
   pub told : 26 ≤ u8 t at → slotAt (s .slots) (leafSlot t at) ≡ x
 
@@ -168,8 +171,11 @@ module _ (again : Bool) (d : ℕ) (t b u : List ℕ) (f : Frame) (x : Content) (
   abbrev env : Env
   env = envOf b u f
 
+  abbrev number : ℕ
+  number = numberAt t at
+
   abbrev this : Seen
-  this = seenAt t b u f at (s .place) (s .order) x
+  this = seenAt number t b u f at (s .place) (s .order) x
 
   abbrev next : ℕ
   next = onward again at (nextAt 1 t at)
@@ -181,16 +187,16 @@ module _ (again : Bool) (d : ℕ) (t b u : List ℕ) (f : Frame) (x : Content) (
   held = slotAt (s .slots) (leafSlot t at)
 
   -- what is seen, by what the slot holds
-  same-seen : seenAt t b u f at (s .place) (s .order) held ≡ this
+  same-seen : seenAt number t b u f at (s .place) (s .order) held ≡ this
   same-seen = ⊎-elim
-      (λ (k : u8 t at < 26). seen-alike t b u f at (s .place) (s .order) held x (h .first .leaf) k)
-      (λ (k : 26 ≤ u8 t at). ap (seenAt t b u f at (s .place) (s .order)) (h .told k))
+      (λ (k : u8 t at < 26). seen-alike number t b u f at (s .place) (s .order) held x (h .first .leaf) k)
+      (λ (k : 26 ≤ u8 t at). ap (seenAt number t b u f at (s .place) (s .order)) (h .told k))
       (lt-or-ge (u8 t at) 26)
 
-  sees : SeesAt b u f t at held (s .place) (s .order) this
-  sees = rw (same-seen) at (leaf-sees b u f t at (s .place) (s .order) held (h .framed) bytes (h .first .leaf) (h .kind))
+  sees : SeesAt number b u f t at held (s .place) (s .order) this
+  sees = rw (same-seen) at (leaf-sees number b u f t at (s .place) (s .order) held (h .framed) bytes (h .first .leaf) (h .kind))
 
-  reads-first : {y : Seen} → this ≡ y → read env (classAt 1 t at) s ≡ done y s
+  reads-first : {y : Seen} → this ≡ y → read env number (classAt 1 t at) s ≡ done y s
   reads-first is = sees .same s (h .room) (h .many) refl refl refl ∙ ap (λ z. done z s) is
 
   reads-all : {y : Seen} → this ≡ y → readFields again d t at n env s ≡ after (done y s) rest
@@ -198,7 +204,7 @@ module _ (again : Bool) (d : ℕ) (t b u : List ℕ) (f : Frame) (x : Content) (
   reads-all is = ap (λ (m : Step). m s) (h .first .reads env) ∙ ap (λ o. after o rest) (reads-first is)
 
   -- it stops
-  stops-say : (why : Refusal) (p : BitPlace) (o : LastOrder) (es : List Entry) → 4 * length es ≤ s .room
+  stops-say : (why : Refusal) (p : BitPlace) (o : LastOrder) (es : List Entry) → wordsPerEntry * length es ≤ s .room
       → readFields again d t at n env s ≡ stop es (stopAt why p) → LeavesSay again d t b u f at n s (stopsAt why at n p o es)
   unfolding stopsAt stoppedLeaves
   stops-say why p o es room reads = record { counted = refl; room = room; stops = λ off. reads; goes = λ on. absurd (clash on) }
@@ -223,7 +229,7 @@ module _ (again : Bool) (d : ℕ) (t b u : List ℕ) (f : Frame) (x : Content) (
         → setSlot l (q .slot) (q .content) ≡ setSlot l (q .slot) (contentOf (u8 t at) (q .entry .value))
     content l long = ⊎-elim
         (λ (k : q .slot < slotCount).
-        ap (setSlot l (q .slot)) (content-due t b u f at (s .place) (s .order) x (h .first .leaf) (h .kind) q is k))
+        ap (setSlot l (q .slot)) (content-due number t b u f at (s .place) (s .order) x (h .first .leaf) (h .kind) q is k))
         (λ (k : slotCount ≤ q .slot). no-slot l (q .slot) _ long k ∙ sym (no-slot l (q .slot) _ long k))
         (lt-or-ge (q .slot) slotCount)
 
@@ -258,7 +264,7 @@ module _ (again : Bool) (d : ℕ) (t b u : List ℕ) (f : Frame) (x : Content) (
     }
 
     -- it is not the last
-    module _ (on : Onward t next (n - 1) (s .room - 4) (q .slot) (q .role)) where
+    module _ (on : Onward t next (n - 1) (s .room - wordsPerEntry) (q .slot) (q .role)) where
       onward-reads : readFields again d t at n env s ≡ onto (q .entry ∷ []) (rest behind)
       unfolding after
       onward-reads = due-reads
@@ -297,7 +303,7 @@ module _ (again : Bool) (d : ℕ) (t b u : List ℕ) (f : Frame) (x : Content) (
         stops = λ off. onward-reads ∙ ap (onto (q .entry ∷ [])) (say .stops off);
         goes = λ went.
             let g = say .goes went in
-            let left : s .room - 4 - y .leaves .used ≡ s .room - (4 + y .leaves .used) = omega arith in
+            let left : s .room - wordsPerEntry - y .leaves .used ≡ s .room - (wordsPerEntry + y .leaves .used) = omega arith in
             record {
               some = omega (arith, g .some);
               less = omega (arith, g .less);
@@ -308,7 +314,7 @@ module _ (again : Bool) (d : ℕ) (t b u : List ℕ) (f : Frame) (x : Content) (
               rest = g .rest;
               stamp = g .stamp;
               reads = onward-reads ∙ ap (onto (q .entry ∷ [])) (g .reads) ∙ onto-onto (q .entry ∷ []) (y .entries)
-                  (dueThen again d t env (y .leaves) (roomed (y .leaves) (s .room - 4 - y .leaves .used)))
+                  (dueThen again d t env (y .leaves) (roomed (y .leaves) (s .room - wordsPerEntry - y .leaves .used)))
                   ∙ ap (λ (z : ℕ). onto (q .entry ∷ y .entries) (dueThen again d t env (y .leaves) (roomed (y .leaves) z))) left;
             };
       }
@@ -340,13 +346,13 @@ leaves-say again d t b u f x bytes zero at s h = absurd (omega (arith, h .some))
 leaves-say again d t b u f x bytes (suc n) at s h =
     let e : suc n - 1 ≡ n = omega arith in
     let next = onward again at (nextAt 1 t at) in
-    rw (e) at (leaf-says again d t b u f x bytes at (suc n) s h (seenAt t b u f at (s .place) (s .order) x) refl
+    rw (e) at (leaf-says again d t b u f x bytes at (suc n) s h (seenAt (numberAt t at) t b u f at (s .place) (s .order) x) refl
     (λ q. leavesRead again t b u f x next n (behindEntry (q .entry)) (q .order) (s .room - wordsPerEntry))
     (λ q one. rw (e) (leaves-say again d t b u f x bytes n next (behindDue q s) (rw (e) at one))))
 
 -- the same of what the loops know: the classes stand whole, and the slots hold x where the first leaf reads
 pub leaves-read : (again : Bool) (d : ℕ) (t b u : List ℕ) (f : Frame) (x : Content) → Bytes b → (at n : ℕ) (s : State)
-    → wholeFields again d t at n → 0 < n → u8 t at < 28 → Framed b f (s .place) → 4 ≤ s .room → length (s .slots) ≡ slotCount
+    → wholeFields again d t at n → 0 < n → u8 t at < 28 → Framed b f (s .place) → wordsPerEntry ≤ s .room → length (s .slots) ≡ slotCount
     → slotAt (s .slots) (leafSlot t at) ≡ x
     → LeavesSay again d t b u f at n s (leavesRead again t b u f x at n (s .place) (s .order) (s .room))
 leaves-read again d t b u f x bytes at n s stands some kind framed room many told = leaves-say again d t b u f x bytes n at s record {

@@ -17,7 +17,7 @@ use Rattle.rules.specs.declared.Slot.{Slot}
 use Rattle.rules.specs.declared.Stop.{Stop}
 use Rattle.rules.specs.declared.Refusal.the-variants.{PastBound, WrongUuid}
 use Rattle.rules.specs.declared.Stated.the-variants.{Missing}
-use Rattle.rules.specs.Limits.{slotCount}
+use Rattle.rules.specs.Limits.{slotCount, wordsPerEntry}
 use Rattle.rules.specs.Record.{u8}
 use Rattle.rules.specs.Slots.{noSlots, slot, slotAt, setSlot}
 use Rattle.rules.specs.Step.{State}
@@ -32,9 +32,11 @@ use Rattle.leaf_after.specs.declared.Leaves.{Leaves}
 use Rattle.leaf_after.specs.declared.Seen.{Seen}
 use Rattle.leaf_after.specs.declared.Seen.the-variants.{Field, OtherUuid, Stops}
 use Rattle.leaf_after.specs.Seeing.{Fits}
+use Rattle.class_layout.specs.Numbers.{numberAt}
+use Rattle.class_layout.specs.Words.{numberOfWord}
 use Rattle.class_layout.specs.Trees.{nextAt, whole}
 use Rattle.class_layout.specs.Fields.{wholeFields, onward}
-use Rattle.class_layout.specs.Notes.{SizedClasses}
+use Rattle.class_layout.specs.Notes.{SizedClasses, numberNoted, NumberedClasses}
 use Rattle.class_layout.proofs.Fields.{foremost}
 use Rattle.class_layout.proofs.Turns.{whole-inside}
 use Rattle.leaf_read.specs.Reads.{Held, leafSlot}
@@ -49,12 +51,12 @@ use Rattle.leaf_read.proofs.Leaves.{LeafFirst, leaf-first, goes-on, due
 
 none-in-front : (y : LeavesListed) → behindEntries [] y ≡ y
 unfolding behindEntries
-none-in-front y = let e : 4 * 0 + y .leaves .used ≡ y .leaves .used = omega arith in rw (e) refl
+none-in-front y = let e : wordsPerEntry * 0 + y .leaves .used ≡ y .leaves .used = omega arith in rw (e) refl
 
 more-in-front : (es fs : List Entry) (y : LeavesListed) → behindEntries es (behindEntries fs y) ≡ behindEntries (es ++ fs) y
 unfolding behindEntries
 more-in-front es fs y =
-    let e : 4 * length es + (4 * length fs + y .leaves .used) ≡ 4 * length (es ++ fs) + y .leaves .used
+    let e : wordsPerEntry * length es + (wordsPerEntry * length fs + y .leaves .used) ≡ wordsPerEntry * length (es ++ fs) + y .leaves .used
     = omega (arith, length-append es fs) in
     rw (e, append-assoc) refl
 
@@ -79,7 +81,7 @@ module _ (i : ℕ) (x : Content) (held : Held i x) where
   abbrev holding : BitPlace → LastOrder → State
   holding p o = record {
     place = p;
-    room = 4;
+    room = wordsPerEntry;
     slots = setSlot noSlots i x;
     order = o;
     clock = 0;
@@ -153,11 +155,11 @@ pub record Reading (w : Asked) (ws : List ℕ) (at n : ℕ) (p : BitPlace) (o : 
   pub held : 26 ≤ u8 (w .table) at → Held (leafSlot (w .table) at) (w .content)
   pub listed : List Entry
   pub list : Listed listed (w .list) ws used
-  pub room : used + 4 ≤ length (w .list)
+  pub room : used + wordsPerEntry ≤ length (w .list)
   pub rest : all w ≡ behindEntries listed (readFrom w at n p o (length (w .list) - used))
 
 pub reading-start : (w : Asked) → Standing (w .again) (w .table) (w .from) (w .count) → u8 (w .table) (w .from) < 28 → 1 ≤ w .count
-    → 4 ≤ length (w .list) → Framed (w .stream) (w .frame) (w .begun) → Held (leafSlot (w .table) (w .from)) (w .content)
+    → wordsPerEntry ≤ length (w .list) → Framed (w .stream) (w .frame) (w .begun) → Held (leafSlot (w .table) (w .from)) (w .content)
     → Reading w (w .list) (w .from) (w .count) (w .begun) (w .last) 0
 reading-start w s kind some room framed held =
     let whole : length (w .list) - 0 ≡ length (w .list) = omega arith in
@@ -178,8 +180,8 @@ reading-start w s kind some room framed held =
 unfold-leaves : (again : Bool) (t b u : List ℕ) (f : Frame) (x : Content) (at n : ℕ) (p : BitPlace) (o : LastOrder) (room : ℕ) → 0 < n →
     let next = onward again at (nextAt 1 t at) in
     leavesRead again t b u f x at n p o room
-    ≡ leafThen (seenAt t b u f at p o x) at n o (λ q. leavesEnd t next (n - 1) (room - 4) (q .slot) (q .role))
-    (λ q. leavesRead again t b u f x next (n - 1) (behindEntry (q .entry)) (q .order) (room - 4))
+    ≡ leafThen (seenAt (numberAt t at) t b u f at p o x) at n o (λ q. leavesEnd t next (n - 1) (room - wordsPerEntry) (q .slot) (q .role))
+    (λ q. leavesRead again t b u f x next (n - 1) (behindEntry (q .entry)) (q .order) (room - wordsPerEntry))
 unfolding leavesRead
 unfold-leaves again t b u f x at zero p o room h = absurd (omega arith)
 unfold-leaves again t b u f x at (suc n) p o room h = let e : suc n - 1 ≡ n = omega arith in rw (e) refl
@@ -201,17 +203,24 @@ module _ {w : Asked} {ws : List ℕ} {at n : ℕ} {p : BitPlace} {o : LastOrder}
   abbrev next : ℕ
   next = onward (w .again) at (nextAt 1 t at)
 
+  abbrev number : ℕ
+  number = numberAt t at
+
+  -- what is seen of the leaf, by a number and what its slot holds; and by its own
+  abbrev seenBy : ℕ → Content → Seen
+  seenBy m x = seenAt m t (w .stream) (w .uuid) (w .frame) at p o x
+
   abbrev this : Seen
-  this = seenAt t (w .stream) (w .uuid) (w .frame) at p o (w .content)
+  this = seenBy number (w .content)
 
   abbrev left : ℕ
   left = length (w .list) - used
 
   abbrev ends : Due → Bool
-  ends q = leavesEnd t (next) (n - 1) (left - 4) (q .slot) (q .role)
+  ends q = leavesEnd t (next) (n - 1) (left - wordsPerEntry) (q .slot) (q .role)
 
   abbrev others : Due → LeavesListed
-  others q = readFrom w (next) (n - 1) (behindEntry (q .entry)) (q .order) (left - 4)
+  others q = readFrom w (next) (n - 1) (behindEntry (q .entry)) (q .order) (left - wordsPerEntry)
 
   pub reading-first : LeafFirst (w .again) (h .depth) t at n
   reading-first = leaf-first (w .again) (h .depth) t at n (h .some) (h .stands) (h .kind)
@@ -229,29 +238,36 @@ module _ {w : Asked} {ws : List ℕ} {at n : ℕ} {p : BitPlace} {o : LastOrder}
   pub reading-onward : (s : List ℕ) {m : ℕ} → SizedClasses t s → m ≡ onward (w .again) at (at + getD s at 0) → m ≡ next
   reading-onward s sized e = rw (← sized 1 at (reading-first .leaf)) e
 
+  -- what is seen with the number that the notes give
+  pub reading-seen : (a : List ℕ) {m : ℕ} {y : Seen} → NumberedClasses t a → m ≡ numberOfWord (getD a at 0) → y ≡ seenBy m (w .content)
+      → y ≡ this
+  unfolding numberNoted
+  reading-seen a numbered word is = is ∙ ap (λ m. seenBy m (w .content)) (word ∙ numbered 1 at (reading-first .leaf))
+
   pub next-inside : 0 < n - 1 → next < length t
   next-inside some = whole-inside _ t _ (foremost (w .again) (h .depth) t _ (n - 1) some (reading-first .rest) .stands)
 
   module _ (bytes : Bytes (w .stream)) where
-    reading-sees : SeesAt (w .stream) (w .uuid) (w .frame) t at (w .content) p o this
-    reading-sees = leaf-sees (w .stream) (w .uuid) (w .frame) t at p o (w .content) (h .framed) bytes (reading-first .leaf) (h .kind)
+    reading-sees : SeesAt number (w .stream) (w .uuid) (w .frame) t at (w .content) p o this
+    reading-sees =
+        leaf-sees number (w .stream) (w .uuid) (w .frame) t at p o (w .content) (h .framed) bytes (reading-first .leaf) (h .kind)
 
     pub reading-fits : {y : Seen} → y ≡ this → Fits y
     reading-fits is = rw (is) (reading-sees .fits)
 
-    framed-by : (q : Due) (x : Content) → Held (leafSlot t at) x → seenAt t (w .stream) (w .uuid) (w .frame) at p o x ≡ Field q
+    framed-by : (q : Due) (x : Content) → Held (leafSlot t at) x → seenBy number x ≡ Field q
         → Framed (w .stream) (w .frame) (behindEntry (q .entry))
     framed-by q x held is =
         let i = leafSlot t at in
         due-framed (w .stream) (w .uuid) (w .frame) t at x (holding i x held p o) q
-        (leaf-sees (w .stream) (w .uuid) (w .frame) t at p o x (h .framed) bytes (reading-first .leaf) (h .kind)) is
+        (leaf-sees number (w .stream) (w .uuid) (w .frame) t at p o x (h .framed) bytes (reading-first .leaf) (h .kind)) is
         (h .framed) (omega arith) (slots-many i x held) (slot-holds i x held)
 
     -- a leaf ends within the frame
     reading-framed : (q : Due) {y : Seen} → y ≡ this → y ≡ Field q → Framed (w .stream) (w .frame) (behindEntry (q .entry))
     reading-framed q is e = ⊎-elim
         (λ (k : u8 t at < 26).
-        let same = seen-alike t (w .stream) (w .uuid) (w .frame) at p o Unset (w .content) (reading-first .leaf) k in
+        let same = seen-alike number t (w .stream) (w .uuid) (w .frame) at p o Unset (w .content) (reading-first .leaf) k in
         framed-by q Unset (λ z. refl) (same ∙ sym is ∙ e))
         (λ (k : 26 ≤ u8 t at). framed-by q (w .content) (h .held k) (sym is ∙ e))
         (lt-or-ge (u8 t at) 26)
@@ -261,45 +277,46 @@ module _ {w : Asked} {ws : List ℕ} {at n : ℕ} {p : BitPlace} {o : LastOrder}
   unfolding leafThen stopsAt stoppedLeaves behindEntries
   answer-stops {v = v} is e =
       let d : all w ≡ behindEntries (h .listed) (stopsAt (v .why) at n (v .place) o []) = reading-all (sym e ∙ is) in
-      let u : used ≡ 4 * length (h .listed) + 4 * 0 = omega (arith, h .list .counted) in
+      let u : used ≡ wordsPerEntry * length (h .listed) + wordsPerEntry * 0 = omega (arith, h .list .counted) in
       rw (d, append-nil (h .listed)) (rw (← u) refl, rw (← u) (h .list .list))
 
   pub answer-other : {y : Seen} {x : Entry} {ws′ : List ℕ} → y ≡ this → y ≡ OtherUuid x
-      → Listed (h .listed ++ (x ∷ [])) (w .list) ws′ (used + 4)
-      → Answered w (stoppedLeaves WrongUuid at n (behindEntry x) o (used + 4)) ws′
+      → Listed (h .listed ++ (x ∷ [])) (w .list) ws′ (used + wordsPerEntry)
+      → Answered w (stoppedLeaves WrongUuid at n (behindEntry x) o (used + wordsPerEntry)) ws′
   unfolding leafThen stopsAt stoppedLeaves behindEntries
   answer-other {x = x} is e list =
       let d : all w ≡ behindEntries (h .listed) (stopsAt WrongUuid at n (behindEntry x) o (x ∷ [])) = reading-all (sym e ∙ is) in
-      let u : used + 4 ≡ 4 * length (h .listed) + 4 * length (x ∷ []) = omega (arith, h .list .counted) in
+      let u : used + wordsPerEntry ≡ wordsPerEntry * length (h .listed) + wordsPerEntry * length (x ∷ [])
+      = omega (arith, h .list .counted) in
       rw (d) (rw (← u) refl, rw (← u) (list .list))
 
   module _ {y : Seen} (q : Due) (is : y ≡ this) (e : y ≡ Field q) {ws′ : List ℕ}
-      (list : Listed (h .listed ++ (q .entry ∷ [])) (w .list) ws′ (used + 4)) where
+      (list : Listed (h .listed ++ (q .entry ∷ [])) (w .list) ws′ (used + wordsPerEntry)) where
     -- the test of the code is that of the definition
     module _ {at′ : ℕ} (there : at′ ≡ next) {r : Bool}
-        (test : r ≡ leavesEnd t at′ (n - 1) (length ws′ - (used + 4)) (q .slot) (q .role)) where
+        (test : r ≡ leavesEnd t at′ (n - 1) (length ws′ - (used + wordsPerEntry)) (q .slot) (q .role)) where
       same-test : {l : Bool} → r ≡ l → ends q ≡ l
       same-test is =
-          let room : length ws′ - (used + 4) ≡ left - 4 = omega (arith, listed-length list) in
+          let room : length ws′ - (used + wordsPerEntry) ≡ left - wordsPerEntry = omega (arith, listed-length list) in
           sym (rw (there, room) at test) ∙ is
 
       -- it is the last
-      pub answer-last : r ≡ true → Answered w (lastly q at (n - 1) (used + 4)) ws′
+      pub answer-last : r ≡ true → Answered w (lastly q at (n - 1) (used + wordsPerEntry)) ws′
       unfolding lastLeaf behindEntries
       answer-last last =
           let d : all w ≡ behindEntries (h .listed) (lastLeaf q at (n - 1))
           = reading-all (sym e ∙ is) ∙ ap (behindEntries (h .listed)) (leaf-last q at n o ends others (same-test last)) in
-          let u : used + 4 ≡ 4 * length (h .listed) + 4 = omega (arith, h .list .counted) in
+          let u : used + wordsPerEntry ≡ wordsPerEntry * length (h .listed) + wordsPerEntry = omega (arith, h .list .counted) in
           rw (d) (rw (← u) refl, rw (← u) (list .list))
 
       -- it is not
       pub reading-next : Bytes (w .stream) → r ≡ false
-          → Reading w ws′ at′ (n - 1) (behindEntry (q .entry)) (q .order) (used + 4)
+          → Reading w ws′ at′ (n - 1) (behindEntry (q .entry)) (q .order) (used + wordsPerEntry)
       reading-next bytes more =
-          let on = goes-on t (next) (n - 1) (left - 4) (q .slot) (q .role) (same-test more) in
+          let on = goes-on t (next) (n - 1) (left - wordsPerEntry) (q .slot) (q .role) (same-test more) in
           let d : all w ≡ behindEntries (h .listed) (behindEntries (q .entry ∷ []) (others q))
           = reading-all (sym e ∙ is) ∙ ap (behindEntries (h .listed)) (leaf-more q at n o ends others (same-test more)) in
-          let room : left - 4 ≡ length (w .list) - (used + 4) = omega arith in
+          let room : left - wordsPerEntry ≡ length (w .list) - (used + wordsPerEntry) = omega arith in
           rw (there) record {
             depth = h .depth;
             stands = reading-first .rest;

@@ -21,6 +21,7 @@ use Rattle.leaf_after.specs.declared.Due.{Due}
 use Rattle.leaf_after.specs.declared.Seen.{Seen}
 use Rattle.leaf_after.specs.declared.Seen.the-variants.{Field, OtherUuid, Stops}
 use Rattle.leaf_after.specs.declared.Leaves.{Leaves}
+use Rattle.class_layout.specs.Numbers.{numberAt}
 use Rattle.class_layout.specs.Trees.{nextAt}
 use Rattle.class_layout.specs.Fields.{wholeFields, onward}
 use Rattle.leaf_read.specs.Seen.{seenAt}
@@ -118,7 +119,7 @@ unfoldable pub leavesRead : Bool → List ℕ → List ℕ → List ℕ → Fram
 leavesRead again t b u f x at zero p o room = stopsAt PastBound at zero p o []
 leavesRead again t b u f x at (suc n) p o room =
     let next = onward again at (nextAt 1 t at) in
-    leafThen (seenAt t b u f at p o x) at (suc n) o
+    leafThen (seenAt (numberAt t at) t b u f at p o x) at (suc n) o
     (λ d. leavesEnd t next n (room - wordsPerEntry) (d .slot) (d .role))
     (λ d. leavesRead again t b u f x next n (behindEntry (d .entry)) (d .order) (room - wordsPerEntry))
 

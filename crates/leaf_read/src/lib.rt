@@ -1,5 +1,6 @@
 // Leaves of the classes at bytes of the table: each is found by the numbers of its record, and what is seen of it is told by its kind. Each
-// number is read where it is needed; what the check of the table has shown of it is not tested again.
+// number is read where it is needed; what the check of the table has shown of it is not tested again. Its entry's fifth word is noted.
+use class_layout::words::number_of;
 use frame::Frame;
 use leaf_after::Leaves;
 use leaf_after::Seen;
@@ -18,6 +19,7 @@ use leaf_see_number::fixed::signed;
 use leaf_see_number::fixed::unsigned;
 use leaf_see_number::leb::signed_leb;
 use leaf_see_number::leb::unsigned_leb;
+use listing::entry::is_full;
 use listing::entry::write;
 use numbers::kinds;
 use numbers::limits;
@@ -37,6 +39,7 @@ use table_bytes::wide64;
 ghost use mathlib.Core.Path.{_≡_};
 ghost use Prim.Native.Nat.{_+_, _≤_, _<_};
 ghost use lib.ListN.{length, getD};
+ghost use Rattle.rules.specs.Limits.{wordsPerEntry};
 ghost use Rattle.rules.specs.Record.{u8};
 ghost use Rattle.rules.specs.Parse.{orderOf};
 ghost use Rattle.frame.specs.Framed.{Framed};
@@ -44,7 +47,7 @@ ghost use Rattle.slots.specs.Taken.{lengthOf};
 ghost use Rattle.leaf_after.specs.Seeing.{forLength};
 ghost use Rattle.class_layout.specs.Trees.{whole};
 ghost use Rattle.class_layout.specs.Fields.{onward};
-ghost use Rattle.class_layout.specs.Notes.{SizedClasses};
+ghost use Rattle.class_layout.specs.Notes.{SizedClasses, NumberedClasses};
 ghost use Rattle.leaf_read.specs.Reads.{Held, leafSlot};
 ghost use Rattle.leaf_read.specs.Seen.{seenAt, BitsSeen, dynamicSeen};
 ghost use Rattle.leaf_read.specs.Leaves.{contentOf, stoppedLeaves, listBehind, leavesEnd, leavesRead, Standing};
@@ -67,6 +70,7 @@ pub fn leaf_slot(table: &[u8], at: usize) -> usize
 pub fn read_leaves(
     table: &[u8],
     sizes: &[u16],
+    aligns: &[u32],
     uuid: &[u8],
     stream: &[u8],
     frame: Frame,
@@ -79,8 +83,9 @@ pub fn read_leaves(
     list: &mut [u64],
 ) -> Leaves
     requires { ⌜ Standing again (now table) from count ⌝ }
-    requires { ⌜ (u8 (now table) from < 28) × (1 ≤ count) × (4 ≤ length (now list)) ⌝ }
+    requires { ⌜ (u8 (now table) from < 28) × (1 ≤ count) × (wordsPerEntry ≤ length (now list)) ⌝ }
     requires { ⌜ (length (now table) ≤ length (now sizes)) × SizedClasses (now table) (now sizes) ⌝ }
+    requires { ⌜ (length (now table) ≤ length (now aligns)) × NumberedClasses (now table) (now aligns) ⌝ }
     requires { ⌜ Framed (now stream) frame begun ⌝ }
     requires { ⌜ Held (leafSlot (now table) from) content ⌝ }
     ensures { λ r. ⌜
@@ -98,7 +103,18 @@ pub fn read_leaves(
     let mut order = last;
     let mut used: usize = 0;
     loop {
-        match see_leaf(table, at, uuid, stream, frame, place, order, content) {
+        let number = number_of(aligns[at]);
+        match see_leaf(
+            table,
+            at,
+            number,
+            uuid,
+            stream,
+            frame,
+            place,
+            order,
+            content,
+        ) {
             Seen::Stops(stop) => {
                 let why = stop.why;
                 return stopped(why, at, todo, stop.place, order, used);
@@ -111,13 +127,13 @@ pub fn read_leaves(
                     todo,
                     places::further(entry.place, entry.bits),
                     order,
-                    used + 4,
+                    used + limits::WORDS_PER_ENTRY,
                 );
             }
             Seen::Field(due) => {
                 let entry = due.entry;
                 write(&mut list[used..], entry);
-                used = used + 4;
+                used = used + limits::WORDS_PER_ENTRY;
                 todo = todo - 1;
                 place = places::further(entry.place, entry.bits);
                 order = due.order;
@@ -200,7 +216,7 @@ fn ends(table: &[u8], next: usize, todo: usize, room: usize, slot: u8, role: u8)
     if todo == 0 {
         return true;
     }
-    if room < 4 {
+    if is_full(room) {
         return true;
     }
     if kinds::DYNAMIC_STRING <= table[next] {
@@ -216,6 +232,7 @@ fn ends(table: &[u8], next: usize, todo: usize, room: usize, slot: u8, role: u8)
 fn see_leaf(
     table: &[u8],
     at: usize,
+    number: u64,
     uuid: &[u8],
     stream: &[u8],
     frame: Frame,
@@ -226,22 +243,29 @@ fn see_leaf(
     requires { ⌜ whole 1 (now table) at ⌝ }
     requires { ⌜ u8 (now table) at < 28 ⌝ }
     requires { ⌜ Framed (now stream) frame from ⌝ }
-    ensures { λ r. ⌜ r ≡ seenAt (now (table .entry)) (now (stream .entry)) (now (uuid .entry)) frame at from last content ⌝ }
+    ensures { λ r. ⌜ r ≡ seenAt number (now (table .entry)) (now (stream .entry)) (now (uuid .entry)) frame at from last content ⌝ }
 {
     if table[at] < kinds::FIRST_OF_BYTES {
-        return see_bits(table, at, stream, frame, from, last);
+        return see_bits(table, at, number, stream, frame, from, last);
     }
     match table[at] {
         kinds::LEB128_UNSIGNED => unsigned_leb(
             find_unsigned(stream, frame, from),
+            number,
             last,
             table[at + 1],
             table[at + 2],
         ),
-        kinds::LEB128_SIGNED => signed_leb(find_signed(stream, frame, from), last, table[at + 1]),
+        kinds::LEB128_SIGNED => signed_leb(
+            find_signed(stream, frame, from),
+            number,
+            last,
+            table[at + 1],
+        ),
         kinds::NULL_TERMINATED_STRING => plain(
             kinds::NULL_TERMINATED_STRING,
             find_string(stream, frame, from),
+            number,
             last,
         ),
         kinds::STATIC_STRING => {
@@ -249,6 +273,7 @@ fn see_leaf(
             plain(
                 kinds::STATIC_STRING,
                 find_text(stream, frame, from, bytes),
+                number,
                 last,
             )
         }
@@ -256,19 +281,21 @@ fn see_leaf(
             let bytes = ByteLength(u16_at(table, at + 1));
             static_blob(
                 find_blob(stream, frame, from, bytes),
+                number,
                 table[at + 3],
                 last,
                 uuid,
                 stream,
             )
         }
-        _ => see_dynamic(table[at], content, stream, frame, from, last),
+        _ => see_dynamic(table[at], number, content, stream, frame, from, last),
     }
 }
 
 // Kinds 26 and 27, as long as a slot says.
 fn see_dynamic(
     kind: u8,
+    number: u64,
     content: Content,
     stream: &[u8],
     frame: Frame,
@@ -276,7 +303,7 @@ fn see_dynamic(
     last: LastOrder,
 ) -> Seen
     requires { ⌜ Framed (now stream) frame from ⌝ }
-    ensures { λ r. ⌜ r ≡ forLength from (lengthOf content) (dynamicSeen (now (stream .entry)) frame from last kind) ⌝ }
+    ensures { λ r. ⌜ r ≡ forLength from (lengthOf content) (dynamicSeen number (now (stream .entry)) frame from last kind) ⌝ }
 {
     match length_of(content) {
         Length::NotOf(why) => Seen::Stops(Stop { why, place: from }),
@@ -285,12 +312,14 @@ fn see_dynamic(
                 return plain(
                     kind,
                     find_text(stream, frame, from, ByteLength(bytes)),
+                    number,
                     last,
                 );
             }
             plain(
                 kind,
                 find_blob(stream, frame, from, ByteLength(bytes)),
+                number,
                 last,
             )
         }
@@ -301,6 +330,7 @@ fn see_dynamic(
 fn see_bits(
     table: &[u8],
     at: usize,
+    number: u64,
     stream: &[u8],
     frame: Frame,
     from: BitPlace,
@@ -309,18 +339,18 @@ fn see_bits(
     requires { ⌜ whole 1 (now table) at ⌝ }
     requires { ⌜ u8 (now table) at < 21 ⌝ }
     requires { ⌜ Framed (now stream) frame from ⌝ }
-    ensures { λ r. ⌜ BitsSeen (now (table .entry)) (now (stream .entry)) frame at from last r ⌝ }
+    ensures { λ r. ⌜ BitsSeen number (now (table .entry)) (now (stream .entry)) frame at from last r ⌝ }
 {
     let width = wide64(table[at + 1]);
     let order = order_of(table[at + 2]);
     let exponent = wide64(table[at + 3]);
     let found = find_bits(stream, frame, from, last, width, order, exponent);
     match table[at] {
-        kinds::BIT_ARRAY => bit_array(found, order),
-        kinds::BOOLEAN => boolean(found, order, table[at + 4]),
-        kinds::UNSIGNED => unsigned(found, order, table[at + 4], table[at + 5]),
-        kinds::SIGNED => signed(found, order, table[at + 4]),
-        _ => float(found, order),
+        kinds::BIT_ARRAY => bit_array(found, number, order),
+        kinds::BOOLEAN => boolean(found, number, order, table[at + 4]),
+        kinds::UNSIGNED => unsigned(found, number, order, table[at + 4], table[at + 5]),
+        kinds::SIGNED => signed(found, number, order, table[at + 4]),
+        _ => float(found, number, order),
     }
 }
 

@@ -72,30 +72,30 @@ module _ (b : List ℕ) {x : Found} {p : BitPlace} {n v : ℕ} (found : x ≡ At
   unfolding InStream
   found-within w = rw (byte) (rw (found) at w)
 
--- What is seen
+-- What is seen, of a record with the number m
 
-module _ (b u : List ℕ) (o : LastOrder) where
+module _ (m : ℕ) (b u : List ℕ) (o : LastOrder) where
   -- x is what was found, and t what the code says of its bytes, from q on
   module _ {x : Found} (p : BitPlace) (n v : ℕ) (found : x ≡ At n p v) {q : ByteLength} (byte : q ≡ byteLength (p .0 / 8)) {t : Bool}
       (told : t ≡ sameBytes (take v (drop (q .0) b)) u) where
     is : (y : Bool) → t ≡ y → sameBytes (take v (drop (p .0 / 8) b)) u ≡ y
     is y e = sym (rw (byte) at told) ∙ e
 
-    pub uuid-seen : t ≡ true → seen (At n p v) (plainSeen 25 o) ≡ seen x (uuidSeen b u o)
+    pub uuid-seen : t ≡ true → seen (At n p v) (plainSeen m 25 o) ≡ seen x (uuidSeen m b u o)
     unfolding seen uuidSeen
     uuid-seen e = rw (found, is true e, uuidSeen) refl
 
-    pub other-seen : t ≡ false → OtherUuid (entry 25 p n v) ≡ seen x (uuidSeen b u o)
+    pub other-seen : t ≡ false → OtherUuid (entry 25 p n v m) ≡ seen x (uuidSeen m b u o)
     unfolding seen uuidSeen
     other-seen e = rw (found, is false e, uuidSeen) refl
 
   -- by the role
-  pub role-seen : (r : ℕ) (x : Found) → r ≡ 4 → seen x (uuidSeen b u o) ≡ seen x (blobSeen b u r o)
+  pub role-seen : (r : ℕ) (x : Found) → r ≡ 4 → seen x (uuidSeen m b u o) ≡ seen x (blobSeen m b u r o)
   unfolding seen blobSeen
   role-seen r (At n p v) e = rw (eq-eqb r 4 e, blobSeen) refl
   role-seen r (Refused p w) e = refl
 
-  pub no-role-seen : (r : ℕ) (x : Found) → (r ≡ 4 → ⊥) → seen x (plainSeen 25 o) ≡ seen x (blobSeen b u r o)
+  pub no-role-seen : (r : ℕ) (x : Found) → (r ≡ 4 → ⊥) → seen x (plainSeen m 25 o) ≡ seen x (blobSeen m b u r o)
   unfolding seen blobSeen
   no-role-seen r (At n p v) h = rw (ne-eqb r 4 h, blobSeen) refl
   no-role-seen r (Refused p w) h = refl

@@ -17,8 +17,8 @@ ghost use Rattle.leaf_after.specs.Seeing.{seen, plainSeen, uuidSeen, blobSeen};
 ghost use Rattle.leaf_see_bytes.specs.InStream.{InStream};
 
 // A leaf of any of these kinds, without a role.
-pub fn plain(kind: u8, found: Found, last: LastOrder) -> Seen
-    ensures { λ r. ⌜ r ≡ seen found (plainSeen kind last) ⌝ }
+pub fn plain(kind: u8, found: Found, number: u64, last: LastOrder) -> Seen
+    ensures { λ r. ⌜ r ≡ seen found (plainSeen number kind last) ⌝ }
 {
     match found {
         Found::Refused { place, why } => Seen::Stops(Stop { why, place }),
@@ -28,6 +28,7 @@ pub fn plain(kind: u8, found: Found, last: LastOrder) -> Seen
                 place,
                 bits,
                 value,
+                number,
             },
             order: last,
             slot: NO_SLOT,
@@ -39,33 +40,41 @@ pub fn plain(kind: u8, found: Found, last: LastOrder) -> Seen
 }
 
 // Kind 25, which may have to be the trace class's UUID.
-pub fn static_blob(found: Found, role: u8, last: LastOrder, uuid: &[u8], stream: &[u8]) -> Seen
+pub fn static_blob(
+    found: Found,
+    number: u64,
+    role: u8,
+    last: LastOrder,
+    uuid: &[u8],
+    stream: &[u8],
+) -> Seen
     requires { ⌜ InStream (now stream) found ⌝ }
-    ensures { λ r. ⌜ r ≡ seen found (blobSeen (now (stream .entry)) (now (uuid .entry)) role last) ⌝ }
+    ensures { λ r. ⌜ r ≡ seen found (blobSeen number (now (stream .entry)) (now (uuid .entry)) role last) ⌝ }
 {
     if role == roles::UUID {
-        return uuid_blob(found, last, uuid, stream);
+        return uuid_blob(found, number, last, uuid, stream);
     }
-    plain(kinds::STATIC_BLOB, found, last)
+    plain(kinds::STATIC_BLOB, found, number, last)
 }
 
 // A BLOB whose bytes must be the UUID's.
-fn uuid_blob(found: Found, last: LastOrder, uuid: &[u8], stream: &[u8]) -> Seen
+fn uuid_blob(found: Found, number: u64, last: LastOrder, uuid: &[u8], stream: &[u8]) -> Seen
     requires { ⌜ InStream (now stream) found ⌝ }
-    ensures { λ r. ⌜ r ≡ seen found (uuidSeen (now (stream .entry)) (now (uuid .entry)) last) ⌝ }
+    ensures { λ r. ⌜ r ≡ seen found (uuidSeen number (now (stream .entry)) (now (uuid .entry)) last) ⌝ }
 {
     match found {
         Found::Refused { place, why } => Seen::Stops(Stop { why, place }),
         Found::At { place, bits, value } => {
             let at = places::bytes_before(place);
             if same(stream, at.0, value as usize, uuid) {
-                return plain(kinds::STATIC_BLOB, found, last);
+                return plain(kinds::STATIC_BLOB, found, number, last);
             }
             Seen::OtherUuid(Entry {
                 kind: kinds::STATIC_BLOB as u64,
                 place,
                 bits,
                 value,
+                number,
             })
         }
     }

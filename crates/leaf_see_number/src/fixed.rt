@@ -18,22 +18,22 @@ ghost use Rattle.leaf_after.specs.Seeing.{seen, fixedSeen, bitsSeen};
 ghost use Rattle.leaf_see_number.specs.Extends.{Extends};
 
 // Kind 16.
-pub fn bit_array(found: Found, order: Order) -> Seen
-    ensures { λ r. ⌜ r ≡ seen found (fixedSeen bitArray order noSlot 0) ⌝ }
+pub fn bit_array(found: Found, number: u64, order: Order) -> Seen
+    ensures { λ r. ⌜ r ≡ seen found (fixedSeen number bitArray order noSlot 0) ⌝ }
 {
-    see_bits(entries::BIT_ARRAY, found, order)
+    see_bits(entries::BIT_ARRAY, found, number, order)
 }
 
 // Kind 20.
-pub fn float(found: Found, order: Order) -> Seen
-    ensures { λ r. ⌜ r ≡ seen found (fixedSeen float order noSlot 0) ⌝ }
+pub fn float(found: Found, number: u64, order: Order) -> Seen
+    ensures { λ r. ⌜ r ≡ seen found (fixedSeen number float order noSlot 0) ⌝ }
 {
-    see_bits(entries::FLOAT, found, order)
+    see_bits(entries::FLOAT, found, number, order)
 }
 
 // "floats and bit arrays their bits as unsigned" (The list)
-fn see_bits(kind: u64, found: Found, order: Order) -> Seen
-    ensures { λ r. ⌜ r ≡ seen found (bitsSeen kind order) ⌝ }
+fn see_bits(kind: u64, found: Found, number: u64, order: Order) -> Seen
+    ensures { λ r. ⌜ r ≡ seen found (bitsSeen number kind order) ⌝ }
 {
     match found {
         Found::Refused { place, why } => Seen::Stops(Stop { why, place }),
@@ -43,6 +43,7 @@ fn see_bits(kind: u64, found: Found, order: Order) -> Seen
                 place,
                 bits,
                 value,
+                number,
             };
             Seen::Field(Due {
                 entry,
@@ -57,8 +58,8 @@ fn see_bits(kind: u64, found: Found, order: Order) -> Seen
 }
 
 // Kind 17: "0 or, with any bit set, 1" (The list)
-pub fn boolean(found: Found, order: Order, slot: u8) -> Seen
-    ensures { λ r. ⌜ r ≡ seen found (fixedSeen boolean order slot 0) ⌝ }
+pub fn boolean(found: Found, number: u64, order: Order, slot: u8) -> Seen
+    ensures { λ r. ⌜ r ≡ seen found (fixedSeen number boolean order slot 0) ⌝ }
 {
     match found {
         Found::Refused { place, why } => Seen::Stops(Stop { why, place }),
@@ -68,6 +69,7 @@ pub fn boolean(found: Found, order: Order, slot: u8) -> Seen
                 place,
                 bits,
                 value: one_or_none(value),
+                number,
             };
             Seen::Field(Due {
                 entry,
@@ -94,8 +96,8 @@ fn one_or_none(value: u64) -> u64
 }
 
 // Kind 18.
-pub fn unsigned(found: Found, order: Order, slot: u8, role: u8) -> Seen
-    ensures { λ r. ⌜ r ≡ seen found (fixedSeen unsignedInt order slot role) ⌝ }
+pub fn unsigned(found: Found, number: u64, order: Order, slot: u8, role: u8) -> Seen
+    ensures { λ r. ⌜ r ≡ seen found (fixedSeen number unsignedInt order slot role) ⌝ }
 {
     match found {
         Found::Refused { place, why } => Seen::Stops(Stop { why, place }),
@@ -105,6 +107,7 @@ pub fn unsigned(found: Found, order: Order, slot: u8, role: u8) -> Seen
                 place,
                 bits,
                 value,
+                number,
             };
             Seen::Field(Due {
                 entry,
@@ -119,23 +122,24 @@ pub fn unsigned(found: Found, order: Order, slot: u8, role: u8) -> Seen
 }
 
 // Kind 19: "two's complement in 64 bits" (The list)
-pub fn signed(found: Found, order: Order, slot: u8) -> Seen
+pub fn signed(found: Found, number: u64, order: Order, slot: u8) -> Seen
     requires { ⌜ Extends found ⌝ }
-    ensures { λ r. ⌜ r ≡ seen found (fixedSeen signedInt order slot 0) ⌝ }
+    ensures { λ r. ⌜ r ≡ seen found (fixedSeen number signedInt order slot 0) ⌝ }
 {
     match found {
         Found::Refused { place, why } => Seen::Stops(Stop { why, place }),
         Found::At {
             place,
             bits,
-            value: number,
+            value: read,
         } => {
-            let value = bits::sign_extend(number, bits);
+            let value = bits::sign_extend(read, bits);
             let entry = Entry {
                 kind: entries::SIGNED,
                 place,
                 bits,
                 value,
+                number,
             };
             Seen::Field(Due {
                 entry,

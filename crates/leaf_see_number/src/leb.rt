@@ -13,8 +13,8 @@ ghost use Rattle.rules.specs.declared.Content.the-variants.{Unsigned, Signed};
 ghost use Rattle.leaf_after.specs.Seeing.{seen, lebSeen};
 
 // Kind 21.
-pub fn unsigned_leb(found: Found, last: LastOrder, slot: u8, role: u8) -> Seen
-    ensures { λ r. ⌜ r ≡ seen found (lebSeen 21 Unsigned last slot role) ⌝ }
+pub fn unsigned_leb(found: Found, number: u64, last: LastOrder, slot: u8, role: u8) -> Seen
+    ensures { λ r. ⌜ r ≡ seen found (lebSeen number 21 Unsigned last slot role) ⌝ }
 {
     match found {
         Found::Refused { place, why } => Seen::Stops(Stop { why, place }),
@@ -24,6 +24,7 @@ pub fn unsigned_leb(found: Found, last: LastOrder, slot: u8, role: u8) -> Seen
                 place,
                 bits,
                 value,
+                number,
             };
             Seen::Field(Due {
                 entry,
@@ -38,8 +39,8 @@ pub fn unsigned_leb(found: Found, last: LastOrder, slot: u8, role: u8) -> Seen
 }
 
 // Kind 22.
-pub fn signed_leb(found: Found, last: LastOrder, slot: u8) -> Seen
-    ensures { λ r. ⌜ r ≡ seen found (lebSeen 22 Signed last slot 0) ⌝ }
+pub fn signed_leb(found: Found, number: u64, last: LastOrder, slot: u8) -> Seen
+    ensures { λ r. ⌜ r ≡ seen found (lebSeen number 22 Signed last slot 0) ⌝ }
 {
     match found {
         Found::Refused { place, why } => Seen::Stops(Stop { why, place }),
@@ -49,6 +50,7 @@ pub fn signed_leb(found: Found, last: LastOrder, slot: u8) -> Seen
                 place,
                 bits,
                 value,
+                number,
             };
             Seen::Field(Due {
                 entry,

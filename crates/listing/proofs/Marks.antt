@@ -21,7 +21,7 @@ pub check-on : (q : State → Bool) (r : Refusal) (m : Step) (s : State) → q s
 unfolding _⨾_ after
 check-on q r m s h = ap (λ o. after o m) (check-goes q r s h) ∙ onto-nil (m s)
 
-pub due-stop : (m : Step) (s : State) → s .room < 4 → (due ⨾ m) s ≡ stop [] (stopAt ListFull (s .place))
+pub due-stop : (m : Step) (s : State) → s .room < wordsPerEntry → (due ⨾ m) s ≡ stop [] (stopAt ListFull (s .place))
 unfolding refuse
 due-stop m s h = no-room-first m s h
 
@@ -29,7 +29,7 @@ due-stop m s h = no-room-first m s h
 abbrev pub less : State → State
 less s = record { place = s .place; room = s .room - wordsPerEntry; slots = s .slots; order = s .order; clock = s .clock; last = s .last; said = s .said }
 
-pub mark-on : (k n v : ℕ) (m : Step) (s : State) → (mark k n v ⨾ m) s ≡ onto (entry k (s .place) n v ∷ []) (m (less s))
+pub mark-on : (k n v : ℕ) (m : Step) (s : State) → (mark k n v ⨾ m) s ≡ onto (entry k (s .place) n v 0 ∷ []) (m (less s))
 unfolding _⨾_ after mark listed
 mark-on k n v m s = refl
 

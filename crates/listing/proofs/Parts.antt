@@ -18,6 +18,7 @@ use lib.ListN.{length, take, drop, length-append, length-drop, drop-of-length-le
 use lib.Seq.{take-at, drop-at, drop-drop, take-all}
 use Rattle.rules.specs.declared.Entry.{Entry}
 use Rattle.rules.specs.declared.Stop.{Stop}
+use Rattle.rules.specs.Limits.{wordsPerEntry}
 use Rattle.rules.specs.Slots.{Slots}
 use Rattle.rules.specs.Entry.{words}
 use Rattle.rules.specs.Step.{Out, stop, go, Step, onto, after, _⨾_}
@@ -32,7 +33,7 @@ use Rattle.listing.specs.Did.{Did, full, outOf}
 pub record Part (o : Out) (m : Step) (ws₀ ws : List ℕ) (used : ℕ) (st : Progress) (l : Slots) : Type 0 where
   pub listed : List Entry
   pub list : ws ≡ words listed ++ drop used ws₀
-  pub counted : used ≡ 4 * length listed
+  pub counted : used ≡ wordsPerEntry * length listed
   pub room : used ≤ length ws₀
   pub rest : o ≡ onto listed (m (full st l (length ws₀ - used)))
 
@@ -67,7 +68,7 @@ back W U ws₀ ws ys u n k e w y h =
 -- entries stand in ws, which was ws₀, and take `used` words
 pub record Listed (es : List Entry) (ws₀ ws : List ℕ) (used : ℕ) : Type 0 where
   pub list : ws ≡ words es ++ drop used ws₀
-  pub counted : used ≡ 4 * length es
+  pub counted : used ≡ wordsPerEntry * length es
   pub room : used ≤ length ws₀
 
 pub none-listed : (ws : List ℕ) → Listed [] ws ws 0
@@ -81,13 +82,14 @@ module _ {es : List Entry} {ws₀ ws : List ℕ} {used : ℕ} (h : Listed es ws�
       omega (arith, ap length (h .list), long, length-drop used ws₀, length-words es, h .counted, h .room)
 
   -- one more was written into what is lent behind them
-  pub one-more : (e : Entry) {ys : List ℕ} → used + 4 ≤ length ws₀ → ys ≡ words (e ∷ []) ++ drop 4 (lent used ws)
-      → Listed (es ++ (e ∷ [])) ws₀ (merged used ws ys) (used + 4)
+  pub one-more : (e : Entry) {ys : List ℕ} → used + wordsPerEntry ≤ length ws₀ → ys ≡ words (e ∷ []) ++ drop wordsPerEntry (lent used ws)
+      → Listed (es ++ (e ∷ [])) ws₀ (merged used ws ys) (used + wordsPerEntry)
   one-more e room is = record {
     list =
         let size = h .counted ∙ sym (length-words es) in
         let here = rw (lent-is used ws) at is in
-        rw (words-append) (back (words es) (words (e ∷ [])) ws₀ ws _ used 4 (length ws - used) (h .list) size here (omega arith));
+        rw (words-append)
+        (back (words es) (words (e ∷ [])) ws₀ ws _ used wordsPerEntry (length ws - used) (h .list) size here (omega arith));
     counted = omega (arith, h .counted, length-append es (e ∷ []));
     room = room;
   }
@@ -123,7 +125,7 @@ module _ (f : Step) {o : Out} {g : Step} {ws₀ ws : List ℕ} {used : ℕ} {st 
   back-list = rw (words-append)
       (back (words (p .listed)) (words (at-room .listed)) ws₀ ws ys used n (length ws - used) (p .list) (size p) (at-room .list) (omega arith))
 
-  back-counted : used + n ≡ 4 * length (p .listed ++ at-room .listed)
+  back-counted : used + n ≡ wordsPerEntry * length (p .listed ++ at-room .listed)
   back-counted = omega (arith, length-append (p .listed) (at-room .listed), at-room .counted, p .counted)
 
   pub back-room : used + n ≤ length ws₀

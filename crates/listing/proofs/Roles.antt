@@ -12,7 +12,7 @@ use borrow.Author.Tests.{lt-ltb, le-ltb}
 use Rattle.rules.specs.declared.Entry.{Entry}
 use Rattle.rules.specs.declared.Stop.{Stop}
 use Rattle.rules.specs.declared.Refusal.the-variants.{WrongMagic, ListFull, ClockTooLarge}
-use Rattle.rules.specs.Limits.{magicNumber}
+use Rattle.rules.specs.Limits.{magicNumber, wordsPerEntry}
 use Rattle.rules.specs.Class.{noRole, magic, streamClassId, totalLength, contentLength, clock, endClock, eventClassId}
 use Rattle.rules.specs.Clock.{clockAfter}
 use Rattle.rules.specs.Slots.{Slots}
@@ -35,11 +35,12 @@ use Rattle.listing.proofs.Checks.{check-stops, check-goes, room-first, 
 
 -- The clock by numbers: by the room, and by what the new one is
 
-pub advanced-full : (w v : ℕ) (c : Clock) (room : ℕ) → room < 4 → advancedBy w v c room ≡ heldAt ListFull c
+pub advanced-full : (w v : ℕ) (c : Clock) (room : ℕ) → room < wordsPerEntry → advancedBy w v c room ≡ heldAt ListFull c
 unfolding advancedBy
 advanced-full w v c room h = rw (lt-ltb _ _ h, advancedBy) refl
 
-pub advanced-room : (w v : ℕ) (c : Clock) (room : ℕ) → 4 ≤ room → advancedBy w v c room ≡ steppedTo (clockAfter (c .value) w v) c
+pub advanced-room : (w v : ℕ) (c : Clock) (room : ℕ) → wordsPerEntry ≤ room
+    → advancedBy w v c room ≡ steppedTo (clockAfter (c .value) w v) c
 unfolding advancedBy
 advanced-room w v c room h = rw (le-ltb _ _ h, advancedBy) refl
 
@@ -69,8 +70,9 @@ unfolding outOf words
 went-no-further o came l v ws e = record { listed = []; out = e; counted = refl; list = refl; room = omega arith; kept = λ w h. refl }
 
 -- it lists one entry and goes on
-pub went-listing : (o : Out) (came st : Progress) (l : Slots) (x : Entry) (ws ws′ : List ℕ) →
-    o ≡ go (x ∷ []) (full st l (length ws - 4)) → ws′ ≡ words (x ∷ []) ++ drop 4 ws → 4 ≤ length ws → Did o came On 4 st l ws ws′
+pub went-listing : (o : Out) (came st : Progress) (l : Slots) (x : Entry) (ws ws′ : List ℕ)
+    → o ≡ go (x ∷ []) (full st l (length ws - wordsPerEntry)) → ws′ ≡ words (x ∷ []) ++ drop wordsPerEntry ws → wordsPerEntry ≤ length ws
+    → Did o came On wordsPerEntry st l ws ws′
 unfolding outOf
 went-listing o came st l x ws ws′ e w h =
     record { listed = x ∷ []; out = e; counted = refl; list = w; room = h; kept = λ v h. let z : _≡_ {A = ℕ} 0 1 = cc in absurd (omega arith) }
@@ -142,25 +144,25 @@ module _ (w v : ℕ) (st : Progress) (ws : List ℕ) where
   abbrev AdvancedDid : Advanced → Type 0
   AdvancedDid a = RoleDid (role clock w v) st (advancedRole st a) ws (listAdvanced (st .place) w a ws)
 
-  advanced-none : length ws < 4 → AdvancedDid (heldAt ListFull (st .clock))
+  advanced-none : length ws < wordsPerEntry → AdvancedDid (heldAt ListFull (st .clock))
   unfolding role refuse advancedRole listAdvanced
   advanced-none h = record { at = λ l. went-no-further _ st l _ ws (no-room-first _ _ h) }
 
-  after-room : (l : Slots) (x : Option ℕ) → 4 ≤ length ws → clockAfter (st .clock .value) w v ≡ x
+  after-room : (l : Slots) (x : Option ℕ) → wordsPerEntry ≤ length ws → clockAfter (st .clock .value) w v ≡ x
       → role clock w v (full st l (length ws)) ≡ newClock w x (full st l (length ws))
   unfolding role
   after-room l x h is = room-first _ _ h ∙ ap (λ y. newClock w y (full st l (length ws))) is
 
-  advanced-some : 4 ≤ length ws → (x : Option ℕ) → clockAfter (st .clock .value) w v ≡ x → AdvancedDid (steppedTo x (st .clock))
+  advanced-some : wordsPerEntry ≤ length ws → (x : Option ℕ) → clockAfter (st .clock .value) w v ≡ x → AdvancedDid (steppedTo x (st .clock))
   unfolding newClock refuse _⨾_ after onto listed change withClock advancedRole listAdvanced steppedTo
   advanced-some h none is = record { at = λ l. went-no-further _ st l _ ws (after-room l none h is) }
   advanced-some h (some n) is = record { at = λ l. went-listing _ st _ l _ ws _ (after-room l (some n) h is) refl h }
 
   pub advanced-did : AdvancedDid (advancedBy w v (st .clock) (length ws))
   advanced-did = ⊎-elim
-      (λ (h : length ws < 4). rw (advanced-full w v (st .clock) (length ws) h) (advanced-none h))
-      (λ (h : 4 ≤ length ws). rw (advanced-room w v (st .clock) (length ws) h) (advanced-some h _ refl))
-      (lt-or-ge (length ws) 4)
+      (λ (h : length ws < wordsPerEntry). rw (advanced-full w v (st .clock) (length ws) h) (advanced-none h))
+      (λ (h : wordsPerEntry ≤ length ws). rw (advanced-room w v (st .clock) (length ws) h) (advanced-some h _ refl))
+      (lt-or-ge (length ws) wordsPerEntry)
 
   -- the same of what the code says, by whether it advanced
   module _ (a : Advanced) (ws′ : List ℕ) (e : a ≡ advancedBy w v (st .clock) (length ws)) (f : ws′ ≡ listAdvanced (st .place) w a ws) where
@@ -172,6 +174,6 @@ module _ (w v : ℕ) (st : Progress) (ws : List ℕ) where
     clock-held off = rw (off, advancedRole) at advanced-told
 
     pub clock-advanced : a .on ≡ true
-        → RoleDid (role clock w v) st (record { went = On; used = 4; state = tickedState st (a .clock) }) ws ws′
+        → RoleDid (role clock w v) st (record { went = On; used = wordsPerEntry; state = tickedState st (a .clock) }) ws ws′
     unfolding advancedRole
     clock-advanced on = rw (on, advancedRole) at advanced-told

@@ -6,6 +6,7 @@ use lib.ListN.{length, drop}
 use Rattle.rules.specs.declared.BitPlace.{BitPlace}
 use Rattle.rules.specs.declared.Entry.{Entry}
 use Rattle.rules.specs.declared.Stop.{Stop}
+use Rattle.rules.specs.Limits.{wordsPerEntry}
 use Rattle.rules.specs.Slots.{Slots}
 use Rattle.rules.specs.Entry.{words}
 use Rattle.rules.specs.Step.{State, Out, stop, go, Step}
@@ -39,7 +40,7 @@ outOf es (Stopped v) st l room = stop es v
 pub record Did (o : Out) (came : Progress) (went : Went) (used : ℕ) (st : Progress) (l : Slots) (ws ws′ : List ℕ) : Type 0 where
   pub listed : List Entry
   pub out : o ≡ outOf listed went st l (length ws - used)
-  pub counted : used ≡ 4 * length listed
+  pub counted : used ≡ wordsPerEntry * length listed
   pub list : ws′ ≡ words listed ++ drop used ws
   pub room : used ≤ length ws
   pub kept : (v : Stop) → went ≡ Stopped v → st ≡ came

@@ -13,7 +13,7 @@ use Rattle.rules.specs.declared.Said.{Said}
 use Rattle.rules.specs.declared.Stated.the-variants.{As}
 use Rattle.rules.specs.Clock.{clockAfter}
 use Rattle.rules.specs.Entry.{entry, words, clockAdvanced}
-use Rattle.rules.specs.Limits.{magicNumber}
+use Rattle.rules.specs.Limits.{magicNumber, wordsPerEntry}
 use Rattle.clock.specs.declared.Clock.{Clock}
 use Rattle.listing.specs.declared.Progress.{Progress}
 use Rattle.listing.specs.declared.Went.the-variants.{On, Stopped}
@@ -44,16 +44,17 @@ steppedTo none c = heldAt ClockTooLarge c
 steppedTo (some n) c = record { on = true; why = ClockTooLarge; clock = record { value = n } }
 
 unfoldable pub advancedBy : ℕ → ℕ → Clock → ℕ → Advanced
-advancedBy w v c room = elim (ltb room 4) [ true ↦ heldAt ListFull c | false ↦ steppedTo (clockAfter (c .value) w v) c ]
+advancedBy w v c room = elim (ltb room wordsPerEntry) [ true ↦ heldAt ListFull c | false ↦ steppedTo (clockAfter (c .value) w v) c ]
 
 -- the list behind it: entry 6, "place after the field, L, clock"
 unfoldable pub listAdvanced : BitPlace → ℕ → Advanced → List ℕ → List ℕ
-listAdvanced p w a ws = elim (a .on) [ true ↦ words (entry clockAdvanced p w (a .clock .value) ∷ []) ++ drop 4 ws | false ↦ ws ]
+listAdvanced p w a ws =
+    elim (a .on) [ true ↦ words (entry clockAdvanced p w (a .clock .value) 0 ∷ []) ++ drop wordsPerEntry ws | false ↦ ws ]
 
 -- the same with a state
 unfoldable pub advancedRole : Progress → Advanced → Roled
 advancedRole st a =
-    elim (a .on) [ true ↦ record { went = On; used = 4; state = tickedState st (a .clock) } | false ↦ stoppedDone (a .why) st ]
+    elim (a .on) [ true ↦ record { went = On; used = wordsPerEntry; state = tickedState st (a .clock) } | false ↦ stoppedDone (a .why) st ]
 
 -- what each role says, as the rules change it
 abbrev pub withStream : ℕ → Said → Said

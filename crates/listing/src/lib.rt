@@ -1,5 +1,5 @@
-// What a step of a reading lists, and the state that it hands on. In order: entry, the one place where the list is written; role, what a
-// role does with a number; the state, which may move to a place.
+// What a step of a reading lists, and the state that it hands on. In order: entry, the one place where room is asked for and the list is
+// written; role, what a role does with a number; the state, which may move to a place.
 use clock::Clock;
 use rules::BitPlace;
 use rules::LastOrder;

@@ -71,7 +71,7 @@ pub fn advance(place: BitPlace, width: u64, value: u64, clock: Clock, list: &mut
         (r ≡ advancedBy width value clock (length (now (list .entry)))) × (now (list .exit) ≡ listAdvanced place width r (now (list .entry)))
         ⌝ }
 {
-    if list.len() < 4 {
+    if entry::is_full(list.len()) {
         return held(Refusal::ListFull, clock);
     }
     match clock.after(value, width) {
@@ -84,6 +84,7 @@ pub fn advance(place: BitPlace, width: u64, value: u64, clock: Clock, list: &mut
                     place,
                     bits: width,
                     value: next.value,
+                    number: 0,
                 },
             );
             Advanced {
@@ -119,7 +120,7 @@ fn tick(width: u64, value: u64, st: Progress, list: &mut [u64]) -> Roled
     let clock = a.clock;
     Roled {
         went: Went::On,
-        used: 4,
+        used: limits::WORDS_PER_ENTRY,
         state: with_clock(st, clock),
     }
 }

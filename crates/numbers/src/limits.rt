@@ -1,4 +1,4 @@
-// The papers' limits on a table and on a stream, the numbers that stand for none, and the magic number.
+// The papers' limits on a table and on a stream, the numbers that stand for none, the words of an entry, and the magic number.
 
 // "empty, or over 65,536 bytes" (Refusing a table)
 pub const TABLE_LIMIT: usize = 65_536;
@@ -45,6 +45,9 @@ pub const STREAM_LIMIT: usize = 536_870_911;
 
 // "A length needs an unsigned number", of 65,535 at most (28)
 pub const LENGTH_LIMIT: u64 = 65_535;
+
+// "Lent 64-bit words, four an entry" (The list); "Each entry grows to five words" (02, 7)
+pub const WORDS_PER_ENTRY: usize = 5;
 
 // "validate that V is 0xc1fc1fc1" (000 6.1)
 pub const MAGIC_NUMBER: u64 = 0xC1FC_1FC1;

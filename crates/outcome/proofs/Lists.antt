@@ -6,6 +6,7 @@ use native.Mathlib.Omega.{arith}
 use lib.ListN.{length, drop}
 use Rattle.rules.specs.declared.Entry.{Entry}
 use Rattle.rules.specs.declared.Stop.{Stop}
+use Rattle.rules.specs.Limits.{wordsPerEntry}
 use Rattle.rules.specs.Slots.{Slots}
 use Rattle.rules.specs.Entry.{words}
 use Rattle.rules.specs.Step.{Out, stop, Step, onto, after, _⨾_}
@@ -24,8 +25,9 @@ refused-ran o st l ws v e =
     record { slots = l; did = record { listed = []; out = e; counted = refl; list = refl; room = omega arith; kept = λ w h. refl } }
 
 -- one entry was written
-pub marked-part : (o : Out) (x : Entry) (f : Step) {ws ws₁ : List ℕ} {st : Progress} {l : Slots} → 4 ≤ length ws → ws₁ ≡ words (x ∷ []) ++ drop 4 ws
-    → o ≡ onto (x ∷ []) (f (full st l (length ws - 4))) → Part o f ws ws₁ 4 st l
+pub marked-part : (o : Out) (x : Entry) (f : Step) {ws ws₁ : List ℕ} {st : Progress} {l : Slots} → wordsPerEntry ≤ length ws
+    → ws₁ ≡ words (x ∷ []) ++ drop wordsPerEntry ws
+    → o ≡ onto (x ∷ []) (f (full st l (length ws - wordsPerEntry))) → Part o f ws ws₁ wordsPerEntry st l
 marked-part o x f h w e = record { listed = x ∷ []; list = w; counted = refl; room = h; rest = e }
 
 -- the rest may be said otherwise

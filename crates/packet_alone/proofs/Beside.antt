@@ -27,7 +27,7 @@ use Rattle.rules.specs.Step.{State, Out, stop, go, Step, onto, after, _⨾_, re
 use Rattle.rules.specs.Table.{StreamClass, EventClass, Asked}
 use Rattle.rules.specs.Field.{Env}
 use Rattle.rules.specs.Packet.{mark, readRoot, withEvent, startEvent, readEvent, endPacket, readEvents, orElse, above, readContent}
-use Rattle.rules.specs.Packet.{withStream, differs, startPacket, readPacket}
+use Rattle.rules.specs.Packet.{withStream, differs, startPacket, readPacket, firstRoot, headerNumber, commonNumber, payloadNumber}
 use Rattle.facts.proofs.Steps.{onto-nil, after-onto}
 use Rattle.laws.specs.Between.{Between}
 use Rattle.laws.proofs.Triple.{Ok, changing, checks, refusing}
@@ -123,26 +123,29 @@ module _ (e e′ : Env) (y : Like e e′) where
     held′ = λ q. record { at = λ s a. g′ s q .at s a };
   }
 
-  pub root : (c : Option _) → Alike (readRoot e c) (readRoot e′ c)
-  root c = pair-root e e′ y same c
+  pub root : (m : ℕ) (c : Option _) → Alike (readRoot e m c) (readRoot e′ m c)
+  root m c = pair-root e e′ y same m c
 
   -- an event
   module _ (t : Asked) (c : StreamClass) (n : ℕ) where
     abbrev pub inside : Env → ℕ → EventClass → Step
-    inside x j d = mark eventClassFound 0 j ⨾ readRoot x (c .common) ⨾ readRoot x (d .specific) ⨾ readRoot x (d .payload)
+    inside x j d = mark eventClassFound 0 j ⨾ readRoot x (commonNumber c) (c .common) ⨾ readRoot x firstRoot (d .specific)
+        ⨾ readRoot x (payloadNumber d) (d .payload)
 
     abbrev pub found : Env → State → Step
     found x s = withEvent (c .id) (s .said .event) (t .event (c .id) (s .said .event)) (inside x (s .said .event))
 
     abbrev pub body : Env → State → Step
-    body x s₀ = due ⨾ mark eventStarts 0 n ⨾ change startEvent ⨾ readRoot x (c .header)
+    body x s₀ = due ⨾ mark eventStarts 0 n ⨾ change startEvent ⨾ readRoot x (headerNumber c) (c .header)
         ⨾ check (λ s. c .timed && ltb (s .clock) (s .last)) ClockWentBack
         ⨾ change (λ s. withLast (s .clock) s) ⨾ due ⨾ (λ s. found x s s) ⨾ check (λ s. eqb (s .place .0) (s₀ .place .0)) EventTookNoBits
 
     by-class : (i j k : ℕ) (o : Option EventClass) → Alike (withEvent i j o (inside e k)) (withEvent i j o (inside e′ k))
     unfolding withEvent
     by-class i j k none = pair-refuse (EventClassUnknown i j)
-    by-class i j k (some d) = pair-mark eventClassFound 0 k ⨾ᵖ root (c .common) ⨾ᵖ root (d .specific) ⨾ᵖ root (d .payload)
+    by-class i j k (some d) =
+        pair-mark eventClassFound 0 k ⨾ᵖ root (commonNumber c) (c .common) ⨾ᵖ root firstRoot (d .specific)
+        ⨾ᵖ root (payloadNumber d) (d .payload)
 
     pub pair-found : Alike (λ s. found e s s) (λ s. found e′ s s)
     unfolding far
@@ -172,11 +175,11 @@ module _ (e e′ : Env) (y : Like e e′) where
         (λ s b. eqb-away (e .start .0) (e′ .start .0) (s .place .0) (s₀ .place .0) (b .0) (b₀ .0))
 
     whole : (s₀ : State) → Between e (s₀ .place .0) → Alike (body e s₀) (body e′ (far′ s₀))
-    whole s₀ b₀ = pair-due ⨾ᵖ pair-mark eventStarts 0 n ⨾ᵖ pair-starts ⨾ᵖ root (c .header) ⨾ᵖ pair-back ⨾ᵖ pair-last ⨾ᵖ pair-due
-        ⨾ᵖ pair-found ⨾ᵖ pair-moved s₀ b₀
+    whole s₀ b₀ = pair-due ⨾ᵖ pair-mark eventStarts 0 n ⨾ᵖ pair-starts ⨾ᵖ root (headerNumber c) (c .header) ⨾ᵖ pair-back
+        ⨾ᵖ pair-last ⨾ᵖ pair-due ⨾ᵖ pair-found ⨾ᵖ pair-moved s₀ b₀
 
     -- it stays in the packet
-    holds : (x : Env) (h : (o : Option _) (q : ℕ) → Holding x (λ p d. q ≤ p) (readRoot x o)) (f : (q : ℕ)
+    holds : (x : Env) (h : (m : ℕ) (o : Option _) (q : ℕ) → Holding x (λ p d. q ≤ p) (readRoot x m o)) (f : (q : ℕ)
         → Holding x (λ p d. q ≤ p) (λ s. found x s s)) (s₀ : State) (q : ℕ) → Holding x (λ p d. q ≤ p) (body x s₀)
     unfolding due
     holds x h f s₀ q =
@@ -185,14 +188,14 @@ module _ (e e′ : Env) (y : Like e e′) where
         let lasts : Holding x (λ p d. q ≤ p) (change (λ s. withLast (s .clock) s)) =
         held-change x q (λ s. withLast (s .clock) s) (λ s. unfold withLast in refl) in
         g .seq full (g .seq (held-here x q eventStarts 0 n)
-        (g .seq (held-change x q startEvent (λ s. unfold startEvent in refl)) (g .seq (h (c .header) q)
+        (g .seq (held-change x q startEvent (λ s. unfold startEvent in refl)) (g .seq (h (headerNumber c) (c .header) q)
         (g .seq (held-check x q (λ s. c .timed && ltb (s .clock) (s .last)) ClockWentBack)
         (g .seq lasts (g .seq full (g .seq (f q) (held-check x q (λ s. eqb (s .place .0) (s₀ .place .0)) EventTookNoBits))))))))
 
     pub pair-event : Alike (readEvent t c e n) (readEvent t c e′ n)
     unfolding readEvent
-    pair-event = pair-look (body e) (body e′) (λ s b. whole s b) (λ s q. holds e (λ o q. root o .held q) (pair-found .held) s q)
-        (λ s q. holds e′ (λ o q. root o .held′ q) (pair-found .held′) s q)
+    pair-event = pair-look (body e) (body e′) (λ s b. whole s b) (λ s q. holds e (λ m o q. root m o .held q) (pair-found .held) s q)
+        (λ s q. holds e′ (λ m o q. root m o .held′ q) (pair-found .held′) s q)
 
   -- the packet's end: "Entry 7; the place becomes P plus total"
   pub end-same : (l : ℕ → ℕ) (to n : ℕ) (s : State) → Between e (s .place .0) → e .start .0 ≤ to
@@ -201,7 +204,7 @@ module _ (e e′ : Env) (y : Like e e′) where
   end-same l to n s b h = exact-after (ltb (s .room) wordsPerEntry) _ _ last
     where
       out : ℕ → Out
-      out d = go (entry packetEnds (bitPlace (away e e′ to)) d n ∷ []) (record {
+      out d = go (entry packetEnds (bitPlace (away e e′ to)) d n 0 ∷ []) (record {
         place = bitPlace (away e e′ to);
         room = s .room - wordsPerEntry;
         slots = s .slots;
@@ -211,9 +214,9 @@ module _ (e e′ : Env) (y : Like e e′) where
         said = s .said;
       })
 
-      last : listed (entry packetEnds (bitPlace (away e e′ to)) (away e e′ to - (far e e′ l s) .place .0) n) (bitPlace (away e e′ to))
+      last : listed (entry packetEnds (bitPlace (away e e′ to)) (away e e′ to - (far e e′ l s) .place .0) n 0) (bitPlace (away e e′ to))
           (far e e′ l s)
-          ≡ farOut e e′ l (listed (entry packetEnds (bitPlace to) (to - s .place .0) n) (bitPlace to) s)
+          ≡ farOut e e′ l (listed (entry packetEnds (bitPlace to) (to - s .place .0) n 0) (bitPlace to) s)
       last = unfold listed farOut farAll farEntry far in
           let p : away e e′ to - away e e′ (s .place .0) ≡ to - s .place .0 = omega (arith, b .0) in ap out p
 
@@ -284,7 +287,7 @@ module _ (e e′ : Env) (y : Like e e′) where
 end-place : (to : BitPlace) (n : ℕ) (s : State) (fs : List Entry) (u : State) → endPacket to n s ≡ go fs u → u .place ≡ to
 unfolding endPacket due listed
 end-place to n s fs u q =
-    let g : listed (entry packetEnds to (to .0 - s .place .0) n) to s ≡ go fs u = through _ ListFull _ s fs u q in
+    let g : listed (entry packetEnds to (to .0 - s .place .0) n 0) to s ≡ go fs u = through _ ListFull _ s fs u q in
     let z : record {
       place = to;
       room = s .room - wordsPerEntry;
@@ -359,7 +362,7 @@ module _ (t : Asked) (b b′ : List ℕ) (p p′ : BitPlace) where
     unfolding farAll farEntry
     entries-same x x′ z z′ [] = refl
     entries-same x x′ z z′ (e ∷ es) =
-        ap (λ l. entry (e .kind) (bitPlace (p′ .0 + (e .place .0 - p .0))) (e .bits) (e .value) ∷ l) (entries-same x x′ z z′ es)
+        ap (λ l. entry (e .kind) (bitPlace (p′ .0 + (e .place .0 - p .0))) (e .bits) (e .value) (e .number) ∷ l) (entries-same x x′ z z′ es)
 
     out-same : (x x′ z z′ : ℕ) (o : Out) → farOut (upTo t b p x) (upTo t b′ p′ x′) same o ≡ farOut (upTo t b p z) (upTo t b′ p′ z′) same o
     unfolding farOut far
@@ -419,7 +422,7 @@ module _ (t : Asked) (b b′ : List ℕ) (p p′ : BitPlace) where
           by : after (farOut e₀ e₁ same (mark lengthsSettled total content s)) events′
               ≡ farOut e₀ e₁ same (after (mark lengthsSettled total content s) events)
           by = unfold mark listed after farOut in
-              ap (onto (farAll e₀ e₁ (entry lengthsSettled (s .place) total content ∷ [])))
+              ap (onto (farAll e₀ e₁ (entry lengthsSettled (s .place) total content 0 ∷ [])))
               (events-same (record {
                 place = s .place;
                 room = s .room - wordsPerEntry;
@@ -430,7 +433,7 @@ module _ (t : Asked) (b b′ : List ℕ) (p p′ : BitPlace) where
                 last = s .last;
                 said = s .said;
               }) f g h)
-              ∙ far-onto e₀ e₁ same (entry lengthsSettled (s .place) total content ∷ []) _
+              ∙ far-onto e₀ e₁ same (entry lengthsSettled (s .place) total content 0 ∷ []) _
 
       rel-behind : (s : State) → p .0 ≤ s .place .0 → s .place .0 ≤ p .0 + content → p .0 + content ≤ 8 * length b
           → Rel e₀ e₁ same (behind s) (behind′ (F₀ s))
@@ -443,7 +446,7 @@ module _ (t : Asked) (b b′ : List ℕ) (p p′ : BitPlace) where
       behind-end s fs x q =
           let g : (mark lengthsSettled total content ⨾ events′) s ≡ go fs x =
           through (λ s. above (s .clock) (s .said .ending)) ClocksContradict (mark lengthsSettled total content ⨾ events′) s fs x q in
-          let k = onto-go (entry lengthsSettled (s .place) total content ∷ []) _ fs x g in
+          let k = onto-go (entry lengthsSettled (s .place) total content 0 ∷ []) _ fs x g in
           let z : x .place ≡ further p′ total = events-end t c (upTo t b′ p′ (p′ .0 + content)) (further p′ total) 0 _ _ (k .0) x (k .1) in
           ap (λ w. w .0) z
 
@@ -642,7 +645,7 @@ module _ (t : Asked) (b b′ : List ℕ) (p p′ : BitPlace) where
         → Tail (withStream i o (ofClass t b p rest j)) (withStream i o (ofClass t b′ p′ rest j))
     unfolding withStream
     by-stream rest i j none = tail-refuse (StreamClassUnknown i)
-    by-stream rest i j (some c) = pair-mark e₀ e₁ y streamClassFound 0 j ⨾ᵗ root e₀ e₁ y (c .context) ⨾ᵗ tail-content rest c
+    by-stream rest i j (some c) = pair-mark e₀ e₁ y streamClassFound 0 j ⨾ᵗ root e₀ e₁ y firstRoot (c .context) ⨾ᵗ tail-content rest c
 
     tail-stream : (rest : ℕ) → Tail (λ s. ofStream t b p rest s s) (λ s. ofStream t b′ p′ rest s s)
     tail-stream rest = record {
@@ -665,7 +668,7 @@ module _ (t : Asked) (b b′ : List ℕ) (p p′ : BitPlace) where
 
     -- THE LAW: a packet in one stream beside the same bytes in another
     pub tail-packet : (rest : ℕ) (i : Stated) → Tail (packet t b p rest i) (packet t b′ p′ rest i)
-    tail-packet rest i = pair-begin ⨾ᵗ root e₀ e₁ y (t .header) ⨾ᵗ pair-class i ⨾ᵗ pair-due e₀ e₁ y ⨾ᵗ tail-stream rest
+    tail-packet rest i = pair-begin ⨾ᵗ root e₀ e₁ y firstRoot (t .header) ⨾ᵗ pair-class i ⨾ᵗ pair-due e₀ e₁ y ⨾ᵗ tail-stream rest
 
 -- `readPacket` is entry 1, and then the law's step
 pub packet-is : (t : Asked) (b : List ℕ) (k : ℕ) (i : Stated) (s : State)

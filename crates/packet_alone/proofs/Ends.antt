@@ -27,7 +27,8 @@ use Rattle.rules.specs.Class.{Class}
 use Rattle.rules.specs.Table.{StreamClass, EventClass, Asked}
 use Rattle.rules.specs.Field.{Env, field, store, say, fromSlot}
 use Rattle.rules.specs.Packet.{mark, readRoot, withEvent, startEvent, readEvent, endPacket, readEvents, orElse, differs, startPacket}
-use Rattle.laws.proofs.Law.{Any}
+use Rattle.rules.specs.Packet.{firstRoot, headerNumber, commonNumber, payloadNumber}
+use Rattle.laws.proofs.Law.{Any, AnyRecord}
 use Rattle.laws.proofs.Simple.{view, Simple, simple-root}
 use Rattle.laws.proofs.Triple.{Ok, Triple, then, passing, changing, refusing, refusing-at, checks, tested, untested, untested-at, dued}
 use Rattle.packet_alone.specs.Behind.{toEnd, upTo, less, totalOf, contentOf}
@@ -68,7 +69,7 @@ module _ (A : ℕ → Type 0) where
   stops-last : (r : Refusal) → AnyRefusal r → (s : State) → OfLast s → AnyStop (stopAt r (s .place))
   stops-last r i s h = tt
 
-  last-simple : (e : Env) → Simple e Any (Stays OfLast) (Stays OfLast)
+  last-simple : (e : Env) → Simple e AnyRecord Any (Stays OfLast) (Stays OfLast)
   unfolding refuseAt fromSlot field listed store say withSlots withOrder withClock withSaid
   last-simple e = record {
     seq = λ a b. then AnyEntry AnyStop AnyRefusal a b;
@@ -85,7 +86,7 @@ module _ (A : ℕ → Type 0) where
     looks = λ f a. record { at = λ s h. a (view s) .at s h };
     looksʳ = λ f a. record { at = λ s h. a (view s) .at s h };
     slots = λ i f a. record { at = λ s h. a (slotAt (s .slots) i) .at s h };
-    fields = λ k a n v g l. record { at = λ s h. ((tt, tt), h) };
+    fields = λ m k a n v g z l. record { at = λ s h. ((tt, tt), h) };
     clocked = λ l c. record { at = λ s h. ((tt, tt), h) };
     stores = λ i x w. changing AnyEntry AnyStop AnyRefusal _ (λ s h. h);
     orders = λ o. changing AnyEntry AnyStop AnyRefusal _ (λ s h. h);
@@ -93,8 +94,8 @@ module _ (A : ℕ → Type 0) where
     says = λ f. changing AnyEntry AnyStop AnyRefusal _ (λ s h. h);
   }
 
-  root-last : (e : Env) (c : Option Class) → Stays OfLast (readRoot e c)
-  root-last e c = simple-root e (last-simple e) c
+  root-last : (e : Env) (m : ℕ) (c : Option Class) → Stays OfLast (readRoot e m c)
+  root-last e m c = simple-root e (last-simple e) m c
 
 -- Events
 
@@ -123,8 +124,8 @@ module _ (t : Asked) (only : HeaderOnly t) (c : StreamClass) (i : ℕ) (found : 
   unfolding mark listed
   mark-fine k n w = record { at = λ s h. ((tt, tt), h) }
 
-  root-fine : (e : Env) (r : Option Class) → OtherRoot r → Keeps (readRoot e r)
-  root-fine e r w = stays-both (keeps-root j e r w) (root-last NotBefore e r)
+  root-fine : (e : Env) (m : ℕ) (r : Option Class) → OtherRoot r → Keeps (readRoot e m r)
+  root-fine e m r w = stays-both (keeps-root j e m r w) (root-last NotBefore e m r)
 
   abbrev back : State → Bool
   back s = c .timed && ltb (s .clock) (s .last)
@@ -141,14 +142,14 @@ module _ (t : Asked) (only : HeaderOnly t) (c : StreamClass) (i : ℕ) (found : 
       (changing AnyEntry AnyStop AnyRefusal _ (λ s x. (x .0 .0, above (c .timed) (s .clock) (s .last) (x .1) (x .0 .1)))) h)
 
   class-fine : (e : Env) (k l : ℕ) (x : Option EventClass) → t .event k l ≡ x
-      → Keeps (withEvent k l x (λ d. mark eventClassFound 0 l ⨾ readRoot e (c .common) ⨾ readRoot e (d .specific)
-      ⨾ readRoot e (d .payload)))
+      → Keeps (withEvent k l x (λ d. mark eventClassFound 0 l ⨾ readRoot e (commonNumber c) (c .common) ⨾ readRoot e firstRoot (d .specific)
+      ⨾ readRoot e (payloadNumber d) (d .payload)))
   unfolding withEvent
   class-fine e k l none q = refusing AnyEntry AnyStop AnyRefusal stops (EventClassUnknown k l) tt
   class-fine e k l (some d) q =
-      mark-fine eventClassFound 0 l ⨾ᶠ root-fine e (c .common) (only .common i c found)
-      ⨾ᶠ root-fine e (d .specific) (only .specific k l d q)
-      ⨾ᶠ root-fine e (d .payload) (only .payload k l d q)
+      mark-fine eventClassFound 0 l ⨾ᶠ root-fine e (commonNumber c) (c .common) (only .common i c found)
+      ⨾ᶠ root-fine e firstRoot (d .specific) (only .specific k l d q)
+      ⨾ᶠ root-fine e (payloadNumber d) (d .payload) (only .payload k l d q)
 
   start-fine : Keeps (change startEvent)
   unfolding startEvent
@@ -158,7 +159,7 @@ module _ (t : Asked) (only : HeaderOnly t) (c : StreamClass) (i : ℕ) (found : 
   unfolding readEvent
   event-fine e n = record {
     at = λ s₀ h.
-        due-fine (mark-fine eventStarts 0 n ⨾ᶠ start-fine ⨾ᶠ root-fine e (c .header) (only .header i c found)
+        due-fine (mark-fine eventStarts 0 n ⨾ᶠ start-fine ⨾ᶠ root-fine e (headerNumber c) (c .header) (only .header i c found)
         ⨾ᶠ back-fine (due-fine (record {
           at = λ s h. class-fine e (c .id) (s .said .event) (t .event (c .id) (s .said .event)) refl .at s h;
         } ⨾ᶠ checks AnyEntry AnyStop AnyRefusal stops (λ s. eqb (s .place .0) (s₀ .place .0)) EventTookNoBits tt))) .at s₀ h;
@@ -194,12 +195,12 @@ module _ (t : Asked) (b : List ℕ) (p : BitPlace) (rest : ℕ) (i : Stated) (s 
 
     header-last : NoEarlier (r .s₁ .last)
     unfolding startPacket
-    header-last = at-end (root-last NoEarlier (toEnd t b p) (t .header)) (startPacket s) (r .es₁) (r .s₁) (r .header)
+    header-last = at-end (root-last NoEarlier (toEnd t b p) firstRoot (t .header)) (startPacket s) (r .es₁) (r .s₁) (r .header)
         (λ q. le-refl (s .last))
 
     context-fine : Fine t only (r .c) (r .s₁ .said .stream) (r .found) (r .s₁ .said .stream) (s .last) (r .s₂)
     context-fine = at-end
-        (root-fine t only (r .c) (r .s₁ .said .stream) (r .found) (r .s₁ .said .stream) (s .last) (toEnd t b p) (r .c .context)
+        (root-fine t only (r .c) (r .s₁ .said .stream) (r .found) (r .s₁ .said .stream) (s .last) (toEnd t b p) firstRoot (r .c .context)
         (only .context (r .s₁ .said .stream) (r .c) (r .found))) (less (r .s₁)) (r .es₂) (r .s₂) (r .context) (refl, header-last)
 
     whole-fine : Fine t only (r .c) (r .s₁ .said .stream) (r .found) (r .s₁ .said .stream) (s .last) u

@@ -17,7 +17,7 @@ use Rattle.rules.specs.Entry.{eventStarts}
 use Rattle.rules.specs.Step.{State, Out, stop, go, Step, _⨾_, check, due, listed, change, withLast}
 use Rattle.rules.specs.Table.{StreamClass, Asked}
 use Rattle.rules.specs.Field.{Env}
-use Rattle.rules.specs.Packet.{mark, startEvent, readEvent, endPacket, readEvents}
+use Rattle.rules.specs.Packet.{mark, startEvent, readEvent, endPacket, readEvents, headerNumber}
 use Rattle.laws.specs.Between.{Between}
 use Rattle.laws.proofs.Triple.{Ok}
 use Rattle.laws.proofs.Between.{Held, In, At, NoMore, Holding}
@@ -141,7 +141,8 @@ module _ (e e′ : Env) (y : Like e e′) (l : ℕ → ℕ) where
     lowers-event t n s es u b q = whole .at s es u b q
       where
         whole : Lowers (body e e′ y t c n e s) (body e e′ y t c n e′ (settled s))
-        whole = lowers-seq low-due (lowers-seq (low-mark eventStarts 0 n) (lowers-seq low-start (lowers-seq (pair-root e e′ y l (c .header))
+        whole = lowers-seq low-due (lowers-seq (low-mark eventStarts 0 n) (lowers-seq low-start
+            (lowers-seq (pair-root e e′ y l (headerNumber c) (c .header))
             (lowers-back (_⨾ᵖ_ e e′ y (pair-due e e′ y) (_⨾ᵖ_ e e′ y (pair-found e e′ y t c n) (pair-moved e e′ y t c n s b)))))))
 
 -- all events, where the bounds are as far: the last clock is as low as it was, or the last event's own

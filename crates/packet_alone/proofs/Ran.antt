@@ -16,7 +16,7 @@ use Rattle.rules.specs.Limits.{wordsPerEntry}
 use Rattle.rules.specs.Entry.{entry, packetStarts, streamClassFound, lengthsSettled}
 use Rattle.rules.specs.Step.{State, go, Step, _⨾_, refuse, check, due}
 use Rattle.rules.specs.Table.{StreamClass, Asked}
-use Rattle.rules.specs.Packet.{mark, readRoot, above, readContent, withStream, differs, startPacket, readPacket}
+use Rattle.rules.specs.Packet.{mark, readRoot, firstRoot, above, readContent, withStream, differs, startPacket, readPacket}
 use Rattle.packet_alone.specs.Behind.{toEnd, less, totalOf, contentOf, contradict, eventsOf, contentStep, ofClass, ofStream, packet}
 use Rattle.laws.proofs.Pair.{through}
 use Rattle.packet_alone.proofs.Through.{Split, split, join, passed, pass-check, do-change, has-room, past-due, pass-due, marked}
@@ -31,13 +31,13 @@ pub record RanContent (t : Asked) (c : StreamClass) (b : List ℕ) (p : BitPlace
   pub clocks : above (s .clock) (s .said .ending) ≡ false
   pub rest : List Entry
   pub events : eventsOf t c b p total content (less s) ≡ go rest u
-  pub list : es ≡ entry lengthsSettled (s .place) total content ∷ rest
+  pub list : es ≡ entry lengthsSettled (s .place) total content 0 ∷ rest
 
 pub record Ran (t : Asked) (b : List ℕ) (p : BitPlace) (rest : ℕ) (i : Stated) (s : State) (es : List Entry) (u : State) : Type 0 where
   -- the header
   pub es₁ : List Entry
   pub s₁ : State
-  pub header : readRoot (toEnd t b p) (t .header) (startPacket s) ≡ go es₁ s₁
+  pub header : readRoot (toEnd t b p) firstRoot (t .header) (startPacket s) ≡ go es₁ s₁
   -- the class
   pub same : differs (s₁ .said .stream) i ≡ false
   pub room : ltb (s₁ .room) wordsPerEntry ≡ false
@@ -46,11 +46,11 @@ pub record Ran (t : Asked) (b : List ℕ) (p : BitPlace) (rest : ℕ) (i : State
   -- the context
   pub es₂ : List Entry
   pub s₂ : State
-  pub context : readRoot (toEnd t b p) (c .context) (less s₁) ≡ go es₂ s₂
+  pub context : readRoot (toEnd t b p) firstRoot (c .context) (less s₁) ≡ go es₂ s₂
   -- the content
   pub es₃ : List Entry
   pub content : RanContent t c b p (totalOf rest s₂) (contentOf rest s₂) s₂ es₃ u
-  pub list : es ≡ es₁ ++ (entry streamClassFound (s₁ .place) 0 (s₁ .said .stream) ∷ (es₂ ++ es₃))
+  pub list : es ≡ es₁ ++ (entry streamClassFound (s₁ .place) 0 (s₁ .said .stream) 0 ∷ (es₂ ++ es₃))
 
 in-order : (es₁ fs gs es₂ es₃ es : List Entry) (x : Entry) → es ≡ es₁ ++ fs → fs ≡ x ∷ gs → gs ≡ es₂ ++ es₃ → es ≡ es₁ ++ (x ∷ (es₂ ++ es₃))
 in-order es₁ fs gs es₂ es₃ es x p q r = p ∙ ap (λ l. es₁ ++ l) (q ∙ ap (λ l. x ∷ l) r)
@@ -108,10 +108,10 @@ module _ (t : Asked) (b : List ℕ) (p : BitPlace) where
     compared = check differing StreamClassChanged ⨾ due ⨾ streamed
 
     abbrev pub headed : Step
-    headed = readRoot (toEnd t b p) (t .header) ⨾ compared
+    headed = readRoot (toEnd t b p) firstRoot (t .header) ⨾ compared
 
     abbrev behind : StreamClass → Step
-    behind c = readRoot (toEnd t b p) (c .context) ⨾ contentStep t b p rest c
+    behind c = readRoot (toEnd t b p) firstRoot (c .context) ⨾ contentStep t b p rest c
 
     pub ran : (s : State) (es : List Entry) (u : State) → packet t b p rest i s ≡ go es u → Ran t b p rest i s es u
     ran s es u q = by (t .stream (s₁ .said .stream)) refl q₃
@@ -119,8 +119,8 @@ module _ (t : Asked) (b : List ℕ) (p : BitPlace) where
         q₁ : headed (startPacket s) ≡ go es u
         q₁ = sym (do-change startPacket headed s) ∙ q
 
-        h : Split (readRoot (toEnd t b p) (t .header)) compared (startPacket s) es u
-        h = split (readRoot (toEnd t b p) (t .header)) compared (startPacket s) es u q₁
+        h : Split (readRoot (toEnd t b p) firstRoot (t .header)) compared (startPacket s) es u
+        h = split (readRoot (toEnd t b p) firstRoot (t .header)) compared (startPacket s) es u q₁
 
         s₁ : State
         s₁ = h .middle
@@ -136,7 +136,7 @@ module _ (t : Asked) (b : List ℕ) (p : BitPlace) where
         by none f g = unfold withStream refuse in let z : _≡_ {A = ℕ} 0 1 = cc in absurd (omega arith)
         by (some c) f g =
             let m = marked streamClassFound 0 (s₁ .said .stream) (behind c) s₁ (h .second) u (unfold withStream in g) in
-            let k = split (readRoot (toEnd t b p) (c .context)) (contentStep t b p rest c) (less s₁) (m .0) u (m .1) in
+            let k = split (readRoot (toEnd t b p) firstRoot (c .context)) (contentStep t b p rest c) (less s₁) (m .0) u (m .1) in
             record {
               es₁ = h .first;
               s₁ = s₁;
@@ -156,22 +156,23 @@ module _ (t : Asked) (b : List ℕ) (p : BitPlace) where
     pub run : (s : State) (es : List Entry) (u : State) → Ran t b p rest i s es u → packet t b p rest i s ≡ go es u
     run s es u r =
         do-change startPacket headed s
-        ∙ join (readRoot (toEnd t b p) (t .header)) compared (startPacket s) (r .es₁) (r .s₁) _ u (r .header) later
+        ∙ join (readRoot (toEnd t b p) firstRoot (t .header)) compared (startPacket s) (r .es₁) (r .s₁) _ u (r .header) later
         ∙ ap (λ l. go l u) (sym (r .list))
       where
         found : streamed (r .s₁) ≡ withStream (r .s₁ .said .stream) (some (r .c)) (ofClass t b p rest (r .s₁ .said .stream)) (r .s₁)
         found = ap (λ o. withStream (r .s₁ .said .stream) o (ofClass t b p rest (r .s₁ .said .stream)) (r .s₁)) (r .found)
 
         inside : behind (r .c) (less (r .s₁)) ≡ go (r .es₂ ++ r .es₃) u
-        inside = join (readRoot (toEnd t b p) (r .c .context)) (contentStep t b p rest (r .c)) (less (r .s₁)) (r .es₂) (r .s₂) (r .es₃) u
+        inside = join (readRoot (toEnd t b p) firstRoot (r .c .context)) (contentStep t b p rest (r .c)) (less (r .s₁)) (r .es₂)
+            (r .s₂) (r .es₃) u
             (r .context)
             (run-content (r .c) (totalOf rest (r .s₂)) (contentOf rest (r .s₂)) (r .s₂) (r .es₃) u (r .content))
 
         whole : withStream (r .s₁ .said .stream) (some (r .c)) (ofClass t b p rest (r .s₁ .said .stream)) (r .s₁)
-            ≡ go (entry streamClassFound (r .s₁ .place) 0 (r .s₁ .said .stream) ∷ (r .es₂ ++ r .es₃)) u
+            ≡ go (entry streamClassFound (r .s₁ .place) 0 (r .s₁ .said .stream) 0 ∷ (r .es₂ ++ r .es₃)) u
         whole = unfold withStream in pass-mark streamClassFound 0 (r .s₁ .said .stream) (behind (r .c)) (r .s₁) _ u inside
 
-        later : compared (r .s₁) ≡ go (entry streamClassFound (r .s₁ .place) 0 (r .s₁ .said .stream) ∷ (r .es₂ ++ r .es₃)) u
+        later : compared (r .s₁) ≡ go (entry streamClassFound (r .s₁ .place) 0 (r .s₁ .said .stream) 0 ∷ (r .es₂ ++ r .es₃)) u
         later = pass-check differing StreamClassChanged (due ⨾ streamed) (r .s₁) (r .same) ∙ pass-due streamed (r .s₁) (r .room) ∙ found
             ∙ whole
 
@@ -180,7 +181,7 @@ pub record RanWhole (t : Asked) (b : List ℕ) (k : ℕ) (i : Stated) (s : State
   pub room : ltb (s .room) wordsPerEntry ≡ false
   pub others : List Entry
   pub behind : packet t b (s .place) (8 * length b - s .place .0) i (less s) ≡ go others u
-  pub list : es ≡ entry packetStarts (s .place) 0 k ∷ others
+  pub list : es ≡ entry packetStarts (s .place) 0 k 0 ∷ others
 
 module _ (t : Asked) (b : List ℕ) (k : ℕ) (i : Stated) (s : State) (es : List Entry) (u : State) where
   abbrev rests : Step

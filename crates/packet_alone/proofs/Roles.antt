@@ -38,7 +38,7 @@ use Rattle.rules.specs.Class.{sequence, eventClassId}
 use Rattle.rules.specs.Class.{Sort, kindOf, Sign, plain, signed as withSign, anyHolds, Class, fixed, leb128, signedLeb128}
 use Rattle.rules.specs.Class.{string, staticString, staticBlob, dynamicString, dynamicBlob}
 use Rattle.rules.specs.Class.{structure, staticArray, dynamicArray, flagged, optional, variant, Classes, noMember, member, Options}
-use Rattle.rules.specs.Class.{noOption, option as anOption, count}
+use Rattle.rules.specs.Class.{noOption, option as anOption, count, records}
 use Rattle.rules.specs.Field.{Env, aligned, fit, field, store, newClock, say, role, blobRole as roleOfBytes, fromSlot, asFlag, asNumber}
 use Rattle.rules.specs.Field.{asLength, valueOf, slotOf, ahead, bytesAt, readFixed, readLeb, asText, readZero, readText, readBlob, times}
 use Rattle.rules.specs.Field.{forget, present, read, readMembers, readOption}
@@ -418,9 +418,9 @@ module _ (j : ℕ) where
   pub keeps-change : (f : State → State) → ((s : State) → (f s) .said .stream ≡ s .said .stream) → Keeps (change f)
   keeps-change f h = changing AnyEntry AnyStop AnyRefusal f (λ s a. h s ∙ a)
 
-  keeps-field : (e : Env) (k a n v : ℕ) → Keeps (field e k a n v)
+  keeps-field : (e : Env) (m k a n v : ℕ) → Keeps (field e m k a n v)
   unfolding field listed
-  keeps-field e k a n v = record { at = λ s h. ((tt, tt), h) }
+  keeps-field e m k a n v = record { at = λ s h. ((tt, tt), h) }
 
   tested : (t : State → Bool) (r : Refusal) {m : Step} → Keeps m → Keeps (check t r ⨾ m)
   tested t r h = untested AnyEntry AnyStop AnyRefusal stops t r tt h
@@ -445,7 +445,7 @@ module _ (j : ℕ) where
   keeps-clock l none = keeps-refuse ClockTooLarge
   keeps-clock l (some c) = shown ⨾ᵏ keeps-change (withClock c) (λ s. unfold withClock in refl)
     where
-      shown : Keeps (λ s. listed (entry clockAdvanced (s .place) l c) (s .place) s)
+      shown : Keeps (λ s. listed (entry clockAdvanced (s .place) l c 0) (s .place) s)
       shown = unfold listed in record { at = λ s h. ((tt, tt), h) }
 
   keeps-role : (r : Role) → Other r → (l v : ℕ) → Keeps (role r l v)
@@ -479,41 +479,41 @@ module _ (j : ℕ) where
   keeps-blobRole e eventClassId b = keeps-pass
 
   module _ (e : Env) where
-    keeps-fixed : (k : Sort) (n : ℕ) (o : Order) (a i : ℕ) (r : Role) → Other r → Keeps (readFixed e k n o a i r)
+    keeps-fixed : (m : ℕ) (k : Sort) (n : ℕ) (o : Order) (a i : ℕ) (r : Role) → Other r → Keeps (readFixed e m k n o a i r)
     unfolding readFixed
-    keeps-fixed k n o a i r w = keeps-due (fitted e a 0 (tested _ OrderChanged (fitted e a n (record {
+    keeps-fixed m k n o a i r w = keeps-due (fitted e a 0 (tested _ OrderChanged (fitted e a n (record {
       at = λ s h.
           (let v : ℕ = bits o (e .bytes) ((aligned e a s) .0) n in
-          keeps-field e (kindOf k) a n (valueOf k n v) ⨾ᵏ keeps-order (Was o) ⨾ᵏ keeps-store i (slotOf k n v)
+          keeps-field e m (kindOf k) a n (valueOf k n v) ⨾ᵏ keeps-order (Was o) ⨾ᵏ keeps-store i (slotOf k n v)
           ⨾ᵏ keeps-role r w n (valueOf k n v)) .at s h;
     }))))
 
-    keeps-leb : (k : ℕ) (c : ℕ → Content) (i : ℕ) (r : Role) → Other r → (x : Leb) → Keeps (readLeb e k c i r x)
+    keeps-leb : (m k : ℕ) (c : ℕ → Content) (i : ℕ) (r : Role) → Other r → (x : Leb) → Keeps (readLeb e m k c i r x)
     unfolding readLeb refuseAt
-    keeps-leb k c i r w (Value v n) = keeps-field e k 8 (8 * n .0) v ⨾ᵏ keeps-store i (c v) ⨾ᵏ keeps-role r w (lebWidth n) v
-    keeps-leb k c i r w Past = refusing-at AnyEntry AnyStop AnyRefusal _ _ (λ s x. tt)
-    keeps-leb k c i r w Large = record { at = λ s h. (tt, tt) }
+    keeps-leb m k c i r w (Value v n) = keeps-field e m k 8 (8 * n .0) v ⨾ᵏ keeps-store i (c v) ⨾ᵏ keeps-role r w (lebWidth n) v
+    keeps-leb m k c i r w Past = refusing-at AnyEntry AnyStop AnyRefusal _ _ (λ s x. tt)
+    keeps-leb m k c i r w Large = record { at = λ s h. (tt, tt) }
 
     keeps-asText : (x : List ℕ) → Keeps (asText x)
     unfolding asText
     keeps-asText x = keeps-check _ NotText
 
-    keeps-zero : (x : Ended) → Keeps (readZero e x)
+    keeps-zero : (m : ℕ) (x : Ended) → Keeps (readZero e m x)
     unfolding readZero
-    keeps-zero (After n) =
-        record { at = λ s h. keeps-asText (bytesAt e (aligned e 8 s) (n .0)) .at s h } ⨾ᵏ keeps-field e 23 8 (8 * (n .0 + 1)) (n .0)
-    keeps-zero Never = keeps-refuse NoZeroByte
+    keeps-zero m (After n) =
+        record { at = λ s h. keeps-asText (bytesAt e (aligned e 8 s) (n .0)) .at s h } ⨾ᵏ keeps-field e m 23 8 (8 * (n .0 + 1)) (n .0)
+    keeps-zero m Never = keeps-refuse NoZeroByte
 
-    keeps-text : (k n : ℕ) → Keeps (readText e k n)
+    keeps-text : (m k n : ℕ) → Keeps (readText e m k n)
     unfolding readText
-    keeps-text k n = fitted e 8 0 (fitted e 8 (8 * n) (record {
-      at = λ s h. let b = bytesAt e (aligned e 8 s) n in (keeps-asText b ⨾ᵏ keeps-field e k 8 (8 * n) (textLength b)) .at s h;
+    keeps-text m k n = fitted e 8 0 (fitted e 8 (8 * n) (record {
+      at = λ s h. let b = bytesAt e (aligned e 8 s) n in (keeps-asText b ⨾ᵏ keeps-field e m k 8 (8 * n) (textLength b)) .at s h;
     }))
 
-    keeps-blob : (k n : ℕ) (r : Role) → Keeps (readBlob e k n r)
+    keeps-blob : (m k n : ℕ) (r : Role) → Keeps (readBlob e m k n r)
     unfolding readBlob
-    keeps-blob k n r = fitted e 8 0 (fitted e 8 (8 * n) (record {
-      at = λ s h. (keeps-field e k 8 (8 * n) n ⨾ᵏ keeps-blobRole e r (bytesAt e (aligned e 8 s) n)) .at s h;
+    keeps-blob m k n r = fitted e 8 0 (fitted e 8 (8 * n) (record {
+      at = λ s h. (keeps-field e m k 8 (8 * n) n ⨾ᵏ keeps-blobRole e r (bytesAt e (aligned e 8 s) n)) .at s h;
     }))
 
     keeps-slot : (i : ℕ) (f : Content → Step) → ((x : Content) → Keeps (f x)) → Keeps (fromSlot i f)
@@ -553,52 +553,58 @@ module _ (j : ℕ) where
     keeps-element : (c : Class) {m : Step} → Keeps m → Keeps (forget c ⨾ m ⨾ forget c)
     keeps-element c g = keeps-forget c ⨾ᵏ g ⨾ᵏ keeps-forget c
 
-    keeps-present : (b : Bool) {m : Step} → Keeps m → Keeps (present e b m)
+    keeps-present : (m : ℕ) (b : Bool) {f : Step} → Keeps f → Keeps (present e m b f)
     unfolding present
-    keeps-present true g = keeps-field e 31 1 0 1 ⨾ᵏ g
-    keeps-present false g = keeps-field e 31 1 0 0
+    keeps-present m true g = keeps-field e m 31 1 0 1 ⨾ᵏ g
+    keeps-present m false g = keeps-field e m 31 1 0 0
 
     keeps-if : (b : Bool) {x y : Step} → Keeps x → Keeps y → Keeps (elim b [ true ↦ x | false ↦ y ])
     keeps-if true p q = p
     keeps-if false p q = q
 
-    keeps-head : (k a v : ℕ) {m : Step} → Keeps m → Keeps (fit e a 0 ⨾ field e k a 0 v ⨾ m)
-    keeps-head k a v h = fitted e a 0 (keeps-field e k a 0 v ⨾ᵏ h)
+    keeps-head : (m k a v : ℕ) {f : Step} → Keeps f → Keeps (fit e a 0 ⨾ field e m k a 0 v ⨾ f)
+    keeps-head m k a v h = fitted e a 0 (keeps-field e m k a 0 v ⨾ᵏ h)
 
     mutual
       unfolding read readMembers readOption
 
-      keeps-read : (c : Class) → Others c → Keeps (read e c)
-      keeps-read (fixed k n o a i r) w = keeps-fixed k n o (2 ^ a) i r w
-      keeps-read (leb128 i r) w =
-          keeps-due (fitted e 8 0 (record { at = λ s h. keeps-leb 21 Unsigned i r w (lebUnsigned (ahead e (aligned e 8 s))) .at s h }))
-      keeps-read (signedLeb128 i) w =
+      keeps-read : (m : ℕ) (c : Class) → Others c → Keeps (read e m c)
+      keeps-read m (fixed k n o a i r) w = keeps-fixed m k n o (2 ^ a) i r w
+      keeps-read m (leb128 i r) w =
+          keeps-due (fitted e 8 0 (record { at = λ s h. keeps-leb m 21 Unsigned i r w (lebUnsigned (ahead e (aligned e 8 s))) .at s h }))
+      keeps-read m (signedLeb128 i) w =
           keeps-due (fitted e 8 0
-          (record { at = λ s h. keeps-leb 22 Signed i noRole not-noRole (lebSigned (ahead e (aligned e 8 s))) .at s h }))
-      keeps-read string w = keeps-due (fitted e 8 0 (record { at = λ s h. keeps-zero (zeroAt (ahead e (aligned e 8 s))) .at s h }))
-      keeps-read (staticString n) w = keeps-due (keeps-text 24 n)
-      keeps-read (staticBlob n r) w = keeps-due (keeps-blob 25 n r)
-      keeps-read (dynamicString i) w = keeps-due (keeps-slot i _ (λ x. keeps-length x _ (λ n. keeps-text 26 n)))
-      keeps-read (dynamicBlob i) w = keeps-due (keeps-slot i _ (λ x. keeps-length x _ (λ n. keeps-blob 27 n noRole)))
-      keeps-read (structure a cs) w = keeps-due (keeps-head 28 _ _ (keeps-members cs w))
-      keeps-read (staticArray n a c) w = keeps-due (keeps-head 29 _ _ (keeps-times n (keeps-element c (keeps-read c w))))
-      keeps-read (dynamicArray i a c) w =
-          keeps-due (keeps-slot i _ (λ x. keeps-length x _ (λ n. keeps-head 30 _ _ (keeps-times n (keeps-element c (keeps-read c w))))))
-      keeps-read (flagged i c) w = keeps-due (keeps-slot i _ (λ x. keeps-flag x _ (λ b. keeps-present b (keeps-read c w))))
-      keeps-read (optional i g rs c) w =
-          keeps-due (keeps-slot i _ (λ x. keeps-number g x _ (λ v. keeps-present (anyHolds g v rs) (keeps-read c w))))
-      keeps-read (variant i g os) w = keeps-due (keeps-slot i _ (λ x. keeps-number g x _ (λ v. keeps-option g v 0 os w)))
+          (record { at = λ s h. keeps-leb m 22 Signed i noRole not-noRole (lebSigned (ahead e (aligned e 8 s))) .at s h }))
+      keeps-read m string w = keeps-due (fitted e 8 0 (record { at = λ s h. keeps-zero m (zeroAt (ahead e (aligned e 8 s))) .at s h }))
+      keeps-read m (staticString n) w = keeps-due (keeps-text m 24 n)
+      keeps-read m (staticBlob n r) w = keeps-due (keeps-blob m 25 n r)
+      keeps-read m (dynamicString i) w = keeps-due (keeps-slot i _ (λ x. keeps-length x _ (λ n. keeps-text m 26 n)))
+      keeps-read m (dynamicBlob i) w = keeps-due (keeps-slot i _ (λ x. keeps-length x _ (λ n. keeps-blob m 27 n noRole)))
+      keeps-read m (structure a cs) w = keeps-due (keeps-head m 28 _ _ (keeps-members (m + 1) cs w))
+      keeps-read m (staticArray n a c) w =
+          keeps-due (keeps-head m 29 _ _ (keeps-times n (keeps-element c (keeps-read (m + 1) c w))))
+      keeps-read m (dynamicArray i a c) w =
+          keeps-due (keeps-slot i _ (λ x. keeps-length x _ (λ n.
+          keeps-head m 30 _ _ (keeps-times n (keeps-element c (keeps-read (m + 1) c w))))))
+      keeps-read m (flagged i c) w =
+          keeps-due (keeps-slot i _ (λ x. keeps-flag x _ (λ b. keeps-present m b (keeps-read (m + 1) c w))))
+      keeps-read m (optional i g rs c) w =
+          keeps-due (keeps-slot i _ (λ x. keeps-number g x _ (λ v.
+          keeps-present m (anyHolds g v rs) (keeps-read (m + 1 + length rs) c w))))
+      keeps-read m (variant i g os) w =
+          keeps-due (keeps-slot i _ (λ x. keeps-number g x _ (λ v. keeps-option m (m + 1) g v 0 os w)))
 
-      keeps-members : (cs : Classes) → OtherMembers cs → Keeps (readMembers e cs)
-      keeps-members noMember w = keeps-pass
-      keeps-members (member c cs) w = keeps-read c (w .0) ⨾ᵏ keeps-members cs (w .1)
+      keeps-members : (m : ℕ) (cs : Classes) → OtherMembers cs → Keeps (readMembers e m cs)
+      keeps-members m noMember w = keeps-pass
+      keeps-members m (member c cs) w = keeps-read m c (w .0) ⨾ᵏ keeps-members (m + records c) cs (w .1)
 
-      keeps-option : (g : Sign) (v k : ℕ) (os : Options) → OtherOptions os → Keeps (readOption e g v k os)
-      keeps-option g v k noOption w = keeps-refuse SelectorInNoOption
-      keeps-option g v k (anOption rs c os) w =
-          keeps-if (anyHolds g v rs) (keeps-field e 32 1 0 k ⨾ᵏ keeps-read c (w .0)) (keeps-option g v (k + 1) os (w .1))
+      keeps-option : (m j : ℕ) (g : Sign) (v k : ℕ) (os : Options) → OtherOptions os → Keeps (readOption e m j g v k os)
+      keeps-option m j g v k noOption w = keeps-refuse SelectorInNoOption
+      keeps-option m j g v k (anOption rs c os) w =
+          keeps-if (anyHolds g v rs) (keeps-field e m 32 1 0 k ⨾ᵏ keeps-read (j + 1 + length rs) c (w .0))
+          (keeps-option m (j + 1 + length rs + records c) g v (k + 1) os (w .1))
 
-    pub keeps-root : (c : Option Class) → OtherRoot c → Keeps (readRoot e c)
+    pub keeps-root : (m : ℕ) (c : Option Class) → OtherRoot c → Keeps (readRoot e m c)
     unfolding readRoot
-    keeps-root none w = keeps-pass
-    keeps-root (some c) w = keeps-read c w
+    keeps-root m none w = keeps-pass
+    keeps-root m (some c) w = keeps-read m c w

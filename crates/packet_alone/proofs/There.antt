@@ -18,7 +18,7 @@ use Rattle.rules.specs.Step.{State, go}
 use Rattle.rules.specs.Class.{Class}
 use Rattle.rules.specs.Table.{StreamClass, Asked}
 use Rattle.rules.specs.Field.{Env}
-use Rattle.rules.specs.Packet.{readRoot, readEvents, startPacket}
+use Rattle.rules.specs.Packet.{readRoot, firstRoot, readEvents, startPacket}
 use Rattle.laws.specs.Between.{Between}
 use Rattle.packet_alone.specs.Behind.{upTo, toEnd, less, totalOf, contentOf, contradict, eventsOf}
 use Rattle.laws.specs.Far.{away, farEntry, farAll, far}
@@ -39,28 +39,31 @@ module _ (t : Asked) (b b′ : List ℕ) (p p′ : BitPlace) (y : Like (toEnd t 
   abbrev there : State → State
   there s = far e e′ l s
 
-  root-there : (c : Option Class) (s : State) (es : List Entry) (u : State) → Between e (s .place .0) → readRoot e c s ≡ go es u
-      → readRoot e′ c (there s) ≡ go (farAll e e′ es) (there u)
-  root-there c s es u d q = out-of e e′ l (readRoot e c s) (readRoot e′ c (there s)) es u (pair-root e e′ y l c .rel s d) q
+  root-there : (m : ℕ) (c : Option Class) (s : State) (es : List Entry) (u : State) → Between e (s .place .0) → readRoot e m c s ≡ go es u
+      → readRoot e′ m c (there s) ≡ go (farAll e e′ es) (there u)
+  root-there m c s es u d q = out-of e e′ l (readRoot e m c s) (readRoot e′ m c (there s)) es u (pair-root e e′ y l m c .rel s d) q
 
-  root-in : (c : Option Class) (s : State) (es : List Entry) (u : State) → Between e (s .place .0) → readRoot e c s ≡ go es u
+  root-in : (m : ℕ) (c : Option Class) (s : State) (es : List Entry) (u : State) → Between e (s .place .0) → readRoot e m c s ≡ go es u
       → Between e (u .place .0)
-  root-in c s es u d q = still-in e e′ y l (pair-root e e′ y l c) s es u d q
+  root-in m c s es u d q = still-in e e′ y l (pair-root e e′ y l m c) s es u d q
 
-  header-there : (s : State) (es : List Entry) (u : State) → Between e (s .place .0) → readRoot e (t .header) (startPacket s) ≡ go es u
-      → readRoot e′ (t .header) (startPacket (there s)) ≡ go (farAll e e′ es) (there u)
+  header-there : (s : State) (es : List Entry) (u : State) → Between e (s .place .0)
+      → readRoot e firstRoot (t .header) (startPacket s) ≡ go es u
+      → readRoot e′ firstRoot (t .header) (startPacket (there s)) ≡ go (farAll e e′ es) (there u)
   unfolding startPacket far
-  header-there s es u d q = root-there (t .header) (startPacket s) es u d q
+  header-there s es u d q = root-there firstRoot (t .header) (startPacket s) es u d q
 
-  header-in : (s : State) (es : List Entry) (u : State) → Between e (s .place .0) → readRoot e (t .header) (startPacket s) ≡ go es u
+  header-in : (s : State) (es : List Entry) (u : State) → Between e (s .place .0)
+      → readRoot e firstRoot (t .header) (startPacket s) ≡ go es u
       → Between e (u .place .0)
   unfolding startPacket
-  header-in s es u d q = root-in (t .header) (startPacket s) es u d q
+  header-in s es u d q = root-in firstRoot (t .header) (startPacket s) es u d q
 
-  context-there : (c : Option Class) (s : State) (es : List Entry) (u : State) → Between e (s .place .0) → readRoot e c (less s) ≡ go es u
-      → readRoot e′ c (less (there s)) ≡ go (farAll e e′ es) (there u)
+  context-there : (c : Option Class) (s : State) (es : List Entry) (u : State) → Between e (s .place .0)
+      → readRoot e firstRoot c (less s) ≡ go es u
+      → readRoot e′ firstRoot c (less (there s)) ≡ go (farAll e e′ es) (there u)
   unfolding far
-  context-there c s es u d q = root-there c (less s) es u d q
+  context-there c s es u d q = root-there firstRoot c (less s) es u d q
 
   -- the events, under the content's bound
   module _ (c : StreamClass) (low : Low c l) (total content : ℕ) (s : State) (es : List Entry) (u : State) where
@@ -122,7 +125,7 @@ module _ (t : Asked) (b b′ : List ℕ) (p p′ : BitPlace) (y : Like (toEnd t 
     d₁ = header-in s (r .es₁) (r .s₁) d (r .header)
 
     d₂ : Between e (r .s₂ .place .0)
-    d₂ = root-in (r .c .context) (less (r .s₁)) (r .es₂) (r .s₂) d₁ (r .context)
+    d₂ = root-in firstRoot (r .c .context) (less (r .s₁)) (r .es₂) (r .s₂) d₁ (r .context)
 
     fits : (content ≤ total) × (p .0 + total ≤ 8 * length b) × (r .s₂ .place .0 ≤ p .0 + content)
     fits =
@@ -158,15 +161,15 @@ module _ (t : Asked) (b b′ : List ℕ) (p p′ : BitPlace) (y : Like (toEnd t 
 
     list-there : farAll e e′ es
         ≡ farAll e e′ (r .es₁) ++ (entry streamClassFound ((there (r .s₁)) .place) 0
-        (r .s₁ .said .stream) ∷ (farAll e e′ (r .es₂) ++ farAll e e′ (r .es₃)))
+        (r .s₁ .said .stream) 0 ∷ (farAll e e′ (r .es₂) ++ farAll e e′ (r .es₃)))
     list-there =
         ap (farAll e e′) (r .list)
-        ∙ far-append e e′ (r .es₁) (entry streamClassFound (r .s₁ .place) 0 (r .s₁ .said .stream) ∷ (r .es₂ ++ r .es₃))
+        ∙ far-append e e′ (r .es₁) (entry streamClassFound (r .s₁ .place) 0 (r .s₁ .said .stream) 0 ∷ (r .es₂ ++ r .es₃))
         ∙ ap (λ z. farAll e e′ (r .es₁) ++ z) (marked
-        ∙ ap (λ z. entry streamClassFound ((there (r .s₁)) .place) 0 (r .s₁ .said .stream) ∷ z) (far-append e e′ (r .es₂) (r .es₃)))
+        ∙ ap (λ z. entry streamClassFound ((there (r .s₁)) .place) 0 (r .s₁ .said .stream) 0 ∷ z) (far-append e e′ (r .es₂) (r .es₃)))
       where
-        marked : farAll e e′ (entry streamClassFound (r .s₁ .place) 0 (r .s₁ .said .stream) ∷ (r .es₂ ++ r .es₃))
-            ≡ entry streamClassFound ((there (r .s₁)) .place) 0 (r .s₁ .said .stream) ∷ farAll e e′ (r .es₂ ++ r .es₃)
+        marked : farAll e e′ (entry streamClassFound (r .s₁ .place) 0 (r .s₁ .said .stream) 0 ∷ (r .es₂ ++ r .es₃))
+            ≡ entry streamClassFound ((there (r .s₁)) .place) 0 (r .s₁ .said .stream) 0 ∷ farAll e e′ (r .es₂ ++ r .es₃)
         marked = unfold farAll farEntry far in refl
 
     pub goes-there : RanThere

@@ -68,7 +68,7 @@ pub do-change : (f : State → State) (m : Step) (s : State) → (change f ⨾ m
 unfolding change _⨾_ after
 do-change f m s = onto-nil (m (f s))
 
-pub do-mark : (k n v : ℕ) (m : Step) (s : State) → (mark k n v ⨾ m) s ≡ onto (entry k (s .place) n v ∷ []) (m (less s))
+pub do-mark : (k n v : ℕ) (m : Step) (s : State) → (mark k n v ⨾ m) s ≡ onto (entry k (s .place) n v 0 ∷ []) (m (less s))
 unfolding mark listed _⨾_ after
 do-mark k n v m s = refl
 
@@ -85,13 +85,13 @@ unfolding due
 pass-due m s q = pass-check (λ s. ltb (s .room) wordsPerEntry) ListFull m s q
 
 pub marked : (k n v : ℕ) (m : Step) (s : State) (es : List Entry) (u : State) → (mark k n v ⨾ m) s ≡ go es u
-    → (fs : List Entry) × (m (less s) ≡ go fs u) × (es ≡ entry k (s .place) n v ∷ fs)
+    → (fs : List Entry) × (m (less s) ≡ go fs u) × (es ≡ entry k (s .place) n v 0 ∷ fs)
 marked k n v m s es u q =
-    let h : onto (entry k (s .place) n v ∷ []) (m (less s)) ≡ go es u = sym (do-mark k n v m s) ∙ q in
-    let g = onto-go (entry k (s .place) n v ∷ []) (m (less s)) es u h in
-    (g .0, g .1, joined (entry k (s .place) n v ∷ []) (m (less s)) es u (g .0) h (g .1))
+    let h : onto (entry k (s .place) n v 0 ∷ []) (m (less s)) ≡ go es u = sym (do-mark k n v m s) ∙ q in
+    let g = onto-go (entry k (s .place) n v 0 ∷ []) (m (less s)) es u h in
+    (g .0, g .1, joined (entry k (s .place) n v 0 ∷ []) (m (less s)) es u (g .0) h (g .1))
 
 pub pass-mark : (k n v : ℕ) (m : Step) (s : State) (fs : List Entry) (u : State) → m (less s) ≡ go fs u
-    → (mark k n v ⨾ m) s ≡ go (entry k (s .place) n v ∷ fs) u
+    → (mark k n v ⨾ m) s ≡ go (entry k (s .place) n v 0 ∷ fs) u
 unfolding onto
-pass-mark k n v m s fs u q = do-mark k n v m s ∙ ap (onto (entry k (s .place) n v ∷ [])) q
+pass-mark k n v m s fs u q = do-mark k n v m s ∙ ap (onto (entry k (s .place) n v 0 ∷ [])) q

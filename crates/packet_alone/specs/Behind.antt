@@ -14,7 +14,7 @@ use Rattle.rules.specs.Entry.{streamClassFound}
 use Rattle.rules.specs.Step.{State, Step, _⨾_, check, due, change}
 use Rattle.rules.specs.Table.{StreamClass, Asked}
 use Rattle.rules.specs.Field.{Env}
-use Rattle.rules.specs.Packet.{mark, readRoot, readEvents, orElse, readContent, withStream, differs, startPacket}
+use Rattle.rules.specs.Packet.{mark, readRoot, firstRoot, readEvents, orElse, readContent, withStream, differs, startPacket}
 
 -- of a stream's bytes b from a packet's place p on: up to a bound, and up to the stream's end
 abbrev pub upTo : Asked → List ℕ → BitPlace → ℕ → Env
@@ -54,7 +54,7 @@ abbrev pub contentStep : Asked → List ℕ → BitPlace → ℕ → StreamClass
 contentStep t b p rest c s = readContent t c b p (totalOf rest s) (contentOf rest s) s
 
 abbrev pub ofClass : Asked → List ℕ → BitPlace → ℕ → ℕ → StreamClass → Step
-ofClass t b p rest i c = mark streamClassFound 0 i ⨾ readRoot (toEnd t b p) (c .context) ⨾ contentStep t b p rest c
+ofClass t b p rest i c = mark streamClassFound 0 i ⨾ readRoot (toEnd t b p) firstRoot (c .context) ⨾ contentStep t b p rest c
 
 abbrev pub ofStream : Asked → List ℕ → BitPlace → ℕ → State → Step
 ofStream t b p rest s = withStream (s .said .stream) (t .stream (s .said .stream)) (ofClass t b p rest (s .said .stream))
@@ -62,7 +62,7 @@ ofStream t b p rest s = withStream (s .said .stream) (t .stream (s .said .stream
 abbrev pub packet : Asked → List ℕ → BitPlace → ℕ → Stated → Step
 packet t b p rest i =
     change startPacket
-    ⨾ readRoot (toEnd t b p) (t .header)
+    ⨾ readRoot (toEnd t b p) firstRoot (t .header)
     ⨾ check (λ s. differs (s .said .stream) i) StreamClassChanged
     ⨾ due
     ⨾ λ s. ofStream t b p rest s s

@@ -6,6 +6,7 @@ use Prim.Native.Nat.{ℕ, _+_, _-_, _*_, _%_, _≤_, _<_}
 use lib.ListN.{length}
 use Rattle.rules.specs.declared.BitPlace.{BitPlace}
 use Rattle.rules.specs.declared.Refusal.the-variants.{ListFull, LengthsContradict, ClocksContradict}
+use Rattle.rules.specs.Limits.{wordsPerEntry}
 use Rattle.rules.specs.Verdict.{stopAt}
 use Rattle.rules.specs.Place.{further}
 use Rattle.rules.specs.Entry.{entry, lengthsSettled}
@@ -44,11 +45,11 @@ module _ (t : Asked) (c : StreamClass) (b : List ℕ) (p : BitPlace) (total cont
       readEvents t c (record { bytes = b; start = p; bound = further p content; uuid = t .uuid }) (further p total) 0
       (p .0 + content - s .place .0)
 
-  pub content-full : s .room < 4 → readContent t c b p total content s ≡ stop [] (stopAt ListFull (s .place))
+  pub content-full : s .room < wordsPerEntry → readContent t c b p total content s ≡ stop [] (stopAt ListFull (s .place))
   unfolding readContent
   content-full h = due-stop _ s h
 
-  module _ (room : 4 ≤ s .room) where
+  module _ (room : wordsPerEntry ≤ s .room) where
     pub content-lengths : contradicts total content p (s .place) (8 * length b) ≡ true
         → readContent t c b p total content s ≡ stop [] (stopAt LengthsContradict (s .place))
     unfolding readContent
@@ -61,7 +62,7 @@ module _ (t : Asked) (c : StreamClass) (b : List ℕ) (p : BitPlace) (total cont
       content-clocks h = room-first _ s room ∙ check-on _ LengthsContradict _ s fine ∙ check-stop _ ClocksContradict _ s h
 
       pub content-marked : above (s .clock) (s .said .ending) ≡ false
-          → readContent t c b p total content s ≡ onto (entry lengthsSettled (s .place) total content ∷ []) (eventsOf (less s))
+          → readContent t c b p total content s ≡ onto (entry lengthsSettled (s .place) total content 0 ∷ []) (eventsOf (less s))
       unfolding readContent
       content-marked h =
           room-first _ s room ∙ check-on _ LengthsContradict _ s fine ∙ check-on _ ClocksContradict _ s h

@@ -8,12 +8,13 @@ use lib.ListN.{length, drop}
 use Rattle.rules.specs.declared.BitPlace.{BitPlace}
 use Rattle.rules.specs.declared.Stop.{Stop}
 use Rattle.rules.specs.declared.Refusal.the-variants.{ListFull, LengthsContradict, ClocksContradict}
+use Rattle.rules.specs.Limits.{wordsPerEntry}
 use Rattle.rules.specs.Verdict.{stopAt}
 use Rattle.rules.specs.Place.{further}
 use Rattle.rules.specs.Slots.{Slots, packetSlots}
 use Rattle.rules.specs.Entry.{entry, words, lengthsSettled}
 use Rattle.rules.specs.Step.{Out}
-use Rattle.rules.specs.Packet.{readRoot, readEvents, readContent, above, orElse}
+use Rattle.rules.specs.Packet.{readRoot, firstRoot, readEvents, readContent, above, orElse}
 use Rattle.listing.specs.declared.Progress.{Progress}
 use Rattle.frame.specs.declared.Frame.{Frame}
 use Rattle.listing.specs.declared.Went.the-variants.{On, Stopped}
@@ -25,7 +26,8 @@ use Rattle.class_layout.specs.Fragments.{askedAt, streamClassAt}
 use Rattle.laws.specs.Kept.{LeavesUnset}
 use Rattle.field_read.specs.declared.Field.{Field}
 use Rattle.field_read.specs.Reads.{FieldReads}
-use Rattle.event_turns.specs.Roots.{classOf}
+use Rattle.event_turns.specs.Roots.{classOf, numberOf, Numbered}
+use Rattle.event_turns.proofs.Looked.{numbered-reads}
 use Rattle.outcome.specs.Ran.{RanDid, stoppedRan}
 use Rattle.contradictions.specs.Lengths.{contradicts}
 use Rattle.packet_content.specs.Pieces.{wholeFrame, packetEnv, behindFound}
@@ -44,14 +46,14 @@ module _ (t b : List ℕ) (class : ℕ) (p : BitPlace) (total content : ℕ) (st
   EventsLeft u k ws₁ bound to =
       Part Contents
       (readEvents (askedAt t) (streamClassAt t k) (envOf b u (record { start = p; bound = bound })) to 0 (bound .0 - st .place .0))
-      ws ws₁ 4 st l
+      ws ws₁ wordsPerEntry st l
 
-  pub content-ran-full : length ws < 4 → RanDid Contents st (stoppedRan (stopAt ListFull (st .place)) 0 st) ws ws
+  pub content-ran-full : length ws < wordsPerEntry → RanDid Contents st (stoppedRan (stopAt ListFull (st .place)) 0 st) ws ws
   content-ran-full h =
       refused-ran Contents st l ws _ (content-full (askedAt t) (streamClassAt t class) b p total content (full st l (length ws)) h)
 
   -- the stream's end as the code has it, and how its tests went
-  module _ (room : 4 ≤ length ws) (f : Frame) (e : f ≡ wholeFrame b p) (x : Bool)
+  module _ (room : wordsPerEntry ≤ length ws) (f : Frame) (e : f ≡ wholeFrame b p) (x : Bool)
       (k : x ≡ contradicts total content p (st .place) (f .bound .0)) where
     told : (y : Bool) → x ≡ y → contradicts total content p (st .place) (8 * length b) ≡ y
     told y h = ap (λ g. contradicts total content p (st .place) (g .bound .0)) (sym e) ∙ sym k ∙ h
@@ -78,11 +80,12 @@ module _ (t b : List ℕ) (class : ℕ) (p : BitPlace) (total content : ℕ) (st
             refused-ran Contents st l ws _
             (content-clocks (askedAt t) (streamClassAt t class) b p total content (full st l (length ws)) room (told false ok) (sym j ∙ h))
 
-        pub content-part : y ≡ false → {ws₁ : List ℕ} → ws₁ ≡ words (entry lengthsSettled (st .place) total content ∷ []) ++ drop 4 ws
+        pub content-part : y ≡ false → {ws₁ : List ℕ}
+            → ws₁ ≡ words (entry lengthsSettled (st .place) total content 0 ∷ []) ++ drop wordsPerEntry ws
             → (u : List ℕ) → u ≡ (askedAt t) .uuid → (k : ℕ) → k ≡ class
             → (bound to : BitPlace) → bound ≡ further p content → to ≡ further p total → EventsLeft u k ws₁ bound to
         content-part h w u v k q bound to x y = rw (v, q, x, y)
-            (marked-part Contents (entry lengthsSettled (st .place) total content) _ room w
+            (marked-part Contents (entry lengthsSettled (st .place) total content 0) _ room w
             (content-marked (askedAt t) (streamClassAt t class) b p total content (full st l (length ws)) room (told false ok) (sym j ∙ h)))
 
 -- Behind the lookup: the context was lent the whole list
@@ -106,20 +109,26 @@ ContentLeft t b p class st l ws r ys total content =
 
 -- the context's root as the code has it
 module _ (t b : List ℕ) (p : BitPlace) (class : ℕ) (st : Progress) (l : Slots) (ws : List ℕ) (u : List ℕ) (v : u ≡ (askedAt t) .uuid)
-    (f : Frame) (e : f ≡ wholeFrame b p) (x : TablePlace) (k : classOf t x ≡ (streamClassAt t class) .context) {r : Field} {ys : List ℕ}
-    (d : FieldReads (readRoot (envOf b u f) (classOf t x)) st l r ws ys) where
+    (f : Frame) (e : f ≡ wholeFrame b p) (x : TablePlace) (k : classOf t x ≡ (streamClassAt t class) .context)
+    (n : Numbered t x firstRoot) {r : Field} {ys : List ℕ}
+    (d : FieldReads (readRoot (envOf b u f) (numberOf t x) (classOf t x)) st l r ws ys) where
   abbrev Founded : Out
   Founded = behindFound (askedAt t) b p (streamClassAt t class) (full st l (length ws))
 
-  context : Did (readRoot (packetEnv (askedAt t) b p) ((streamClassAt t class) .context) (full st l (length ws))) st (r .went) (r .used)
-      (r .state) (r .slots) ws ys
-  context = rw (v, e, k) at (d .did)
+  -- by its number in the fragment
+  numbered : Did (readRoot (envOf b u f) firstRoot (classOf t x) (full st l (length ws))) st (r .went) (r .used) (r .state) (r .slots) ws ys
+  numbered = rw (numbered-reads t (envOf b u f) x firstRoot n) at (d .did)
+
+  context : Did (readRoot (packetEnv (askedAt t) b p) firstRoot ((streamClassAt t class) .context) (full st l (length ws))) st (r .went)
+      (r .used) (r .state) (r .slots) ws ys
+  context = rw (v, e, k) at numbered
 
   pub context-framed : Framed b (wholeFrame b p) (st .place) → r .went ≡ On → Framed b (wholeFrame b p) (r .state .place)
-  context-framed h on = root-framed b ((askedAt t) .uuid) (wholeFrame b p) ((streamClassAt t class) .context) l on context h
+  context-framed h on = root-framed b ((askedAt t) .uuid) (wholeFrame b p) firstRoot ((streamClassAt t class) .context) l on context h
 
   pub context-unset : LeavesUnset ((streamClassAt t class) .context) → r .went ≡ On → packetSlots l ≡ l → packetSlots (r .slots) ≡ r .slots
-  context-unset keeps on h = root-unset b ((askedAt t) .uuid) (wholeFrame b p) ((streamClassAt t class) .context) l on context keeps h
+  context-unset keeps on h =
+      root-unset b ((askedAt t) .uuid) (wholeFrame b p) firstRoot ((streamClassAt t class) .context) l on context keeps h
 
   pub context-stopped : (w : Stop) → r .went ≡ Stopped w → RanDid Founded st (stoppedRan w (r .used) st) ws ys
   unfolding behindFound

@@ -8,6 +8,7 @@ use lib.ListN.{length}
 use lib.Dec.{eqb}
 use borrow.Author.Tests.{eqb-true}
 use Rattle.rules.specs.Limits.{noClock}
+use Rattle.rules.specs.Packet.{firstRoot}
 use Rattle.rules.specs.Record.{u8, u64}
 use Rattle.facts.proofs.Truth.{and-left, and-right}
 use Rattle.class_layout.specs.declared.TablePlace.{TablePlace}
@@ -15,9 +16,10 @@ use Rattle.class_layout.specs.declared.TablePlace.the-variants.{At}
 use Rattle.class_layout.specs.Fragments.{askedAt, streamClassAt, findStreamAt, fragmentsOf, mapOption, rootPlace, openingSize, isStream}
 use Rattle.class_layout.specs.Sizes.{foundOf, Sized, SizedFragment}
 use Rattle.class_layout.proofs.Lookups.{found-some, first-holds}
-use Rattle.event_turns.specs.Roots.{classOf}
+use Rattle.class_layout.proofs.RootNumbers.{first-number, header-number, common-number}
+use Rattle.event_turns.specs.Roots.{classOf, Numbered}
 use Rattle.event_turns.specs.Ready.{OfStream}
-use Rattle.event_turns.proofs.Looked.{root-class, root-stands}
+use Rattle.event_turns.proofs.Looked.{root-class, root-stands, root-numbered}
 
 pub context-class : (t : List ℕ) (o : ℕ) (x : TablePlace) → x ≡ foundOf (rootPlace t o 0) → classOf t x ≡ (streamClassAt t o) .context
 unfolding streamClassAt
@@ -39,6 +41,9 @@ module _ (t s : List ℕ) (id class : ℕ) (h : Sized t s) (e : foundOf (findStr
       let same = and-right (eqb (u8 t class) 4) (eqb (u64 t (class + 1)) id) x in
       (eqb-true _ _ kind, eqb-true _ _ same)
 
+  pub context-number : (x : TablePlace) → x ≡ foundOf (rootPlace t class 0) → Numbered t x firstRoot
+  context-number x e = root-numbered t class 0 firstRoot x e (λ p h. first-number t class p (stream-sized .stands) h)
+
   pub stream-found : (askedAt t) .stream id ≡ some (streamClassAt t class)
   unfolding askedAt mapOption
   stream-found = ap (mapOption (streamClassAt t)) found-at
@@ -59,4 +64,6 @@ module _ (t s : List ℕ) (id class : ℕ) (h : Sized t s) (e : foundOf (findStr
     common = root-class t class 2 y q;
     headerStands = root-stands t class 1 x (stream-sized .stands) p;
     commonStands = root-stands t class 2 y (stream-sized .stands) q;
+    headerNumbered = root-numbered t class 1 _ x p (λ i h. header-number t class i (stream-sized .stands) h);
+    commonNumbered = root-numbered t class 2 _ y q (λ i h. common-number t class i (stream-sized .stands) h);
   }

@@ -9,7 +9,7 @@ use Rattle.rules.specs.Place.{bitPlace}
 use Rattle.rules.specs.Step.{Step, _⨾_}
 use Rattle.rules.specs.Field.{Env}
 use Rattle.rules.specs.Table.{StreamClass, Asked}
-use Rattle.rules.specs.Packet.{readRoot, orElse, readContent}
+use Rattle.rules.specs.Packet.{readRoot, firstRoot, orElse, readContent}
 use Rattle.frame.specs.declared.Frame.{Frame}
 use Rattle.class_layout.specs.Fragments.{askedAt}
 use Rattle.class_layout.specs.Notes.{Notes}
@@ -25,7 +25,7 @@ packetEnv t b p = record { bytes = b; start = p; bound = bitPlace (8 * length b)
 -- behind the lookup and entry 2: the context, and what comes behind the lengths
 unfoldable pub behindFound : Asked → List ℕ → BitPlace → StreamClass → Step
 behindFound t b p c =
-    readRoot (packetEnv t b p) (c .context)
+    readRoot (packetEnv t b p) firstRoot (c .context)
     ⨾ λ s. let rest = 8 * length b - p .0 in
     readContent t c b p (orElse (s .said .total) (s .said .content) rest) (orElse (s .said .content) (s .said .total) rest) s
 

@@ -17,6 +17,7 @@ use Rattle.rules.specs.Step.{State, Out, stop, go, Step, onto, after, _⨾_, pa
 use Rattle.rules.specs.Field.{Env}
 use Rattle.rules.specs.Table.{StreamClass, EventClass, Asked}
 use Rattle.rules.specs.Packet.{mark, readRoot, withEvent, startEvent, readEvent}
+use Rattle.event_turns.specs.Roots.{partsOf}
 use Rattle.outcome.proofs.Parted.{root-between}
 
 -- what holds of the state where an outcome goes on
@@ -54,23 +55,23 @@ module _ (e : Env) (q : ℕ) where
       by true = tt
       by false = h
 
-  here-root : (c : Option Class) (s : State) → Here s → Onward Here (readRoot e c s)
-  here-root c s h = by (readRoot e c s) refl
+  here-root : (m : ℕ) (c : Option Class) (s : State) → Here s → Onward Here (readRoot e m c s)
+  here-root m c s h = by (readRoot e m c s) refl
     where
-      by : (o : Out) → readRoot e c s ≡ o → Onward Here o
+      by : (o : Out) → readRoot e m c s ≡ o → Onward Here o
       by (stop es v) k = tt
       by (go es s′) k =
-          let p = root-between e c s es s′ (h .1) (h .2) k in
+          let p = root-between e m c s es s′ (h .1) (h .2) k in
           (omega (arith, p .0, h .0), omega (arith, p .0, h .1), p .1)
 
   module _ (a : Asked) (c : StreamClass) where
     here-look : (s : State) (o : Option EventClass) (s′ : State) → Here s′
-        → Onward Here (withEvent (c .id) (s .said .event) o (λ d. mark 5 0 (s .said .event) ⨾ readRoot e (c .common) ⨾ readRoot e (d .specific) ⨾ readRoot e (d .payload)) s′)
-    unfolding withEvent refuse mark listed
+        → Onward Here (withEvent (c .id) (s .said .event) o (λ d. mark 5 0 (s .said .event) ⨾ partsOf e c d) s′)
+    unfolding withEvent refuse mark listed partsOf
     here-look s none s′ h = tt
     here-look s (some d) s′ h =
-        row Here (mark 5 0 (s .said .event)) _ s′ h (λ s h. row Here (readRoot e (c .common)) _ s (here-root (c .common) s h)
-        (λ s h. row Here (readRoot e (d .specific)) _ s (here-root (d .specific) s h) (λ s h. here-root (d .payload) s h)))
+        row Here (mark 5 0 (s .said .event)) _ s′ h (λ s h. row Here (readRoot e _ (c .common)) _ s (here-root _ (c .common) s h)
+        (λ s h. row Here (readRoot e _ (d .specific)) _ s (here-root _ (d .specific) s h) (λ s h. here-root _ (d .payload) s h)))
 
 -- behind 38: the place is further on, and not past the bound
 module _ (e : Env) (s₀ : State) where
@@ -90,14 +91,14 @@ module _ (e : Env) (s₀ : State) where
 
   pub event-moves : (a : Asked) (c : StreamClass) (n : ℕ) → e .start .0 ≤ s₀ .place .0 → s₀ .place .0 ≤ e .bound .0
       → Onward MovedOn (readEvent a c e n s₀)
-  unfolding readEvent due change mark listed startEvent withLast
+  unfolding readEvent due change mark listed startEvent withLast partsOf
   event-moves a c n h k =
       let q = s₀ .place .0 in
       let first : Here e q s₀ = (omega arith, h, k) in
       row e q MovedOn due _ s₀ (here-check e q _ _ s₀ first) (λ s h.
       row e q MovedOn (mark 4 0 n) _ s h (λ s h.
       row e q MovedOn (change startEvent) _ s h (λ s h.
-      row e q MovedOn (readRoot e (c .header)) _ s (here-root e q (c .header) s h) (λ s h.
+      row e q MovedOn (readRoot e _ (c .header)) _ s (here-root e q _ (c .header) s h) (λ s h.
       row e q MovedOn (check _ _) _ s (here-check e q _ _ s h) (λ s h.
       row e q MovedOn (change (λ s. withLast (s .clock) s)) _ s h (λ s h.
       row e q MovedOn due _ s (here-check e q _ _ s h) (λ s h.

@@ -11,6 +11,7 @@ use Rattle.rules.specs.declared.BitPlace.{BitPlace}
 use Rattle.rules.specs.declared.Entry.{Entry}
 use Rattle.rules.specs.declared.Stop.{Stop}
 use Rattle.rules.specs.declared.Refusal.the-variants.{ListFull}
+use Rattle.rules.specs.Limits.{wordsPerEntry}
 use Rattle.rules.specs.Verdict.{stopAt}
 use Rattle.rules.specs.Slots.{Slots, packetSlots}
 use Rattle.rules.specs.Entry.{entry, words, packetEnds}
@@ -88,22 +89,26 @@ module _ (a : Asked) (c : StreamClass) (b u : List ℕ) (f : Frame) (to : BitPla
   -- an event does not depend on what slots 16 to 63 held
   event-same : (n : ℕ) (st : Progress) (l l′ : Slots) (room : ℕ) → packetSlots l ≡ packetSlots l′
       → readEvent a c (envOf b u f) n (full st l room) ≡ readEvent a c (envOf b u f) n (full st l′ room)
-  event-same n st l l′ room h = by (ltb room 4) refl
+  event-same n st l l′ room h = by (ltb room wordsPerEntry) refl
     where
       e : Env
       e = envOf b u f
 
-      behind : (l : Slots) → 4 ≤ room
-          → readEvent a c e n (full st l room) ≡ onto (entry 4 (st .place) 0 n ∷ []) (behindStart a c e st (full (startState st) (packetSlots l) (room - 4)))
+      behind : (l : Slots) → wordsPerEntry ≤ room
+          → readEvent a c e n (full st l room)
+          ≡ onto (entry 4 (st .place) 0 n 0 ∷ []) (behindStart a c e st (full (startState st) (packetSlots l) (room - wordsPerEntry)))
       behind l k = unfold _⨾_ after mark listed startEvent in
-          event-starts a c e n st l room k ∙ ap (onto (entry 4 (st .place) 0 n ∷ [])) (change-on startEvent (behindStart a c e st) (full st l (room - 4)))
+          event-starts a c e n st l room k
+          ∙ ap (onto (entry 4 (st .place) 0 n 0 ∷ [])) (change-on startEvent (behindStart a c e st) (full st l (room - wordsPerEntry)))
 
-      by : (x : Bool) → ltb room 4 ≡ x → readEvent a c e n (full st l room) ≡ readEvent a c e n (full st l′ room)
-      by true k = event-full a c e n st l room (ltb-true room 4 k) ∙ sym (event-full a c e n st l′ room (ltb-true room 4 k))
+      by : (x : Bool) → ltb room wordsPerEntry ≡ x → readEvent a c e n (full st l room) ≡ readEvent a c e n (full st l′ room)
+      by true k =
+          event-full a c e n st l room (ltb-true room wordsPerEntry k)
+          ∙ sym (event-full a c e n st l′ room (ltb-true room wordsPerEntry k))
       by false k =
-          behind l (ltb-false room 4 k)
-          ∙ ap (λ s. onto (entry 4 (st .place) 0 n ∷ []) (behindStart a c e st (full (startState st) s (room - 4)))) h
-          ∙ sym (behind l′ (ltb-false room 4 k))
+          behind l (ltb-false room wordsPerEntry k)
+          ∙ ap (λ s. onto (entry 4 (st .place) 0 n 0 ∷ []) (behindStart a c e st (full (startState st) s (room - wordsPerEntry)))) h
+          ∙ sym (behind l′ (ltb-false room wordsPerEntry k))
 
   module _ (o : Out) (given : Slots) {ws₀ ws : List ℕ} {used : ℕ} {st : Progress} {n : ℕ} (w : Rounding a c b u f to o given ws₀ ws used st n) where
     -- one more event
@@ -157,7 +162,8 @@ module _ (a : Asked) (c : StreamClass) (b u : List ℕ) (f : Frame) (to : BitPla
       last : Part o (endPacket to n) ws₀ ws used st (w .slots)
       last = part-same _ (endPacket to n) (round-off a c (envOf b u f) to n (full st (w .slots) (length ws₀ - used)) (w .left) reached) (w .part)
 
-      pub end-full : (came : Progress) → length ws - used < 4 → RanDid o came (stoppedRan (stopAt ListFull (st .place)) used came) ws₀ ws
+      pub end-full : (came : Progress) → length ws - used < wordsPerEntry
+          → RanDid o came (stoppedRan (stopAt ListFull (st .place)) used came) ws₀ ws
       unfolding endPacket refuse onto outOf
       end-full came h = record {
         slots = w .slots;
@@ -172,15 +178,15 @@ module _ (a : Asked) (c : StreamClass) (b u : List ℕ) (f : Frame) (to : BitPla
         };
       }
 
-      pub end-listed : (came : Progress) (ys : List ℕ) → 4 ≤ length ws - used
-          → ys ≡ words (entry packetEnds to (to .0 - st .place .0) n ∷ []) ++ drop 4 (lent used ws)
-          → RanDid o came (record { went = On; used = used + 4; state = atPlace to st }) ws₀ (merged used ws ys)
+      pub end-listed : (came : Progress) (ys : List ℕ) → wordsPerEntry ≤ length ws - used
+          → ys ≡ words (entry packetEnds to (to .0 - st .place .0) n 0 ∷ []) ++ drop wordsPerEntry (lent used ws)
+          → RanDid o came (record { went = On; used = used + wordsPerEntry; state = atPlace to st }) ws₀ (merged used ws ys)
       unfolding endPacket listed
       end-listed came ys h e =
-          let long : 4 ≤ length (lent used ws) = omega (arith, lent-room used ws) in
+          let long : wordsPerEntry ≤ length (lent used ws) = omega (arith, lent-room used ws) in
           record {
             slots = w .slots;
             did = part-last-on (endPacket to n) last
-                (went-listing _ st (atPlace to st) (w .slots) (entry packetEnds to (to .0 - st .place .0) n) (lent used ws) ys
+                (went-listing _ st (atPlace to st) (w .slots) (entry packetEnds to (to .0 - st .place .0) n 0) (lent used ws) ys
                 (room-first _ (full st (w .slots) (length (lent used ws))) long) e long) came refl;
           }

@@ -13,13 +13,14 @@ use borrow.Author.Tests.{ltb-true, ltb-false}
 use Rattle.rules.specs.declared.BitPlace.{BitPlace}
 use Rattle.rules.specs.declared.Stated.{Stated}
 use Rattle.rules.specs.declared.Stated.the-variants.{Missing}
+use Rattle.rules.specs.Limits.{wordsPerEntry}
 use Rattle.rules.specs.Place.{further}
 use Rattle.rules.specs.Class.{Class}
 use Rattle.rules.specs.Entry.{entry, packetStarts, streamClassFound, lengthsSettled}
 use Rattle.rules.specs.Step.{State, Out, stop, go, after, _⨾_, listed}
 use Rattle.rules.specs.Field.{Env}
 use Rattle.rules.specs.Table.{StreamClass, Asked}
-use Rattle.rules.specs.Packet.{readRoot, readEvent, readEvents, endPacket, readContent, readPacket}
+use Rattle.rules.specs.Packet.{readRoot, firstRoot, readEvent, readEvents, endPacket, readContent, readPacket}
 use Rattle.rules.specs.Packet.{above, differs, orElse, startPacket, nothingSaid}
 use Rattle.laws.specs.Between.{Moved}
 use Rattle.laws.proofs.Law.{Any, FitRoot, law-root}
@@ -42,8 +43,9 @@ use Rattle.packet_read.proofs.Fitted.{Positive, Fit}
 abbrev Inside : Env → State → Type 0
 Inside e s = Held e (Moved e) s
 
-root-inside : (e : Env) (c : Option Class) → FitRoot Positive Any Any c → (s : State) → Inside e s → Onward (Inside e) (readRoot e c s)
-root-inside e c w s h = by (readRoot e c s) (law-root e (held-law e (moved-kept e)) c w .at s h)
+root-inside : (e : Env) (m : ℕ) (c : Option Class) → FitRoot Positive Any Any c → (s : State) → Inside e s
+    → Onward (Inside e) (readRoot e m c s)
+root-inside e m c w s h = by (readRoot e m c s) (law-root e (held-law e (moved-kept e)) m c w .at s h)
   where
     by : (o : Out) → Ok (In e) (At e) (NoMore e) (Inside e) o → Onward (Inside e) o
     by (stop es v) k = tt
@@ -56,9 +58,9 @@ any (go es s) = tt
 
 end-at : (to : BitPlace) (n : ℕ) (s : State) → Onward (λ s. s .place ≡ to) (endPacket to n s)
 unfolding endPacket listed
-end-at to n s = by (ltb (s .room) 4) refl
+end-at to n s = by (ltb (s .room) wordsPerEntry) refl
   where
-    by : (x : Bool) → ltb (s .room) 4 ≡ x → Onward (λ s. s .place ≡ to) (endPacket to n s)
+    by : (x : Bool) → ltb (s .room) wordsPerEntry ≡ x → Onward (λ s. s .place ≡ to) (endPacket to n s)
     by true e = subst (Onward (λ s. s .place ≡ to)) (sym (due-stop _ s (ltb-true _ _ e))) tt
     by false e = subst (Onward (λ s. s .place ≡ to)) (sym (room-first _ s (ltb-false _ _ e))) refl
 
@@ -120,62 +122,63 @@ module _ (t : Asked) (w : Fit t) (b : List ℕ) (p : BitPlace) (l : p .0 < 8 * l
   onward-map A B (go es s) f h = f s h
 
   content-onward : (c : StreamClass) (s : State) → Inside e s → Ends (readContent t c b p (totalAt s) (contentAt s) s)
-  content-onward c s a = room (ltb (s .room) 4) refl
+  content-onward c s a = room (ltb (s .room) wordsPerEntry) refl
     where
-      fine : 4 ≤ s .room → contradicts (totalAt s) (contentAt s) p (s .place) (8 * length b) ≡ false
+      fine : wordsPerEntry ≤ s .room → contradicts (totalAt s) (contentAt s) p (s .place) (8 * length b) ≡ false
           → (x : Bool) → above (s .clock) (s .said .ending) ≡ x → Ends (readContent t c b p (totalAt s) (contentAt s) s)
       fine r f true h = subst Ends (sym (content-clocks t c b p (totalAt s) (contentAt s) s r f h)) tt
       fine r f false h = subst Ends (sym (content-marked t c b p (totalAt s) (contentAt s) s r f h))
-          (onward-onto (Behind b (p .0)) (entry lengthsSettled (s .place) (totalAt s) (contentAt s) ∷ [])
+          (onward-onto (Behind b (p .0)) (entry lengthsSettled (s .place) (totalAt s) (contentAt s) 0 ∷ [])
           (eventsOf t c b p (totalAt s) (contentAt s) s (less s))
           (onward-map (λ s′. s′ .place ≡ further p (totalAt s)) (Behind b (p .0)) (eventsOf t c b p (totalAt s) (contentAt s) s (less s))
           (λ s′ q. behind s s′ a (lengths b p (s .place) (totalAt s) (contentAt s) f) q)
           (events-at t c (record { bytes = b; start = p; bound = further p (contentAt s); uuid = t .uuid }) (further p (totalAt s))
           (p .0 + contentAt s - s .place .0) 0 (less s))))
 
-      roomy : 4 ≤ s .room → (x : Bool) → contradicts (totalAt s) (contentAt s) p (s .place) (8 * length b) ≡ x
+      roomy : wordsPerEntry ≤ s .room → (x : Bool) → contradicts (totalAt s) (contentAt s) p (s .place) (8 * length b) ≡ x
           → Ends (readContent t c b p (totalAt s) (contentAt s) s)
       roomy r true h = subst Ends (sym (content-lengths t c b p (totalAt s) (contentAt s) s r h)) tt
       roomy r false h = fine r h (above (s .clock) (s .said .ending)) refl
 
-      room : (x : Bool) → ltb (s .room) 4 ≡ x → Ends (readContent t c b p (totalAt s) (contentAt s) s)
-      room true h = subst Ends (sym (content-full t c b p (totalAt s) (contentAt s) s (ltb-true (s .room) 4 h))) tt
-      room false h = roomy (ltb-false (s .room) 4 h) (contradicts (totalAt s) (contentAt s) p (s .place) (8 * length b)) refl
+      room : (x : Bool) → ltb (s .room) wordsPerEntry ≡ x → Ends (readContent t c b p (totalAt s) (contentAt s) s)
+      room true h = subst Ends (sym (content-full t c b p (totalAt s) (contentAt s) s (ltb-true (s .room) wordsPerEntry h))) tt
+      room false h = roomy (ltb-false (s .room) wordsPerEntry h) (contradicts (totalAt s) (contentAt s) p (s .place) (8 * length b)) refl
 
   found-onward : (c : StreamClass) → FitRoot Positive Any Any (c .context) → (s : State) → Inside e s → Ends (behindFound t b p c s)
   unfolding behindFound _⨾_
   found-onward c f s a =
-      onward-after (Inside e) _ (readRoot e (c .context) s) _ (root-inside e (c .context) f s a) (λ s a. content-onward c s a)
+      onward-after (Inside e) _ (readRoot e firstRoot (c .context) s) _ (root-inside e firstRoot (c .context) f s a)
+      (λ s a. content-onward c s a)
 
   header-onward : (i : Stated) (s : State) → Inside e s → Ends (behindHeader t b p i s)
   header-onward i s a = same (differs (s .said .stream) i) refl
     where
-      look : differs (s .said .stream) i ≡ false → 4 ≤ s .room → (x : Option StreamClass) → t .stream (s .said .stream) ≡ x
+      look : differs (s .said .stream) i ≡ false → wordsPerEntry ≤ s .room → (x : Option StreamClass) → t .stream (s .said .stream) ≡ x
           → Ends (behindHeader t b p i s)
       look d r none h = subst Ends (sym (header-unknown t b p i s d r h)) tt
       look d r (some c) h = subst Ends (sym (header-marked t b p i s d r c h))
-          (onward-onto (Behind b (p .0)) (entry streamClassFound (s .place) 0 (s .said .stream) ∷ []) (behindFound t b p c (less s))
+          (onward-onto (Behind b (p .0)) (entry streamClassFound (s .place) 0 (s .said .stream) 0 ∷ []) (behindFound t b p c (less s))
           (found-onward c (w .context (s .said .stream) c h) (less s) (record { from = a .from; to = a .to; kept = a .kept })))
 
-      room : differs (s .said .stream) i ≡ false → (x : Bool) → ltb (s .room) 4 ≡ x → Ends (behindHeader t b p i s)
-      room d true h = subst Ends (sym (header-full t b p i s d (ltb-true (s .room) 4 h))) tt
-      room d false h = look d (ltb-false (s .room) 4 h) (t .stream (s .said .stream)) refl
+      room : differs (s .said .stream) i ≡ false → (x : Bool) → ltb (s .room) wordsPerEntry ≡ x → Ends (behindHeader t b p i s)
+      room d true h = subst Ends (sym (header-full t b p i s d (ltb-true (s .room) wordsPerEntry h))) tt
+      room d false h = look d (ltb-false (s .room) wordsPerEntry h) (t .stream (s .said .stream)) refl
 
       same : (x : Bool) → differs (s .said .stream) i ≡ x → Ends (behindHeader t b p i s)
       same true h = subst Ends (sym (header-differs t b p i s h)) tt
-      same false h = room h (ltb (s .room) 4) refl
+      same false h = room h (ltb (s .room) wordsPerEntry) refl
 
 pub packet-onward : (t : Asked) → Fit t → (b : List ℕ) (k : ℕ) (i : Stated) (s : State) → s .place .0 < 8 * length b → s .place .0 % 8 ≡ 0
     → Onward (Behind b (s .place .0)) (readPacket t b k i s)
-packet-onward t w b k i s l z = room (ltb (s .room) 4) refl
+packet-onward t w b k i s l z = room (ltb (s .room) wordsPerEntry) refl
   where
-    room : (x : Bool) → ltb (s .room) 4 ≡ x → Onward (Behind b (s .place .0)) (readPacket t b k i s)
-    room true h = subst (Onward (Behind b (s .place .0))) (sym (packet-full t b k i s (ltb-true (s .room) 4 h))) tt
-    room false h = subst (Onward (Behind b (s .place .0))) (sym (packet-marked t b k i s (ltb-false (s .room) 4 h)))
-        (onward-onto (Behind b (s .place .0)) (entry packetStarts (s .place) 0 k ∷ []) (behindStart t b k i s (startPacket (less s)))
+    room : (x : Bool) → ltb (s .room) wordsPerEntry ≡ x → Onward (Behind b (s .place .0)) (readPacket t b k i s)
+    room true h = subst (Onward (Behind b (s .place .0))) (sym (packet-full t b k i s (ltb-true (s .room) wordsPerEntry h))) tt
+    room false h = subst (Onward (Behind b (s .place .0))) (sym (packet-marked t b k i s (ltb-false (s .room) wordsPerEntry h)))
+        (onward-onto (Behind b (s .place .0)) (entry packetStarts (s .place) 0 k 0 ∷ []) (behindStart t b k i s (startPacket (less s)))
         (unfold _⨾_ startPacket nothingSaid in
         (onward-after (Inside (packetEnv t b (s .place))) (Behind b (s .place .0))
-        (readRoot (packetEnv t b (s .place)) (t .header) (startPacket (less s))) (behindHeader t b (s .place) i)
-        (root-inside (packetEnv t b (s .place)) (t .header) (w .header) (startPacket (less s))
+        (readRoot (packetEnv t b (s .place)) firstRoot (t .header) (startPacket (less s))) (behindHeader t b (s .place) i)
+        (root-inside (packetEnv t b (s .place)) firstRoot (t .header) (w .header) (startPacket (less s))
         (record { from = omega arith; to = omega arith; kept = inl (refl, refl) }))
         (λ s′ a. header-onward t w b (s .place) l z i s′ a))))

@@ -7,12 +7,13 @@ use Prim.Native.Nat.{ℕ, _≤_, _<_}
 use Rattle.rules.specs.declared.BitPlace.{BitPlace}
 use Rattle.rules.specs.declared.Stated.{Stated}
 use Rattle.rules.specs.declared.Refusal.the-variants.{ListFull, StreamClassChanged, StreamClassUnknown}
+use Rattle.rules.specs.Limits.{wordsPerEntry}
 use Rattle.rules.specs.Verdict.{stopAt}
 use Rattle.rules.specs.Entry.{entry, packetStarts, streamClassFound}
 use Rattle.rules.specs.Step.{State, stop, Step, onto, _⨾_, refuse}
 use Rattle.rules.specs.Table.{StreamClass, Asked}
 use Rattle.clock.specs.declared.Clock.{Clock}
-use Rattle.rules.specs.Packet.{mark, readRoot, readPacket, differs, withStream, startPacket}
+use Rattle.rules.specs.Packet.{mark, readRoot, firstRoot, readPacket, differs, withStream, startPacket}
 use Rattle.packet_content.specs.Pieces.{packetEnv, behindFound}
 use Rattle.packet_read.specs.Pieces.{behindHeader}
 use Rattle.listing.proofs.Checks.{room-first}
@@ -28,11 +29,11 @@ module _ (t : Asked) (b : List ℕ) (p : BitPlace) (i : Stated) (s : State) wher
   header-differs h = check-stop _ StreamClassChanged _ s h
 
   module _ (same : differs (s .said .stream) i ≡ false) where
-    pub header-full : s .room < 4 → behindHeader t b p i s ≡ stop [] (stopAt ListFull (s .place))
+    pub header-full : s .room < wordsPerEntry → behindHeader t b p i s ≡ stop [] (stopAt ListFull (s .place))
     unfolding behindHeader
     header-full h = check-on _ StreamClassChanged _ s same ∙ due-stop _ s h
 
-    module _ (room : 4 ≤ s .room) where
+    module _ (room : wordsPerEntry ≤ s .room) where
       pub header-unknown : t .stream (s .said .stream) ≡ none
           → behindHeader t b p i s ≡ stop [] (stopAt (StreamClassUnknown (s .said .stream)) (s .place))
       unfolding behindHeader withStream refuse
@@ -40,7 +41,7 @@ module _ (t : Asked) (b : List ℕ) (p : BitPlace) (i : Stated) (s : State) wher
           ∙ ap (λ x. withStream (s .said .stream) x (λ c. mark streamClassFound 0 (s .said .stream) ⨾ behindFound t b p c) s) h
 
       pub header-marked : (c : StreamClass) → t .stream (s .said .stream) ≡ some c
-          → behindHeader t b p i s ≡ onto (entry streamClassFound (s .place) 0 (s .said .stream) ∷ []) (behindFound t b p c (less s))
+          → behindHeader t b p i s ≡ onto (entry streamClassFound (s .place) 0 (s .said .stream) 0 ∷ []) (behindFound t b p c (less s))
       unfolding behindHeader withStream
       header-marked c h = check-on _ StreamClassChanged _ s same ∙ room-first _ s room
           ∙ ap (λ x. withStream (s .said .stream) x (λ c. mark streamClassFound 0 (s .said .stream) ⨾ behindFound t b p c) s) h
@@ -48,14 +49,14 @@ module _ (t : Asked) (b : List ℕ) (p : BitPlace) (i : Stated) (s : State) wher
 
 module _ (t : Asked) (b : List ℕ) (k : ℕ) (i : Stated) (s : State) where
   abbrev pub behindStart : Step
-  behindStart = readRoot (packetEnv t b (s .place)) (t .header) ⨾ behindHeader t b (s .place) i
+  behindStart = readRoot (packetEnv t b (s .place)) firstRoot (t .header) ⨾ behindHeader t b (s .place) i
 
-  pub packet-full : s .room < 4 → readPacket t b k i s ≡ stop [] (stopAt ListFull (s .place))
+  pub packet-full : s .room < wordsPerEntry → readPacket t b k i s ≡ stop [] (stopAt ListFull (s .place))
   unfolding readPacket
   packet-full h = due-stop _ s h
 
-  pub packet-marked : 4 ≤ s .room
-      → readPacket t b k i s ≡ onto (entry packetStarts (s .place) 0 k ∷ []) (behindStart (startPacket (less s)))
+  pub packet-marked : wordsPerEntry ≤ s .room
+      → readPacket t b k i s ≡ onto (entry packetStarts (s .place) 0 k 0 ∷ []) (behindStart (startPacket (less s)))
   unfolding readPacket behindHeader behindFound
   packet-marked h = room-first _ s h ∙ mark-on packetStarts 0 k _ s
-      ∙ ap (onto (entry packetStarts (s .place) 0 k ∷ [])) (change-on startPacket _ (less s))
+      ∙ ap (onto (entry packetStarts (s .place) 0 k 0 ∷ [])) (change-on startPacket _ (less s))

@@ -13,7 +13,7 @@ use Rattle.rules.specs.Entry.{streamClassFound}
 use Rattle.rules.specs.Slots.{Slots}
 use Rattle.rules.specs.Step.{Step, _⨾_, check, due}
 use Rattle.rules.specs.Table.{Asked}
-use Rattle.rules.specs.Packet.{mark, differs, withStream, nothingSaid}
+use Rattle.rules.specs.Packet.{mark, firstRoot, differs, withStream, nothingSaid}
 use Rattle.listing.specs.declared.Progress.{Progress}
 use Rattle.listing.specs.Did.{full}
 use Rattle.class_layout.specs.declared.TablePlace.{TablePlace}
@@ -21,7 +21,7 @@ use Rattle.class_layout.specs.Fragments.{askedAt}
 use Rattle.class_layout.specs.Notes.{Notes}
 use Rattle.outcome.specs.declared.Ran.{Ran}
 use Rattle.outcome.specs.Ran.{RanDid}
-use Rattle.event_turns.specs.Roots.{classOf, RootStands}
+use Rattle.event_turns.specs.Roots.{classOf, Numbered, RootStands}
 use Rattle.event_turns.specs.Ready.{Ready}
 use Rattle.packet_content.specs.Pieces.{behindFound}
 
@@ -45,6 +45,7 @@ pub record Lent (t : List ℕ) (x : Notes) (u : List ℕ) (h : TablePlace) (b : 
   pub ready : Ready t x
   pub stands : RootStands t h
   pub header : classOf t h ≡ (askedAt t) .header
+  pub numbered : Numbered t h firstRoot
   pub uuid : u ≡ (askedAt t) .uuid
   pub small : length b ≤ streamLimit
 

@@ -6,8 +6,10 @@ use clock::Clock;
 use contradictions::differs;
 use listing::Progress;
 use listing::Went;
+use listing::entry::is_full;
 use listing::entry::write;
 use numbers::entries;
+use numbers::limits::WORDS_PER_ENTRY;
 use outcome::Ran;
 use outcome::refused;
 use outcome::stopped;
@@ -40,7 +42,7 @@ ghost use Rattle.packet_read.specs.Pieces.{behindHeader, freshState, Len
 pub fn read_packet(
     table: &[u8],
     sizes: &[u16],
-    aligns: &[u16],
+    aligns: &[u32],
     index: &[u32],
     uuid: &[u8],
     header: TablePlace,
@@ -58,7 +60,7 @@ pub fn read_packet(
         ⌝ }
 {
     let place = begun.place;
-    if list.len() < 4 {
+    if is_full(list.len()) {
         return refused(Refusal::ListFull, place, 0, begun);
     }
     write(
@@ -68,6 +70,7 @@ pub fn read_packet(
             place,
             bits: 0,
             value: number,
+            number: 0,
         },
     );
     let frame = whole_frame(stream, place);
@@ -81,9 +84,9 @@ pub fn read_packet(
         header,
         fresh(begun),
         no_slots(),
-        &mut list[4..],
+        &mut list[WORDS_PER_ENTRY..],
     );
-    let used = 4 + h.used;
+    let used = WORDS_PER_ENTRY + h.used;
     let went = h.went;
     match went {
         Went::Stopped(stop) => {
@@ -113,7 +116,7 @@ pub fn read_packet(
 fn read_behind_header(
     table: &[u8],
     sizes: &[u16],
-    aligns: &[u16],
+    aligns: &[u32],
     index: &[u32],
     uuid: &[u8],
     stream: &[u8],
@@ -137,7 +140,7 @@ fn read_behind_header(
     if differs(id, first) {
         return refused(Refusal::StreamClassChanged, place, 0, st);
     }
-    if list.len() < 4 {
+    if is_full(list.len()) {
         return refused(Refusal::ListFull, place, 0, st);
     }
     match find_stream_class(table, sizes, id) {
@@ -150,6 +153,7 @@ fn read_behind_header(
                     place,
                     bits: 0,
                     value: id,
+                    number: 0,
                 },
             );
             let r = read_of_stream(
@@ -164,9 +168,9 @@ fn read_behind_header(
                 id,
                 st,
                 slots,
-                &mut list[4..],
+                &mut list[WORDS_PER_ENTRY..],
             );
-            with_last(4, r, st)
+            with_last(WORDS_PER_ENTRY, r, st)
         }
     }
 }

@@ -16,14 +16,15 @@ use Rattle.listing.specs.declared.Went.the-variants.{On}
 use Rattle.listing.specs.Did.{full, outOf}
 use Rattle.class_layout.specs.declared.TablePlace.{TablePlace}
 use Rattle.class_layout.specs.declared.TablePlace.the-variants.{At, Nothing}
+use Rattle.class_layout.specs.Numbers.{numberAt}
 use Rattle.class_layout.specs.Trees.{stoodAt, membersAt}
 use Rattle.field_read.specs.declared.Field.{Field}
 use Rattle.field_read.specs.Reads.{FieldReads}
-use Rattle.event_turns.specs.Roots.{classOf}
+use Rattle.event_turns.specs.Roots.{classOf, numberOf}
 
 module _ (t : List ℕ) (root : TablePlace) (e : Env) (st : Progress) (l : Slots) where
   pub no-root : (ws : List ℕ) → length l ≡ slotCount → root ≡ Nothing
-      → FieldReads (readRoot e (classOf t root)) st l (record { went = On; used = 0; state = st; slots = l }) ws ws
+      → FieldReads (readRoot e (numberOf t root) (classOf t root)) st l (record { went = On; used = 0; state = st; slots = l }) ws ws
   unfolding classOf readRoot pass outOf words
   no-root ws n h =
       let all : length ws - 0 ≡ length ws = omega arith in
@@ -40,12 +41,13 @@ module _ (t : List ℕ) (root : TablePlace) (e : Env) (st : Progress) (l : Slots
         many = n;
       }
 
-  root-reads : (p : ℕ) → root ≡ At p → (s : _) → readMembers e (membersAt (stoodAt depthLimit t) p 1) s ≡ readRoot e (classOf t root) s
-  unfolding classOf readRoot readMembers membersAt _⨾_
+  root-reads : (p : ℕ) → root ≡ At p → (s : _)
+      → readMembers e (numberAt t p) (membersAt (stoodAt depthLimit t) p 1) s ≡ readRoot e (numberOf t root) (classOf t root) s
+  unfolding classOf numberOf readRoot readMembers membersAt _⨾_
   root-reads p h s = rw (h) (after-pass _)
 
   pub a-root : (p : ℕ) {r : Field} {ws ws′ : List ℕ} → root ≡ At p
-      → FieldReads (readMembers e (membersAt (stoodAt depthLimit t) p 1)) st l r ws ws′
-      → FieldReads (readRoot e (classOf t root)) st l r ws ws′
+      → FieldReads (readMembers e (numberAt t p) (membersAt (stoodAt depthLimit t) p 1)) st l r ws ws′
+      → FieldReads (readRoot e (numberOf t root) (classOf t root)) st l r ws ws′
   a-root p {r} {ws} {ws′} h did =
       record { did = rw (root-reads p h (full st l (length ws))) at (did .did); kept = did .kept; many = did .many }

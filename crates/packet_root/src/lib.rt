@@ -11,13 +11,13 @@ ghost use Rattle.rules.specs.Packet.{readRoot};
 ghost use Rattle.frame.specs.Framed.{Framed, envOf};
 ghost use Rattle.class_layout.specs.Notes.{notes, Prepared};
 ghost use Rattle.field_read.specs.Reads.{FieldReads};
-ghost use Rattle.event_turns.specs.Roots.{classOf, RootStands};
+ghost use Rattle.event_turns.specs.Roots.{classOf, numberOf, RootStands};
 
 // The fields of a root, if there is one.
 pub fn read_root(
     table: &[u8],
     sizes: &[u16],
-    aligns: &[u16],
+    aligns: &[u32],
     uuid: &[u8],
     stream: &[u8],
     frame: Frame,
@@ -30,8 +30,10 @@ pub fn read_root(
     requires { ⌜ Prepared (now table) (notes (now sizes) (now aligns)) ⌝ }
     requires { ⌜ Framed (now stream) frame (st .place) ⌝ }
     ensures { λ r. ⌜
-        FieldReads (readRoot (envOf (now (stream .entry)) (now (uuid .entry)) frame) (classOf (now (table .entry)) root)) st slots r
-        (now (list .entry)) (now (list .exit))
+        FieldReads
+        (readRoot (envOf (now (stream .entry)) (now (uuid .entry)) frame) (numberOf (now (table .entry)) root)
+        (classOf (now (table .entry)) root))
+        st slots r (now (list .entry)) (now (list .exit))
         ⌝ }
 {
     match root {

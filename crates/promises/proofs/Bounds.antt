@@ -1,5 +1,5 @@
 -- Inside a packet the place stays between the packet's start and the bound; and behind a stated length it has moved.
-use Prim.Native.Nat.{_≤_}
+use Prim.Native.Nat.{ℕ, _≤_}
 use mathlib.Core.Option.{Option}
 use Rattle.rules.specs.declared.Refusal.{Refusal}
 use Rattle.rules.specs.Verdict.{stopAt}
@@ -21,7 +21,8 @@ module _ (e : Env) where
   place-of r i s h = (h .from, h .to)
 
   -- a root whose fields have a bit or more
-  pub bound-root : (c : Option Class) → FitRoot (λ n. 1 ≤ n) Any Any c → Bounded (readRoot e c)
-  bound-root c w =
+  pub bound-root : (m : ℕ) (c : Option Class) → FitRoot (λ n. 1 ≤ n) Any Any c → Bounded (readRoot e m c)
+  bound-root m c w =
       weaker (In e) (At e) (NoMore e) (λ s h. record { from = h .from; to = h .to; kept = h .moved })
-      (looser (In e) (At e) (NoMore e) (λ s h. record { from = h .from; to = h .to; moved = h .kept }) (law-root e (held-law e (moved-kept e)) c w))
+      (looser (In e) (At e) (NoMore e) (λ s h. record { from = h .from; to = h .to; moved = h .kept })
+      (law-root e (held-law e (moved-kept e)) m c w))

@@ -29,7 +29,7 @@ use Rattle.rules.specs.declared.Refusal.the-variants.{SlotOfWrongSort, LengthTo
 use Rattle.rules.specs.declared.Refusal.the-variants.{StreamClassChanged, StreamClassUnknown, LengthsContradict, ClocksContradict}
 use Rattle.rules.specs.declared.Refusal.the-variants.{EventClassUnknown, EventTookNoBits, ClockWentBack, ListFull, NotText}
 use Rattle.rules.specs.declared.Verdict.the-variants.{Refused}
-use Rattle.rules.specs.Limits.{streamLimit}
+use Rattle.rules.specs.Limits.{wordsPerEntry, streamLimit}
 use Rattle.rules.specs.Bits.{bits}
 use Rattle.rules.specs.Leb128.{lebUnsigned, lebSigned, lebWidth}
 use Rattle.rules.specs.Clock.{advance, clockAfter}
@@ -47,13 +47,14 @@ use Rattle.rules.specs.Table.{StreamClass, EventClass, Table, Asked, asked}
 use Rattle.rules.specs.Field.{Env, aligned, fit, field, store, newClock, say, role, blobRole, fromSlot}
 use Rattle.rules.specs.Field.{valueOf, ahead, bytesAt, readFixed, readLeb, asText, readZero, readText, readBlob}
 use Rattle.rules.specs.Packet.{mark, readRoot, withEvent, withStream, startEvent, startPacket}
+use Rattle.rules.specs.Packet.{firstRoot, headerNumber, commonNumber, payloadNumber}
 use Rattle.rules.specs.Packet.{endPacket, readEvent, readEvents, readContent, readPacket, readPackets}
 use Rattle.rules.specs.Parse.{Parsed, bad, good, parse}
 use Rattle.rules.specs.Read.{Reading, ended, begin, readStream, readParsed, readAll}
 use Rattle.facts.proofs.Steps.{onto-nil}
 use Rattle.clock.specs.Least.{Least}
 use Rattle.clock.proofs.Least.{new-clock}
-use Rattle.laws.proofs.Law.{FieldKind, Any, any-slot, Law, law-any}
+use Rattle.laws.proofs.Law.{FieldKind, Any, AnyRecord, any-slot, Law, law-any}
 use Rattle.laws.proofs.Places.{tenthByte}
 use Rattle.promises.specs.Clocks.{clockBehind, clocksBehind, stampBits, Ticking, NeedsMore}
 
@@ -226,9 +227,9 @@ tick-mark k n v h = record { at = λ u s. tick-listed u _ (s .place) s h }
 field-still : (k : ℕ) → FieldKind k → Still k
 field-still k h = record { not-packet = λ e. absurd (omega (arith, h)); not-clock = λ e. absurd (omega (arith, h)) }
 
-tick-field : (e : Env) (k a n v : ℕ) → FieldKind k → Tick (field e k a n v)
+tick-field : (e : Env) (m k a n v : ℕ) → FieldKind k → Tick (field e m k a n v)
 unfolding field
-tick-field e k a n v h = record { at = λ u s. tick-listed u _ _ s (field-still k h) }
+tick-field e m k a n v h = record { at = λ u s. tick-listed u _ _ s (field-still k h) }
 
 -- an entry that is neither, and what comes behind it
 tick-behind : (c : ℕ) (p x : Entry) (o : Out) → Still (x .kind) → TickOut c x o → TickOut c p (onto (x ∷ []) o)
@@ -236,9 +237,10 @@ unfolding clocksBehind lastOf
 tick-behind c p x o h k =
     tick-onto c p (x ∷ []) o ((λ q. absurd (h .not-clock q)), tt) (subst (λ z. TickOut z x o) (sym (still-behind c x h)) k)
 
-tick-valued : (e : Env) (k a n v : ℕ) → FieldKind k → {m : Step} → ((q : BitPlace) → TickAt (entry k q n v) m) → Tick (field e k a n v ⨾ m)
+tick-valued : (e : Env) (m k a n v : ℕ) → FieldKind k → {f : Step} → ((q : BitPlace) → TickAt (entry k q n v m) f)
+    → Tick (field e m k a n v ⨾ f)
 unfolding field listed _⨾_ after
-tick-valued e k a n v h {m} g = record { at = λ p s. tick-behind (s .clock) p _ (m _) (field-still k h) (g (aligned e a s) .at _ refl) }
+tick-valued e m k a n v h {f} g = record { at = λ p s. tick-behind (s .clock) p _ (f _) (field-still k h) (g (aligned e a s) .at _ refl) }
 
 at-any : (p : Entry) {m : Step} → Tick m → TickAt p m
 at-any p h = record { at = λ s l. h .at p s }
@@ -254,7 +256,7 @@ at-change p f h k {m} g = record {
 at-clock : (l : ℕ) (p : Entry) → FieldKind (p .kind) → l ≡ stampBits p
     → TickAt p (due ⨾ λ s. newClock l (clockAfter (s .clock) l (p .value)) s)
 unfolding due check _⨾_ pass refuse after refusalNumber
-at-clock l p f k = record { at = λ s g. by s g (ltb (s .room) 4) }
+at-clock l p f k = record { at = λ s g. by s g (ltb (s .room) wordsPerEntry) }
   where
     stamped : Step
     stamped s = newClock l (clockAfter (s .clock) l (p .value)) s
@@ -320,17 +322,17 @@ kind-field signedInt = omega arith
 kind-field float = omega arith
 
 -- the stamp's bits
-fixed-bits : (k : Sort) (q : BitPlace) (n v : ℕ) → n ≡ stampBits (entry (kindOf k) q n v)
+fixed-bits : (k : Sort) (q : BitPlace) (n v m : ℕ) → n ≡ stampBits (entry (kindOf k) q n v m)
 unfolding stampBits kindOf
-fixed-bits bitArray q n v = refl
-fixed-bits boolean q n v = refl
-fixed-bits unsignedInt q n v = refl
-fixed-bits signedInt q n v = refl
-fixed-bits float q n v = refl
+fixed-bits bitArray q n v m = refl
+fixed-bits boolean q n v m = refl
+fixed-bits unsignedInt q n v m = refl
+fixed-bits signedInt q n v m = refl
+fixed-bits float q n v m = refl
 
-leb-bits : (q : BitPlace) (n v : ℕ) → 7 * n ≡ stampBits (entry 21 q (8 * n) v)
+leb-bits : (q : BitPlace) (n v m : ℕ) → 7 * n ≡ stampBits (entry 21 q (8 * n) v m)
 unfolding stampBits
-leb-bits q n v = omega arith
+leb-bits q n v m = omega arith
 
 no-clock : {A : Type 0} → noRole ≡ clock → A
 no-clock h = let z : _≡_ {A = ℕ} 0 1 = cc in absurd (omega arith)
@@ -340,40 +342,40 @@ module _ (e : Env) where
   unfolding fit refusalNumber
   tick-fit a n = tick-checkAt _ PastBound (e .bound) (λ q. omega arith)
 
-  tick-fixed : (k : Sort) (n : ℕ) (o : Order) (a i : ℕ) (r : Role) → Tick (readFixed e k n o a i r)
+  tick-fixed : (m : ℕ) (k : Sort) (n : ℕ) (o : Order) (a i : ℕ) (r : Role) → Tick (readFixed e m k n o a i r)
   unfolding readFixed store withOrder withSlots refusalNumber
-  tick-fixed k n o a i r =
+  tick-fixed m k n o a i r =
       tick-due ⨾ᵗ tick-fit a 0 ⨾ᵗ tick-check _ OrderChanged (λ q. omega arith) ⨾ᵗ tick-fit a n
       ⨾ᵗ record {
         at = λ u s.
             let v = bits o (e .bytes) ((aligned e a s) .0) n in
-            tick-valued e (kindOf k) a n (valueOf k n v) (kind-field k)
+            tick-valued e m (kindOf k) a n (valueOf k n v) (kind-field k)
             (λ q.
-            let x = entry (kindOf k) q n (valueOf k n v) in
+            let x = entry (kindOf k) q n (valueOf k n v) m in
             at-change _ _ (λ s. refl) (λ s. refl)
-            (at-change _ _ (λ s. refl) (λ s. refl) (at-role r n x (kind-field k) (λ h. fixed-bits k q n _)))) .at u s;
+            (at-change _ _ (λ s. refl) (λ s. refl) (at-role r n x (kind-field k) (λ h. fixed-bits k q n _ m)))) .at u s;
       }
 
-  tick-leb : (k : ℕ) (c : ℕ → Content) (i : ℕ) (r : Role) (x : Leb) → FieldKind k
-      → ((q : BitPlace) (n v : ℕ) → r ≡ clock → 7 * n ≡ stampBits (entry k q (8 * n) v)) → Tick (readLeb e k c i r x)
+  tick-leb : (m k : ℕ) (c : ℕ → Content) (i : ℕ) (r : Role) (x : Leb) → FieldKind k
+      → ((q : BitPlace) (n v : ℕ) → r ≡ clock → 7 * n ≡ stampBits (entry k q (8 * n) v m)) → Tick (readLeb e m k c i r x)
   unfolding readLeb store withSlots refusalNumber
-  tick-leb k c i r (Value v n) h l =
-      tick-valued e k 8 (8 * n .0) v h
-      (λ q. at-change _ _ (λ s. refl) (λ s. refl) (at-role r (lebWidth n) (entry k q (8 * n .0) v) h (l q (n .0) v)))
-  tick-leb k c i r Past h l = tick-refuseAt PastBound (e .bound) (λ q. omega arith)
-  tick-leb k c i r Large h l = record { at = λ u s. tick-refuseAt LebTooLarge (tenthByte e s) (λ q. omega arith) .at u s }
+  tick-leb m k c i r (Value v n) h l =
+      tick-valued e m k 8 (8 * n .0) v h
+      (λ q. at-change _ _ (λ s. refl) (λ s. refl) (at-role r (lebWidth n) (entry k q (8 * n .0) v m) h (l q (n .0) v)))
+  tick-leb m k c i r Past h l = tick-refuseAt PastBound (e .bound) (λ q. omega arith)
+  tick-leb m k c i r Large h l = record { at = λ u s. tick-refuseAt LebTooLarge (tenthByte e s) (λ q. omega arith) .at u s }
 
   tick-asText : (x : List ℕ) → Tick (asText x)
   unfolding asText refusalNumber
   tick-asText x = tick-check _ NotText (λ q. omega arith)
 
-  tick-zero : (x : Ended) → Tick (readZero e x)
+  tick-zero : (m : ℕ) (x : Ended) → Tick (readZero e m x)
   unfolding readZero refusalNumber
-  tick-zero (After n) =
-      record { at = λ v s. tick-asText (bytesAt e (aligned e 8 s) (n .0)) .at v s } ⨾ᵗ tick-field e 23 8 _ _ (omega arith)
-  tick-zero Never = tick-refuse NoZeroByte (λ q. omega arith)
+  tick-zero m (After n) =
+      record { at = λ v s. tick-asText (bytesAt e (aligned e 8 s) (n .0)) .at v s } ⨾ᵗ tick-field e m 23 8 _ _ (omega arith)
+  tick-zero m Never = tick-refuse NoZeroByte (λ q. omega arith)
 
-  tick-law : Law e Any Any Any Tick Tick
+  tick-law : Law e AnyRecord Any Any Any Tick Tick
   unfolding fromSlot refusalNumber
   tick-law = record {
     none? = tt;
@@ -387,33 +389,33 @@ module _ (e : Env) where
     inNone = tick-refuse SelectorInNoOption (λ q. omega arith);
     within = λ n h. tick-check _ LengthTooLarge (λ q. omega arith) ⨾ᵗ h;
     slot = λ i f h. record { at = λ v s. h (slotAt (s .slots) i) (any-slot (slotAt (s .slots) i)) .at v s };
-    fixes = λ k n o a i r w z. tick-fixed k n o (2 ^ a) i r;
-    lebs = λ i r z. tick-fit 8 0 ⨾ᵗ record {
+    fixes = λ m k n o a i r y w z. tick-fixed m k n o (2 ^ a) i r;
+    lebs = λ m i r y z. tick-fit 8 0 ⨾ᵗ record {
       at = λ v s.
           let x = lebUnsigned (ahead e (aligned e 8 s)) in
-          tick-leb 21 Unsigned i r x (omega arith) (λ q n v h. leb-bits q n v) .at v s;
+          tick-leb m 21 Unsigned i r x (omega arith) (λ q n v h. leb-bits q n v m) .at v s;
     };
-    signedLebs = λ i z. tick-fit 8 0 ⨾ᵗ record {
+    signedLebs = λ m i y z. tick-fit 8 0 ⨾ᵗ record {
       at = λ v s.
           let x = lebSigned (ahead e (aligned e 8 s)) in
-          tick-leb 22 Signed i noRole x (omega arith) (λ q n v h. no-clock h) .at v s;
+          tick-leb m 22 Signed i noRole x (omega arith) (λ q n v h. no-clock h) .at v s;
     };
-    zeros = tick-fit 8 0 ⨾ᵗ record { at = λ v s. tick-zero (zeroAt (ahead e (aligned e 8 s))) .at v s };
-    texts = λ k n h. unfold readText in
+    zeros = λ m y. tick-fit 8 0 ⨾ᵗ record { at = λ v s. tick-zero m (zeroAt (ahead e (aligned e 8 s))) .at v s };
+    texts = λ m k n h y. unfold readText in
         tick-fit 8 0 ⨾ᵗ tick-fit 8 (8 * n)
         ⨾ᵗ record {
-          at = λ v s. let b = bytesAt e (aligned e 8 s) n in (tick-asText b ⨾ᵗ tick-field e k 8 (8 * n) (textLength b) h) .at v s;
+          at = λ v s. let b = bytesAt e (aligned e 8 s) n in (tick-asText b ⨾ᵗ tick-field e m k 8 (8 * n) (textLength b) h) .at v s;
         };
-    blobs = λ k n r h. unfold readBlob in
+    blobs = λ m k n r h y. unfold readBlob in
         tick-fit 8 0 ⨾ᵗ tick-fit 8 (8 * n)
-        ⨾ᵗ record { at = λ v s. (tick-field e k 8 (8 * n) n h ⨾ᵗ tick-blobRole e r (bytesAt e (aligned e 8 s) n)) .at v s };
-    heads = λ k a v h l w x. tick-fit a 0 ⨾ᵗ tick-field e k a 0 v h ⨾ᵗ x;
-    tags = λ k v h w x. tick-field e k 1 0 v h ⨾ᵗ x;
-    tag = λ k v h w. tick-field e k 1 0 v h;
+        ⨾ᵗ record { at = λ v s. (tick-field e m k 8 (8 * n) n h ⨾ᵗ tick-blobRole e r (bytesAt e (aligned e 8 s) n)) .at v s };
+    heads = λ m k a v h y l w x. tick-fit a 0 ⨾ᵗ tick-field e m k a 0 v h ⨾ᵗ x;
+    tags = λ m k v h y w x. tick-field e m k 1 0 v h ⨾ᵗ x;
+    tag = λ m k v h y w. tick-field e m k 1 0 v h;
   }
 
-  tick-root : (c : Option Class) → Tick (readRoot e c)
-  tick-root c = law-any e tick-law c
+  tick-root : (m : ℕ) (c : Option Class) → Tick (readRoot e m c)
+  tick-root m c = law-any e tick-law m c
 
 -- Packets
 
@@ -428,12 +430,13 @@ module _ (t : Asked) where
   tick-event c e n = record {
     at = λ v s₀.
         (tick-due ⨾ᵗ tick-mark eventStarts 0 n (still 4 (λ q. omega arith) (λ q. omega arith)) ⨾ᵗ tick-change _ (λ s. refl)
-        ⨾ᵗ tick-root e (c .header) ⨾ᵗ tick-check _ ClockWentBack (λ q. omega arith)
+        ⨾ᵗ tick-root e (headerNumber c) (c .header) ⨾ᵗ tick-check _ ClockWentBack (λ q. omega arith)
         ⨾ᵗ tick-change _ (λ s. refl) ⨾ᵗ tick-due
         ⨾ᵗ record {
           at = λ v s. tick-found (c .id) (s .said .event) (t .event (c .id) (s .said .event)) _
               (λ d. tick-mark eventClassFound 0 (s .said .event) (still 5 (λ q. omega arith) (λ q. omega arith))
-              ⨾ᵗ tick-root e (c .common) ⨾ᵗ tick-root e (d .specific) ⨾ᵗ tick-root e (d .payload)) .at v s;
+              ⨾ᵗ tick-root e (commonNumber c) (c .common) ⨾ᵗ tick-root e firstRoot (d .specific)
+              ⨾ᵗ tick-root e (payloadNumber d) (d .payload)) .at v s;
         }
         ⨾ᵗ tick-check (λ s. eqb (s .place .0) (s₀ .place .0)) EventTookNoBits (λ q. omega arith)) .at v s₀;
   }
@@ -476,11 +479,11 @@ module _ (t : Asked) where
   unfolding readPacket refusalNumber
   tick-packet b k i = record {
     at = λ v s₀.
-        (tick-due ⨾ᵗ tick-start k (tick-root _ (t .header) ⨾ᵗ tick-check _ StreamClassChanged (λ q. omega arith) ⨾ᵗ tick-due
+        (tick-due ⨾ᵗ tick-start k (tick-root _ firstRoot (t .header) ⨾ᵗ tick-check _ StreamClassChanged (λ q. omega arith) ⨾ᵗ tick-due
         ⨾ᵗ record {
           at = λ v s. tick-stream (s .said .stream) (t .stream (s .said .stream)) _
               (λ c. tick-mark streamClassFound 0 (s .said .stream) (still 2 (λ q. omega arith) (λ q. omega arith))
-              ⨾ᵗ tick-root _ (c .context)
+              ⨾ᵗ tick-root _ firstRoot (c .context)
               ⨾ᵗ record { at = λ v s. tick-content c b (s₀ .place) _ _ .at v s }) .at v s;
         })) .at v s₀;
   }
@@ -537,7 +540,7 @@ last-stands p e (f ∷ es) = let h = last-stands e f es in (e ∷ h .0, ap (e �
 
 -- where 36 refuses it, behind whatever entry: one of no field shows that the list is not empty
 unfit-last : (es : List Entry) (place : ℕ) → ((p : Entry) → Unfit (clocksBehind 0 es) (lastOf p es) place) → NeedsMore es place
-unfit-last [] place h = unfold lastOf in absurd (omega (arith, h (entry 0 (bitPlace 0) 0 0) .field .0))
+unfit-last [] place h = unfold lastOf in absurd (omega (arith, h (entry 0 (bitPlace 0) 0 0 0) .field .0))
 unfit-last (e ∷ es) place h =
     let u = h e in
     let l = last-stands e e es in

@@ -28,6 +28,7 @@ use Rattle.rules.specs.Class.{Class}
 use Rattle.rules.specs.Table.{StreamClass, EventClass, Table, Asked, asked}
 use Rattle.rules.specs.Field.{Env}
 use Rattle.rules.specs.Packet.{mark, readRoot, withEvent, readEvent, endPacket, readEvents}
+use Rattle.rules.specs.Packet.{firstRoot, headerNumber, commonNumber, payloadNumber}
 use Rattle.rules.specs.Packet.{readContent, withStream, readPacket, readPackets}
 use Rattle.rules.specs.Parse.{Parsed, bad, good, parse}
 use Rattle.rules.specs.Read.{Reading, ended, begin, readStream, readParsed, readAll}
@@ -116,8 +117,8 @@ field-quiet : (e : Entry) → FieldEntry e → Quiet e
 field-quiet e (inl p) = quiet (e .kind) (omega arith) (λ q. omega arith) (λ q. omega arith) (λ q. omega arith)
 field-quiet e (inr p) = quiet (e .kind) (omega (arith, p)) (λ q. omega (arith, p)) (λ q. omega (arith, p)) (λ q. omega (arith, p))
 
-quiet-root : (e : Env) (c : Option Class) → Each Quiet (readRoot e c)
-quiet-root e c = record { at = λ s. all-of field-quiet (listOf (readRoot e c s)) (fields-root e c .at s) }
+quiet-root : (e : Env) (m : ℕ) (c : Option Class) → Each Quiet (readRoot e m c)
+quiet-root e m c = record { at = λ s. all-of field-quiet (listOf (readRoot e m c s)) (fields-root e m c .at s) }
 
 quiet-mark : (k n v : ℕ) → QuietKind k → Each Quiet (mark k n v)
 unfolding mark
@@ -215,12 +216,13 @@ module _ (t : Asked) where
   counts-event c e n = record {
     at = λ s₀.
         (counts-quiet n (each-due Quiet) ⨾ᶜ mark-event n
-        ⨾ᶜ counts-quiet (n + 1) (each-change Quiet _ ⨾q quiet-root e (c .header) ⨾q each-check Quiet _ ClockWentBack
+        ⨾ᶜ counts-quiet (n + 1) (each-change Quiet _ ⨾q quiet-root e (headerNumber c) (c .header) ⨾q each-check Quiet _ ClockWentBack
         ⨾q each-change Quiet _ ⨾q each-due Quiet
         ⨾q record {
           at = λ s. quiet-found (c .id) (s .said .event) (t .event (c .id) (s .said .event)) _
               (λ d. quiet-mark eventClassFound 0 (s .said .event) kind-5
-              ⨾q quiet-root e (c .common) ⨾q quiet-root e (d .specific) ⨾q quiet-root e (d .payload)) .at s;
+              ⨾q quiet-root e (commonNumber c) (c .common) ⨾q quiet-root e firstRoot (d .specific)
+              ⨾q quiet-root e (payloadNumber d) (d .payload)) .at s;
         }
         ⨾q each-check Quiet (λ s. eqb (s .place .0) (s₀ .place .0)) EventTookNoBits)) .at s₀;
   }
@@ -256,11 +258,12 @@ module _ (t : Asked) where
   counted-packet n b k i = record {
     at = λ s₀.
         (counts-quiet n (each-due Quiet) ⨾ⁿ mark-packet n k ⨾ⁿ counts-quiet 0 (each-change Quiet _)
-        ⨾ⁿ counts-quiet 0 (quiet-root _ (t .header)) ⨾ⁿ counts-quiet 0 (each-check Quiet _ StreamClassChanged)
+        ⨾ⁿ counts-quiet 0 (quiet-root _ firstRoot (t .header)) ⨾ⁿ counts-quiet 0 (each-check Quiet _ StreamClassChanged)
         ⨾ⁿ counts-quiet 0 (each-due Quiet)
         ⨾ⁿ record {
           at = λ s. counted-stream (s .said .stream) (t .stream (s .said .stream)) _
-              (λ c. counts-quiet 0 (quiet-mark streamClassFound 0 (s .said .stream) kind-2) ⨾ⁿ counts-quiet 0 (quiet-root _ (c .context))
+              (λ c. counts-quiet 0 (quiet-mark streamClassFound 0 (s .said .stream) kind-2)
+              ⨾ⁿ counts-quiet 0 (quiet-root _ firstRoot (c .context))
               ⨾ⁿ record { at = λ s. counted-content c b (s₀ .place) _ _ .at s }) .at s;
         }) .at s₀;
   }
@@ -315,17 +318,18 @@ shown-none [] h = refl
 shown-none (k ∷ []) h = refl
 shown-none (k ∷ p ∷ []) h = refl
 shown-none (k ∷ p ∷ n ∷ []) h = refl
-shown-none (k ∷ p ∷ n ∷ v ∷ ws) h = rw (h, shown)
+shown-none (k ∷ p ∷ n ∷ v ∷ []) h = refl
+shown-none (k ∷ p ∷ n ∷ v ∷ m ∷ ws) h = rw (h, shown)
 
-shown-entry : (k p n v : ℕ) (ws : List ℕ) → 1 ≤ k → shown (k ∷ p ∷ n ∷ v ∷ ws) ≡ suc (shown ws)
+shown-entry : (k p n v m : ℕ) (ws : List ℕ) → 1 ≤ k → shown (k ∷ p ∷ n ∷ v ∷ m ∷ ws) ≡ suc (shown ws)
 unfolding shown before
-shown-entry zero p n v ws h = absurd (omega arith)
-shown-entry (suc k) p n v ws h = omega arith
+shown-entry zero p n v m ws h = absurd (omega arith)
+shown-entry (suc k) p n v m ws h = omega arith
 
 shown-words : (es : List Entry) (ws : List ℕ) → All Named es → getD ws 0 0 ≡ 0 → shown (words es ++ ws) ≡ length es
 unfolding words
 shown-words [] ws h z = shown-none ws z
-shown-words (e ∷ es) ws h z = shown-entry (e .kind) _ _ _ (words es ++ ws) (h .0) ∙ ap suc (shown-words es ws (h .1) z)
+shown-words (e ∷ es) ws h z = shown-entry (e .kind) _ _ _ _ (words es ++ ws) (h .0) ∙ ap suc (shown-words es ws (h .1) z)
 
 pub reading-shown : (x b : List ℕ) (room : ℕ) (ws : List ℕ) → getD ws 0 0 ≡ 0
     → shown (words ((readAll x b room) .entries) ++ ws) ≡ length ((readAll x b room) .entries)

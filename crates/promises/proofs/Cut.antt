@@ -36,24 +36,24 @@ others-passed n (x ∷ es) h = (ap (λ b. b && eqb (x .value) n) (ne-eqb (x .kin
 
 -- A packet's entries: entry 1 of number k at p, and others
 
-module _ (p : BitPlace) (k : ℕ) (es others : List Entry) (list : es ≡ entry packetStarts p 0 k ∷ others)
+module _ (p : BitPlace) (k : ℕ) (es others : List Entry) (list : es ≡ entry packetStarts p 0 k 0 ∷ others)
     (none : All (NotOf packetStarts) others) where
   pub packet-passed : (n : ℕ) → (k ≡ n → ⊥) → All (Passed n) es
   packet-passed n d = subst (All (Passed n)) (sym list) (unfold startsPacket in ne-eqb k n d, others-passed n others none)
 
-  begins : startsPacket k (entry packetStarts p 0 k) ≡ true
+  begins : startsPacket k (entry packetStarts p 0 k 0) ≡ true
   unfolding startsPacket
   begins = eq-eqb k k refl
 
   pub before-at : (fs : List Entry) → beforePacket k (es ++ fs) ≡ []
   unfolding beforePacket
   before-at fs = ap (λ l. beforePacket k (l ++ fs)) list
-      ∙ ap (λ b. elim b [ true ↦ [] | false ↦ entry packetStarts p 0 k ∷ beforePacket k (others ++ fs) ]) begins
+      ∙ ap (λ b. elim b [ true ↦ [] | false ↦ entry packetStarts p 0 k 0 ∷ beforePacket k (others ++ fs) ]) begins
 
   pub from-at : (fs : List Entry) → fromPacket k (es ++ fs) ≡ es ++ fs
   unfolding fromPacket
   from-at fs = ap (λ l. fromPacket k (l ++ fs)) list
-      ∙ ap (λ b. elim b [ true ↦ entry packetStarts p 0 k ∷ (others ++ fs) | false ↦ fromPacket k (others ++ fs) ]) begins
+      ∙ ap (λ b. elim b [ true ↦ entry packetStarts p 0 k 0 ∷ (others ++ fs) | false ↦ fromPacket k (others ++ fs) ]) begins
       ∙ ap (λ l. l ++ fs) (sym list)
 
   pub place-at : (fs : List Entry) → placeIn (es ++ fs) ≡ p .0
@@ -68,9 +68,9 @@ module _ (p : BitPlace) (k : ℕ) (es others : List Entry) (list : es ≡ entry 
 
   pub packets-at : (fs : List Entry) → packetsIn (es ++ fs) ≡ packetsIn fs + 1
   packets-at fs =
-      let s : packetsIn ((entry packetStarts p 0 k ∷ others) ++ fs) ≡ suc (packetsIn (others ++ fs)) = unfold packetsIn in refl in
+      let s : packetsIn ((entry packetStarts p 0 k 0 ∷ others) ++ fs) ≡ suc (packetsIn (others ++ fs)) = unfold packetsIn in refl in
       let c : packetsIn (others ++ fs) ≡ packetsIn fs = counts others fs none in
-      let z : packetsIn (es ++ fs) ≡ packetsIn ((entry packetStarts p 0 k ∷ others) ++ fs) = ap (λ l. packetsIn (l ++ fs)) list in
+      let z : packetsIn (es ++ fs) ≡ packetsIn ((entry packetStarts p 0 k 0 ∷ others) ++ fs) = ap (λ l. packetsIn (l ++ fs)) list in
       omega arith
 
   -- its first entry 3 is found before any that follows
@@ -87,5 +87,5 @@ module _ (p : BitPlace) (k : ℕ) (es others : List Entry) (list : es ≡ entry 
   pub total-at : (fs : List Entry) → 0 < totalIn others → totalIn (es ++ fs) ≡ totalIn others
   total-at fs h = ap (λ l. totalIn (l ++ fs)) list ∙ past ∙ total-append others fs h
     where
-      past : totalIn ((entry packetStarts p 0 k ∷ others) ++ fs) ≡ totalIn (others ++ fs)
+      past : totalIn ((entry packetStarts p 0 k 0 ∷ others) ++ fs) ≡ totalIn (others ++ fs)
       past = unfold totalIn in refl

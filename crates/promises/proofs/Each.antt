@@ -1,6 +1,7 @@
 -- Entries that are all of a kind, and steps that list only such. The entries of fields have kinds 16 to 32, and those of clocks kind 6.
 use mathlib.Core.Path.{_≡_, refl}
 use mathlib.Core.Logic.{_⊎_, inl, inr}
+use Prim.Native.Nat.{ℕ}
 use mathlib.Core.List.{List, []}
 use mathlib.Core.Bool.{Bool, true, false}
 use mathlib.Core.Option.{Option}
@@ -18,9 +19,9 @@ use Rattle.rules.specs.Packet.{readRoot}
 use Rattle.facts.proofs.Steps.{listOf}
 use Rattle.laws.specs.All.{All}
 use Rattle.laws.proofs.All.{all-append}
-use Rattle.laws.proofs.Law.{FieldKind, Any}
+use Rattle.laws.proofs.Law.{FieldKind, Any, fitRoot, AnyRecord, any-root, NumberedRoot}
 use Rattle.laws.proofs.Places.{tenthByte}
-use Rattle.laws.proofs.Simple.{Simple, view, simple-root}
+use Rattle.laws.proofs.Simple.{Simple, view, simple-numbered}
 
 module _ (P : Entry → Type 0) where
   pub record Each (m : Step) : Type 0 where
@@ -81,36 +82,46 @@ module _ (P : Entry → Type 0) where
   unfolding listed listOf
   each-listed e p s h = (h, tt)
 
+-- Fields: P holds of every entry, where it holds of a field's own, if M does of the record that it names, and of a clock's
+
+module _ (P : Entry → Type 0) (M : ℕ → ℕ → Type 0) (e : Env)
+    (fields : (p : BitPlace) (m k n v : ℕ) → FieldKind k → M m k → P (entry k p n v m))
+    (clocks : (p : BitPlace) (l c : ℕ) → P (entry clockAdvanced p l c 0)) where
+  each-simple : Simple e M Any (Each P) (Each P)
+  unfolding field store say fromSlot
+  each-simple = record {
+    seq = λ a b. _⨾ᵉ_ P a b;
+    seqʳ = λ a b. _⨾ᵉ_ P a b;
+    narrow = λ a. a;
+    dueʳ = λ a. _⨾ᵉ_ P (each-due P) a;
+    passes = each-pass P;
+    refuses = λ r small. each-refuse P r;
+    checks = λ t r small. each-check P _ r;
+    checksʳ = λ t r small a. _⨾ᵉ_ P (each-check P _ r) a;
+    refusesPast = each-refuseAt P PastBound (e .bound);
+    checksPastʳ = λ t a. _⨾ᵉ_ P (each-checkAt P _ PastBound (e .bound)) a;
+    refusesLarge = each-λ P (λ s. each-refuseAt P LebTooLarge (tenthByte e s));
+    looks = λ f a. each-λ P {f = λ s. f (view s)} (λ s. a (view s));
+    looksʳ = λ f a. each-λ P {f = λ s. f (view s)} (λ s. a (view s));
+    slots = λ i f a. record { at = λ s. a (slotAt (s .slots) i) .at s };
+    fields = λ m k a n v h z l. record {
+      at = λ s. each-listed P (entry k (aligned e a s) n v m) _ s (fields (aligned e a s) m k n v h z);
+    };
+    clocked = λ l c. record { at = λ s. each-listed P (entry clockAdvanced (s .place) l c 0) (s .place) s (clocks (s .place) l c) };
+    stores = λ i x w. each-change P _;
+    orders = λ o. each-change P _;
+    clocks = λ c. each-change P _;
+    says = λ f. each-change P _;
+  }
+
+  pub each-root : (m : ℕ) (c : Option Class) → NumberedRoot M m c → Each P (readRoot e m c)
+  each-root m c z = simple-numbered e each-simple m c (fitRoot Any Any Any (λ n. tt) (λ n. tt) (λ n. tt) c) z
+
 -- The kinds of a field's entries
 
 abbrev pub FieldEntry : Entry → Type 0
 FieldEntry e = (e .kind ≡ clockAdvanced) ⊎ FieldKind (e .kind)
 
-fields-simple : (e : Env) → Simple e Any (Each FieldEntry) (Each FieldEntry)
-unfolding field store say fromSlot
-fields-simple e = record {
-  seq = λ a b. _⨾ᵉ_ FieldEntry a b;
-  seqʳ = λ a b. _⨾ᵉ_ FieldEntry a b;
-  narrow = λ a. a;
-  dueʳ = λ a. _⨾ᵉ_ FieldEntry (each-due FieldEntry) a;
-  passes = each-pass FieldEntry;
-  refuses = λ r small. each-refuse FieldEntry r;
-  checks = λ t r small. each-check FieldEntry _ r;
-  checksʳ = λ t r small a. _⨾ᵉ_ FieldEntry (each-check FieldEntry _ r) a;
-  refusesPast = each-refuseAt FieldEntry PastBound (e .bound);
-  checksPastʳ = λ t a. _⨾ᵉ_ FieldEntry (each-checkAt FieldEntry _ PastBound (e .bound)) a;
-  refusesLarge = each-λ FieldEntry (λ s. each-refuseAt FieldEntry LebTooLarge (tenthByte e s));
-  looks = λ f a. each-λ FieldEntry {f = λ s. f (view s)} (λ s. a (view s));
-  looksʳ = λ f a. each-λ FieldEntry {f = λ s. f (view s)} (λ s. a (view s));
-  slots = λ i f a. record { at = λ s. a (slotAt (s .slots) i) .at s };
-  fields = λ k a n v h l. record { at = λ s. each-listed FieldEntry (entry k (aligned e a s) n v) _ s (inr h) };
-  clocked = λ l c. record { at = λ s. each-listed FieldEntry (entry clockAdvanced (s .place) l c) (s .place) s (inl refl) };
-  stores = λ i x w. each-change FieldEntry _;
-  orders = λ o. each-change FieldEntry _;
-  clocks = λ c. each-change FieldEntry _;
-  says = λ f. each-change FieldEntry _;
-}
-
 -- what a root lists is of fields
-pub fields-root : (e : Env) (c : Option Class) → Each FieldEntry (readRoot e c)
-fields-root e c = simple-root e (fields-simple e) c
+pub fields-root : (e : Env) (m : ℕ) (c : Option Class) → Each FieldEntry (readRoot e m c)
+fields-root e m c = each-root FieldEntry AnyRecord e (λ p m k n v h z. inr h) (λ p l c. inl refl) m c (any-root m c)

@@ -1,10 +1,11 @@
 -- What a reading's last step leaves, the reading leaves: an array's last step is to forget its last element.
 use mathlib.Core.Path.{_≡_, refl, sym, ap, subst, _∙_}
-use Prim.Native.Nat.{ℕ, zero, suc, _<_}
+use Prim.Native.Nat.{ℕ, zero, suc, _+_, _<_}
 use native.Mathlib.Omega.{arith}
 use mathlib.Core.List.{List, _++_}
 use mathlib.Core.Bool.{Bool, true, false}
 use lib.Dec.{ltb}
+use Rattle.rules.specs.Limits.{wordsPerEntry}
 use Rattle.rules.specs.declared.Entry.{Entry}
 use Rattle.rules.specs.declared.Content.{Content}
 use Rattle.rules.specs.declared.Content.the-variants.{Unsigned}
@@ -49,7 +50,7 @@ module _ (P : State → Type 0) where
 -- a step behind the test for room begins where the test did
 due-step : (m : Step) (s : State) (es : List Entry) (s′ : State) → (due ⨾ m) s ≡ go es s′ → m s ≡ go es s′
 unfolding due check _⨾_
-due-step m s es s′ h = by (ltb (s .room) 4) h
+due-step m s es s′ h = by (ltb (s .room) wordsPerEntry) h
   where
     by : (b : Bool) → after (elim b [ true ↦ refuse ListFull s | false ↦ pass s ]) m ≡ go es s′ → m s ≡ go es s′
     by true h = unfold refuse after in absurd (stop-go _ es _ s′ h)
@@ -59,15 +60,15 @@ start : (c : Class) → Behind (NoneSet c) (forget c)
 unfolding forget change withSlots
 start c s es s′ h i a = ap (λ (t : State). slotAt (t .slots) i) (sym (go-state _ es _ s′ h)) ∙ unset-among (s .slots) (sets c) i a
 
-end : (e : Env) (c : Class) → Behind (NoneSet c) (forget c ⨾ read e c ⨾ forget c)
-end e c = behind-seq (NoneSet c) (forget c) (read e c ⨾ forget c) (behind-seq (NoneSet c) (read e c) (forget c) (start c))
+end : (e : Env) (m : ℕ) (c : Class) → Behind (NoneSet c) (forget c ⨾ read e m c ⨾ forget c)
+end e m c = behind-seq (NoneSet c) (forget c) (read e m c ⨾ forget c) (behind-seq (NoneSet c) (read e m c) (forget c) (start c))
 
-elems : (e : Env) (c : Class) (n : ℕ) → 0 < n → Behind (NoneSet c) (times n (forget c ⨾ read e c ⨾ forget c))
-elems e c n h = behind-some (NoneSet c) _ n h (end e c)
+elems : (e : Env) (m : ℕ) (c : Class) (n : ℕ) → 0 < n → Behind (NoneSet c) (times n (forget c ⨾ read e m c ⨾ forget c))
+elems e m c n h = behind-some (NoneSet c) _ n h (end e m c)
 
-static : (e : Env) (n a : ℕ) (c : Class) → 0 < n → Behind (NoneSet c) (read e (staticArray n a c))
+static : (e : Env) (m n a : ℕ) (c : Class) → 0 < n → Behind (NoneSet c) (read e m (staticArray n a c))
 unfolding read
-static e n a c h = behind-seq P _ _ (behind-seq P _ _ (behind-seq P _ _ (elems e c n h)))
+static e m n a c h = behind-seq P _ _ (behind-seq P _ _ (behind-seq P _ _ (elems e (m + 1) c n h)))
   where
     P : State → Type 0
     P = NoneSet c
@@ -76,11 +77,11 @@ of-length : (P : State → Type 0) (x : Content) (f : ℕ → Step) (n : ℕ) �
 unfolding asLength asNumber
 of-length P x f n p k = subst (λ y. Behind P (asLength y f)) (sym p) (behind-seq P _ (f n) k)
 
-dynamic : (e : Env) (i a : ℕ) (c : Class) (n : ℕ) → 0 < n → (s : State) (es : List Entry) (s′ : State)
-    → slotAt (s .slots) i ≡ Unsigned n → read e (dynamicArray i a c) s ≡ go es s′ → NoneSet c s′
+dynamic : (e : Env) (m i a : ℕ) (c : Class) (n : ℕ) → 0 < n → (s : State) (es : List Entry) (s′ : State)
+    → slotAt (s .slots) i ≡ Unsigned n → read e m (dynamicArray i a c) s ≡ go es s′ → NoneSet c s′
 unfolding read fromSlot
-dynamic e i a c n h s es s′ p r =
-    of-length (NoneSet c) (slotAt (s .slots) i) _ n p (behind-seq (NoneSet c) _ _ (behind-seq (NoneSet c) _ _ (elems e c n h)))
+dynamic e m i a c n h s es s′ p r =
+    of-length (NoneSet c) (slotAt (s .slots) i) _ n p (behind-seq (NoneSet c) _ _ (behind-seq (NoneSet c) _ _ (elems e (m + 1) c n h)))
     s es s′ (due-step _ s es s′ r)
 
 pub elements : Elements

@@ -29,6 +29,7 @@ use Rattle.rules.specs.declared.Checked.the-variants.{Accepted}
 use Rattle.rules.specs.Parse.{Parsed, bad, good, parse, checkedOf, checked}
 use Rattle.rules.specs.Read.{Reading, ended, begin, readStream, readAll, readParsed}
 use Rattle.rules.specs.Packet.{readEvent, readEvents, readContent, readPacket, readPackets, withEvent}
+use Rattle.rules.specs.Packet.{firstRoot, headerNumber, commonNumber, payloadNumber}
 use Rattle.rules.specs.Packet.{withStream, mark, readRoot, startEvent, startPacket, endPacket}
 use Rattle.facts.proofs.Steps.{listOf, onto-nil, onto-cons}
 use Rattle.facts.proofs.Truth.{clash}
@@ -180,15 +181,15 @@ module _ (gs : ℕ → Bool) (ge : ℕ → ℕ → Bool) where
   all-map f [] h = tt
   all-map f (e ∷ es) h = (f e (h .0), all-map f es (h .1))
 
-  calm-root : (e : Env) (c : Option Class) → Each Calm (readRoot e c)
-  calm-root e c = record { at = λ s. all-map not-five (listOf (readRoot e c s)) (fields-root e c .at s) }
+  calm-root : (e : Env) (m : ℕ) (c : Option Class) → Each Calm (readRoot e m c)
+  calm-root e m c = record { at = λ s. all-map not-five (listOf (readRoot e m c s)) (fields-root e m c .at s) }
 
   calm-other : {m : Step} → Each Calm m → Each Other m
   calm-other {m} h = record { at = λ s. all-map (λ e c. c .0) (listOf (m s)) (h .at s) }
 
   calm-mark : (k n v : ℕ) → eqb k 2 ≡ false → eqb k 5 ≡ false → Each Calm (mark k n v)
   unfolding mark
-  calm-mark k n v p q = record { at = λ s. each-listed Calm (entry k (s .place) n v) (s .place) s (p, q) }
+  calm-mark k n v p q = record { at = λ s. each-listed Calm (entry k (s .place) n v 0) (s .place) s (p, q) }
 
   -- the short table's step is the whole one's, cut, under a stream class id
 
@@ -229,12 +230,12 @@ module _ (gs : ℕ → Bool) (ge : ℕ → ℕ → Bool) where
   -- the lookup of an event class
 
   event-entry : (i j : ℕ) (p : BitPlace) (b : Bool) → ge i j ≡ b
-      → lost gs ge i (entry 5 p 0 j) ≡ elim b [ true ↦ some (stopAt (EventClassUnknown i j) p) | false ↦ none ]
+      → lost gs ge i (entry 5 p 0 j 0) ≡ elim b [ true ↦ some (stopAt (EventClassUnknown i j) p) | false ↦ none ]
   unfolding lost
   event-entry i j p true h = rw (h, lost) refl
   event-entry i j p false h = rw (h, lost) refl
 
-  event-under : (i j : ℕ) (p : BitPlace) → under gs ge i (entry 5 p 0 j) ≡ i
+  event-under : (i j : ℕ) (p : BitPlace) → under gs ge i (entry 5 p 0 j 0) ≡ i
   unfolding under
   event-under i j p = refl
 
@@ -243,7 +244,7 @@ module _ (gs : ℕ → Bool) (ge : ℕ → ℕ → Bool) where
   unfolding withEvent refuse mark listed _⨾_ after frontOut
   event-both i j n c h none = record { at = λ s. sym (cut-stop i (stopAt (EventClassUnknown i j) (s .place))) }
   event-both i j n c h (some d) = record {
-    at = λ s. sym (cut-cons i (entry 5 (s .place) 0 j) (n d _)
+    at = λ s. sym (cut-cons i (entry 5 (s .place) 0 j 0) (n d _)
         ∙ rw (event-entry i j (s .place) false h, event-under i j (s .place), calm-cut i (n d _) (c d .at _)) refl);
   }
 
@@ -252,18 +253,18 @@ module _ (gs : ℕ → Bool) (ge : ℕ → ℕ → Bool) where
   unfolding withEvent refuse mark listed _⨾_ after frontOut
   event-less i j n none h = record { at = λ s. sym (cut-stop i (stopAt (EventClassUnknown i j) (s .place))) }
   event-less i j n (some d) h = record {
-    at = λ s. sym (cut-cons i (entry 5 (s .place) 0 j) (n d _) ∙ rw (event-entry i j (s .place) true (h d refl)) refl);
+    at = λ s. sym (cut-cons i (entry 5 (s .place) 0 j 0) (n d _) ∙ rw (event-entry i j (s .place) true (h d refl)) refl);
   }
 
   -- the lookup of a stream class
 
   stream-entry : (j i : ℕ) (p : BitPlace) (b : Bool) → gs i ≡ b
-      → lost gs ge j (entry 2 p 0 i) ≡ elim b [ true ↦ some (stopAt (StreamClassUnknown i) p) | false ↦ none ]
+      → lost gs ge j (entry 2 p 0 i 0) ≡ elim b [ true ↦ some (stopAt (StreamClassUnknown i) p) | false ↦ none ]
   unfolding lost
   stream-entry j i p true h = rw (h, lost) refl
   stream-entry j i p false h = rw (h, lost) refl
 
-  stream-under : (j i : ℕ) (p : BitPlace) → under gs ge j (entry 2 p 0 i) ≡ i
+  stream-under : (j i : ℕ) (p : BitPlace) → under gs ge j (entry 2 p 0 i 0) ≡ i
   unfolding under
   stream-under j i p = refl
 
@@ -273,9 +274,9 @@ module _ (gs : ℕ → Bool) (ge : ℕ → ℕ → Bool) where
   unfolding withStream refuse mark listed _⨾_ after frontOut
   stream-both j i n n′ h none g = record { at = λ s. sym (cut-stop j (stopAt (StreamClassUnknown i) (s .place))) }
   stream-both j i n n′ h (some c) g = record {
-    at = λ s. sym (cut-cons j (entry 2 (s .place) 0 i) (n c _)
+    at = λ s. sym (cut-cons j (entry 2 (s .place) 0 i 0) (n c _)
         ∙ rw (stream-entry j i (s .place) false h, stream-under j i (s .place))
-        (ap (onto (entry 2 (s .place) 0 i ∷ [])) (sym (g c refl .at _))));
+        (ap (onto (entry 2 (s .place) 0 i 0 ∷ [])) (sym (g c refl .at _))));
   }
 
   stream-less : (j i : ℕ) (n n′ : StreamClass → Step) (x : Option StreamClass) → ((c : StreamClass) → x ≡ some c → gs i ≡ true)
@@ -283,7 +284,7 @@ module _ (gs : ℕ → Bool) (ge : ℕ → ℕ → Bool) where
   unfolding withStream refuse mark listed _⨾_ after frontOut
   stream-less j i n n′ none h = record { at = λ s. sym (cut-stop j (stopAt (StreamClassUnknown i) (s .place))) }
   stream-less j i n n′ (some c) h = record {
-    at = λ s. sym (cut-cons j (entry 2 (s .place) 0 i) (n c _) ∙ rw (stream-entry j i (s .place) true (h c refl)) refl);
+    at = λ s. sym (cut-cons j (entry 2 (s .place) 0 i 0) (n c _) ∙ rw (stream-entry j i (s .place) true (h c refl)) refl);
   }
 
   infixr 20 _⨾ᶜ_
@@ -294,12 +295,12 @@ module _ (gs : ℕ → Bool) (ge : ℕ → ℕ → Bool) where
   _⨾°_ : {m n : Step} → Each Other m → Each Other n → Each Other (m ⨾ n)
   h ⨾° k = _⨾ᵉ_ Other h k
 
-  other-root : (e : Env) (c : Option Class) → Each Other (readRoot e c)
-  other-root e c = calm-other (calm-root e c)
+  other-root : (e : Env) (m : ℕ) (c : Option Class) → Each Other (readRoot e m c)
+  other-root e m c = calm-other (calm-root e m c)
 
   other-five : (v : ℕ) → Each Other (mark 5 0 v)
   unfolding mark
-  other-five v = record { at = λ s. each-listed Other (entry 5 (s .place) 0 v) (s .place) s refl }
+  other-five v = record { at = λ s. each-listed Other (entry 5 (s .place) 0 v 0) (s .place) s refl }
 
   other-with : (i j : ℕ) (x : Option EventClass) (f : EventClass → Step) → ((d : EventClass) → Each Other (f d))
       → Each Other (withEvent i j x f)
@@ -309,7 +310,7 @@ module _ (gs : ℕ → Bool) (ge : ℕ → ℕ → Bool) where
 
   calm-end : (to : BitPlace) (n : ℕ) → Each Calm (endPacket to n)
   unfolding endPacket
-  calm-end to n = _⨾ᵉ_ Calm (each-due Calm) (record { at = λ s. each-listed Calm (entry 7 to (to .0 - s .place .0) n) to s (refl, refl) })
+  calm-end to n = _⨾ᵉ_ Calm (each-due Calm) (record { at = λ s. each-listed Calm (entry 7 to (to .0 - s .place .0) n 0) to s (refl, refl) })
 
   -- the reading, layer by layer: two tables, of which the short one finds what stays of what the full one finds
 
@@ -347,18 +348,20 @@ module _ (gs : ℕ → Bool) (ge : ℕ → ℕ → Bool) where
     -- what is read of the event class that is found
     abbrev found : StreamClass → Env → State → Step
     found c e s = withEvent (c .id) (s .said .event) (full .event (c .id) (s .said .event))
-        (λ d. mark 5 0 (s .said .event) ⨾ readRoot e (c .common) ⨾ readRoot e (d .specific) ⨾ readRoot e (d .payload))
+        (λ d. mark 5 0 (s .said .event) ⨾ readRoot e (commonNumber c) (c .common) ⨾ readRoot e firstRoot (d .specific)
+        ⨾ readRoot e (payloadNumber d) (d .payload))
 
     other-found : (c : StreamClass) (e : Env) → Each Other (λ s. found c e s s)
     other-found c e = each-λ Other {f = found c e} (λ s. other-with (c .id) (s .said .event) _ _
-        (λ d. other-five (s .said .event) ⨾° other-root e (c .common) ⨾° other-root e (d .specific) ⨾° other-root e (d .payload)))
+        (λ d. other-five (s .said .event) ⨾° other-root e (commonNumber c) (c .common) ⨾° other-root e firstRoot (d .specific)
+        ⨾° other-root e (payloadNumber d) (d .payload)))
 
     other-event : (c : StreamClass) (e : Env) (n : ℕ) → Each Other (readEvent full c e n)
     unfolding readEvent
     other-event c e n = record {
       at = λ s₀.
           (each-due Other ⨾° calm-other (calm-mark 4 0 n refl refl) ⨾° each-change Other startEvent
-          ⨾° other-root e (c .header) ⨾° each-check Other _ ClockWentBack
+          ⨾° other-root e (headerNumber c) (c .header) ⨾° each-check Other _ ClockWentBack
           ⨾° each-change Other (λ s. withLast (s .clock) s) ⨾° each-due Other
           ⨾° other-found c e
           ⨾° each-check Other (λ s. eqb (s .place .0) (s₀ .place .0)) EventTookNoBits) .at s₀;
@@ -369,12 +372,13 @@ module _ (gs : ℕ → Bool) (ge : ℕ → ℕ → Bool) where
     sim-event c e n = record {
       at = λ s₀.
           (each-due Calm ⨟ calm-mark 4 0 n refl refl ⨟ each-change Calm startEvent
-          ⨟ calm-root e (c .header) ⨟ each-check Calm _ ClockWentBack
+          ⨟ calm-root e (headerNumber c) (c .header) ⨟ each-check Calm _ ClockWentBack
           ⨟ each-change Calm (λ s. withLast (s .clock) s) ⨟ each-due Calm
           ⨟ sim-other (c .id) (other-found c e)
           (record {
             at = λ s. event-look (c .id) (s .said .event) _
-                (λ d. calm-root e (c .common) ⨾ᶜ calm-root e (d .specific) ⨾ᶜ calm-root e (d .payload)) .at s;
+                (λ d. calm-root e (commonNumber c) (c .common) ⨾ᶜ calm-root e firstRoot (d .specific)
+                ⨾ᶜ calm-root e (payloadNumber d) (d .payload)) .at s;
           })
           (same (c .id) (each-check Calm (λ s. eqb (s .place .0) (s₀ .place .0)) EventTookNoBits))) .at s₀;
     }
@@ -408,10 +412,10 @@ module _ (gs : ℕ → Bool) (ge : ℕ → ℕ → Bool) where
     sim-packet b k i j = record {
       at = λ s₀.
           (each-due Calm ⨟ calm-mark 1 0 k refl refl ⨟ each-change Calm startPacket
-          ⨟ calm-root _ (full .header) ⨟ each-check Calm _ StreamClassChanged ⨟ each-due Calm
+          ⨟ calm-root _ firstRoot (full .header) ⨟ each-check Calm _ StreamClassChanged ⨟ each-due Calm
           ⨟ record {
             at = λ s. stream-look j (s .said .stream) _ _
-                (λ c p. calm-root _ (c .context) ⨟ record { at = λ s. content-under c _ p b (s₀ .place) _ _ .at s }) .at s;
+                (λ c p. calm-root _ firstRoot (c .context) ⨟ record { at = λ s. content-under c _ p b (s₀ .place) _ _ .at s }) .at s;
           }) .at s₀;
     }
 

@@ -6,10 +6,10 @@ use Rattle.promises.specs.Figures.{Figures}
 pub figures : Figures
 unfolding opened
 figures = record {
-  entries-32 = refl;
-  result-32 = refl;
-  entries-31 = refl;
-  result-31 = refl;
+  entries-40 = refl;
+  result-40 = refl;
+  entries-39 = refl;
+  result-39 = refl;
   little-1 = refl;
   little-2 = refl;
   big-1 = refl;

@@ -23,6 +23,7 @@ mod Finds
 mod Numbered
 mod Clocks
 mod Calls
+mod Small
 mod Words
 mod Listed
 mod Laws
@@ -46,3 +47,6 @@ mod Cut
 mod Apart
 pub mod ApartCalls
 pub mod Promises
+mod NamedRecords
+mod Naming
+mod Records

@@ -27,6 +27,7 @@ use Rattle.rules.specs.Table.{Table, Asked, asked, StreamClass, EventClass}
 use Rattle.rules.specs.Parse.{good, parse}
 use Rattle.rules.specs.Field.{Env}
 use Rattle.rules.specs.Packet.{readEvent, readEvents, readContent, readPacket, readPackets, withEvent}
+use Rattle.rules.specs.Packet.{firstRoot, headerNumber, commonNumber, payloadNumber}
 use Rattle.rules.specs.Packet.{withStream, mark, readRoot, startEvent, startPacket, nothingSaid, endPacket}
 use Rattle.rules.specs.Read.{ended, begin, readStream, readAll, readParsed}
 use Rattle.facts.specs.Bytes.{Bytes}
@@ -36,8 +37,10 @@ use Rattle.laws.specs.All.{All}
 use Rattle.promises.specs.Words.{Word, AllWords, WordEntry, WordIds, WordStop, WordReading}
 use Rattle.laws.proofs.Law.{Any}
 use Rattle.laws.proofs.Accepted.{Tells, Fitting, accepted-fits}
+use Rattle.laws.proofs.Numbering.{Numbering}
 use Rattle.laws.proofs.Triple.{changing, naming, tested, untested}
 use Rattle.promises.proofs.Exact.{found-id}
+use Rattle.promises.proofs.Small.{SmallRecord, accepted-small}
 use Rattle.promises.proofs.Values.{no-word, packet-word}
 use Rattle.promises.proofs.Words.{Wordy, Worded, WordedOut, Env64, To64, place-of, _⨾ʷ_, word-listed}
 use Rattle.promises.proofs.Words.{word-check, word-pass, word-due, word-root}
@@ -46,7 +49,9 @@ use Rattle.promises.proofs.Words.{word-check, word-pass, word-due, word
 
 word-mark : (k n v : ℕ) → k ≤ 32 → Word n → Word v → Worded (mark k n v)
 unfolding mark
-word-mark k n v a b c = record { at = λ s w. word-listed (entry k (s .place) n v) (s .place) s (omega arith, w .place, b, c) (w .place) w }
+word-mark k n v a b c = record {
+  at = λ s w. word-listed (entry k (s .place) n v 0) (s .place) s (omega arith, w .place, b, c, omega arith) (w .place) w;
+}
 
 word-event : (i j : ℕ) (x : Option EventClass) (f : EventClass → Step)
     → Word i → Word j → ((d : EventClass) → x ≡ some d → Worded (f d)) → Worded (withEvent i j x f)
@@ -84,33 +89,36 @@ word-last = changing WordEntry WordStop WordIds _ (λ s w. record { place = w .p
 
 word-end : (to : BitPlace) (n : ℕ) → Word (to .0) → Word n → Worded (endPacket to n)
 unfolding endPacket
-word-end to n a b = word-due (record { at = λ s w. word-listed (entry 7 to (to .0 - s .place .0) n) to s (omega arith) a w })
+word-end to n a b = word-due (record { at = λ s w. word-listed (entry 7 to (to .0 - s .place .0) n 0) to s (omega arith) a w })
 
 ok-if : (b : Bool) (x y : Out) → (b ≡ true → WordedOut x) → WordedOut y → WordedOut (elim b [ true ↦ x | false ↦ y ])
 ok-if true x y h k = h refl
 ok-if false x y h k = k
 
-module _ (t : Asked) (w : Fitting To64 (λ r. Any) Word t) (ids : (i : ℕ) (c : StreamClass) → t .stream i ≡ some c → c .id ≡ i) where
+module _ (t : Asked) (w : Fitting To64 (λ r. Any) Word t) (numbers : Numbering (λ o. SmallRecord) t)
+    (ids : (i : ℕ) (c : StreamClass) → t .stream i ≡ some c → c .id ≡ i) where
   word-readEvent : (i : ℕ) (c : StreamClass) → t .stream i ≡ some c → Word i → (e : Env) → Env64 e → (n : ℕ) → Word n
       → Worded (readEvent t c e n)
   unfolding readEvent
   word-readEvent i c p j e g n h = record {
     at = λ s₀ h₀.
         (word-due (word-mark 4 0 n (omega arith) (omega arith) h ⨾ʷ word-startEvent
-        ⨾ʷ word-root e g (c .header) (w .events i c p .0) ⨾ʷ word-check _ ClockWentBack tt ⨾ʷ word-last
+        ⨾ʷ word-root e g (headerNumber c) (c .header) (w .events i c p .0) (numbers .header i c p) ⨾ʷ word-check _ ClockWentBack tt
+        ⨾ʷ word-last
         ⨾ʷ word-due (look ⨾ʷ word-check (λ s. eqb (s .place .0) (s₀ .place .0)) EventTookNoBits tt))) .at s₀ h₀;
   }
     where
       look : Worded (λ s. withEvent (c .id) (s .said .event) (t .event (c .id) (s .said .event))
-          (λ d. mark 5 0 (s .said .event) ⨾ readRoot e (c .common) ⨾ readRoot e (d .specific) ⨾ readRoot e (d .payload)) s)
+          (λ d. mark 5 0 (s .said .event) ⨾ readRoot e (commonNumber c) (c .common) ⨾ readRoot e firstRoot (d .specific)
+          ⨾ readRoot e (payloadNumber d) (d .payload)) s)
       look = record {
         at = λ s h.
             let k : Word (c .id) = subst Word (sym (ids i c p)) j in
             word-event (c .id) (s .said .event) (t .event (c .id) (s .said .event)) _ k (h .said .event)
             (λ d q. word-mark 5 0 (s .said .event) (omega arith) (omega arith) (h .said .event)
-            ⨾ʷ word-root e g (c .common) (w .events i c p .1)
-            ⨾ʷ word-root e g (d .specific) (w .event _ _ d q .0)
-            ⨾ʷ word-root e g (d .payload) (w .event _ _ d q .1)) .at s h;
+            ⨾ʷ word-root e g (commonNumber c) (c .common) (w .events i c p .1) (numbers .common i c p)
+            ⨾ʷ word-root e g firstRoot (d .specific) (w .event _ _ d q .0) (numbers .specific _ _ d q)
+            ⨾ʷ word-root e g (payloadNumber d) (d .payload) (w .event _ _ d q .1) (numbers .payload _ _ d q)) .at s h;
       }
 
   word-events : (i : ℕ) (c : StreamClass) → t .stream i ≡ some c → Word i → (e : Env) → Env64 e → (to : BitPlace) (n left : ℕ)
@@ -150,11 +158,11 @@ module _ (t : Asked) (w : Fitting To64 (λ r. Any) Word t) (ids : (i : ℕ) (c :
     unfolding readPacket
     word-packet k i h s₀ h₀ =
         (word-due (word-mark 1 0 k (omega arith) (omega arith) h ⨾ʷ word-startPacket
-        ⨾ʷ word-root e g (t .header) (w .header) ⨾ʷ word-check _ StreamClassChanged tt
+        ⨾ʷ word-root e g firstRoot (t .header) (w .header) (numbers .packet) ⨾ʷ word-check _ StreamClassChanged tt
         ⨾ʷ word-due (record {
           at = λ s x. word-stream (s .said .stream) (t .stream (s .said .stream)) _ (x .said .stream)
               (λ c q. word-mark 2 0 (s .said .stream) (omega arith) (omega arith) (x .said .stream)
-              ⨾ʷ word-root e g (c .context) (w .context _ c q)
+              ⨾ʷ word-root e g firstRoot (c .context) (w .context _ c q) (numbers .context _ c q)
               ⨾ʷ record { at = λ s′ x′. word-content _ c q (x .said .stream) (s₀ .place) _ _ .at s′ x′ }) .at s x;
         }))) .at s₀ h₀
       where
@@ -356,10 +364,11 @@ begin-words room = record {
   said = record { stream = omega arith; event = omega arith; total = tt; content = tt };
 }
 
-stream-words : (t : Asked) → Fitting To64 (λ r. Any) Word t → ((i : ℕ) (c : StreamClass) → t .stream i ≡ some c → c .id ≡ i)
+stream-words : (t : Asked) → Fitting To64 (λ r. Any) Word t → Numbering (λ o. SmallRecord) t
+    → ((i : ℕ) (c : StreamClass) → t .stream i ≡ some c → c .id ≡ i)
     → (b : List ℕ) (room : ℕ) → WordReading (readStream t b room)
 unfolding readStream
-stream-words t w ids b room = by (eqb (length b) 0 || ltb streamLimit (length b)) refl
+stream-words t w numbers ids b room = by (eqb (length b) 0 || ltb streamLimit (length b)) refl
   where
     by : (c : Bool) → (eqb (length b) 0 || ltb streamLimit (length b)) ≡ c
         → WordReading (elim c [
@@ -369,7 +378,7 @@ stream-words t w ids b room = by (eqb (length b) 0 || ltb streamLimit (length b)
     by true h = (tt, (omega arith, tt))
     by false h =
         let l : length b ≤ streamLimit = ltb-false streamLimit (length b) (or-false (eqb (length b) 0) (ltb streamLimit (length b)) h .1) in
-        ended-words _ (word-packets t w ids b l 0 Missing (length b) (omega arith) .at (begin room) (begin-words room))
+        ended-words _ (word-packets t w numbers ids b l 0 Missing (length b) (omega arith) .at (begin room) (begin-words room))
 
 -- every word of every entry; the verdict's place and ids
 pub reading-words : (x : List ℕ) → Bytes x → (t : Table) (y : List ℕ) → parse x ≡ good t y → (b : List ℕ) (room : ℕ)
@@ -377,10 +386,11 @@ pub reading-words : (x : List ℕ) → Bytes x → (t : Table) (y : List ℕ) �
 unfolding readAll readParsed
 reading-words x g t y p b room =
     let w = accepted-words x g t y p in
-    rw (p, readAll) (stream-words (asked t) w (λ i c q. unfold asked in found-id (t .streams) i c q) b room)
+    let numbers = accepted-small x t y p in
+    rw (p, readAll) (stream-words (asked t) w numbers (λ i c q. unfold asked in found-id (t .streams) i c q) b room)
 
 -- and so of the list's words
 pub list-words : (es : List Entry) → All WordEntry es → AllWords (words es)
 unfolding words
 list-words [] h = tt
-list-words (e ∷ es) h = (h .0 .0, (h .0 .1, (h .0 .2, (h .0 .3, list-words es (h .1)))))
+list-words (e ∷ es) h = (h .0 .0, (h .0 .1, (h .0 .2, (h .0 .3, (h .0 .4, list-words es (h .1))))))

@@ -87,20 +87,21 @@ by-refuse : (r : Refusal) (s : State) → (refusalNumber r ≡ 0 → ⊥) → By
 unfolding refuse refuseAt
 by-refuse r s h = by-refuseAt r (s .place) s h
 
-by-leb : (e : Env) (k : ℕ) (c : ℕ → Content) (i : ℕ) (r : Role) (x : Leb) (s : State)
-    → ByNumber (lebNumber x) (lebPlace e s x) (readLeb e k c i r x s)
+by-leb : (e : Env) (m k : ℕ) (c : ℕ → Content) (i : ℕ) (r : Role) (x : Leb) (s : State)
+    → ByNumber (lebNumber x) (lebPlace e s x) (readLeb e m k c i r x s)
 unfolding readLeb lebNumber lebPlace field _⨾_ listed after
-by-leb e k c i r (Value v n) s = by-zero s _ (lists-onto _ _)
-by-leb e k c i r Past s = by-refuseAt PastBound (e .bound) s (unfold refusalNumber in λ q. omega arith)
-by-leb e k c i r Large s = by-refuseAt LebTooLarge (tenthByte e s) s (unfold refusalNumber in λ q. omega arith)
+by-leb e m k c i r (Value v n) s = by-zero s _ (lists-onto _ _)
+by-leb e m k c i r Past s = by-refuseAt PastBound (e .bound) s (unfold refusalNumber in λ q. omega arith)
+by-leb e m k c i r Large s = by-refuseAt LebTooLarge (tenthByte e s) s (unfold refusalNumber in λ q. omega arith)
 
 -- bytes that are text, or are not, and the field that waits for it
-by-text : (e : Env) (x : List ℕ) (k n v : ℕ) (s : State) → ByNumber (textNumber (isText x)) (s .place) ((asText x ⨾ field e k 8 n v) s)
+by-text : (e : Env) (x : List ℕ) (m k n v : ℕ) (s : State) → ByNumber (textNumber (isText x)) (s .place) ((asText x ⨾ field e m k 8 n v) s)
 unfolding asText check _⨾_
-by-text e x k n v s = by (isText x)
+by-text e x m k n v s = by (isText x)
   where
     by : (formed : Bool)
-        → ByNumber (textNumber formed) (s .place) (after (elim (not formed) [ true ↦ refuse NotText s | false ↦ pass s ]) (field e k 8 n v))
+        → ByNumber (textNumber formed) (s .place)
+        (after (elim (not formed) [ true ↦ refuse NotText s | false ↦ pass s ]) (field e m k 8 n v))
     by true = unfold textNumber pass after field listed onto in by-zero s _ tt
     by false = unfold textNumber refuse after in by-refuse NotText s (unfold refusalNumber in λ q. omega arith)
 
@@ -117,20 +118,20 @@ text-ahead e p n q =
     let found = zero-found (ahead e p) n q in
     rw (← front-ahead e p (n .0) (found .0), ← found .1) (text-own (ahead e p))
 
-by-zeroByte : (e : Env) (x : Ended) (s : State) → zeroAt (ahead e (aligned e 8 s)) ≡ x
-    → ByNumber (endedNumber (isText (ahead e (aligned e 8 s))) x) (s .place) (readZero e x s)
+by-zeroByte : (e : Env) (m : ℕ) (x : Ended) (s : State) → zeroAt (ahead e (aligned e 8 s)) ≡ x
+    → ByNumber (endedNumber (isText (ahead e (aligned e 8 s))) x) (s .place) (readZero e m x s)
 unfolding readZero endedNumber _⨾_
-by-zeroByte e (After n) s q =
-    subst (λ t. ByNumber (textNumber t) (s .place) (readZero e (After n) s)) (text-ahead e (aligned e 8 s) n q)
-    (by-text e (bytesAt e (aligned e 8 s) (n .0)) 23 (8 * (n .0 + 1)) (n .0) s)
-by-zeroByte e Never s q = by-refuse NoZeroByte s (unfold refusalNumber in λ z. omega arith)
+by-zeroByte e m (After n) s q =
+    subst (λ t. ByNumber (textNumber t) (s .place) (readZero e m (After n) s)) (text-ahead e (aligned e 8 s) n q)
+    (by-text e (bytesAt e (aligned e 8 s) (n .0)) m 23 (8 * (n .0 + 1)) (n .0) s)
+by-zeroByte e m Never s q = by-refuse NoZeroByte s (unfold refusalNumber in λ z. omega arith)
 
-by-bytes : (e : Env) (k n : ℕ) (s : State) → AtBytes e s → BytesFit e n s
-    → ByNumber (textNumber (isText (bytesAt e (aligned e 8 s) n))) (s .place) (readText e k n s)
+by-bytes : (e : Env) (m k n : ℕ) (s : State) → AtBytes e s → BytesFit e n s
+    → ByNumber (textNumber (isText (bytesAt e (aligned e 8 s) n))) (s .place) (readText e m k n s)
 unfolding readText
-by-bytes e k n s h f =
+by-bytes e m k n s h f =
     subst (ByNumber _ _) (sym (fit-passed e 8 0 _ s (omega (arith, h .within)) ∙ fit-passed e 8 (8 * n) _ s f))
-    (by-text e (bytesAt e (aligned e 8 s) n) k (8 * n) (textLength (bytesAt e (aligned e 8 s) n)) s)
+    (by-text e (bytesAt e (aligned e 8 s) n) m k (8 * n) (textLength (bytesAt e (aligned e 8 s) n)) s)
 
 -- Stamps
 
@@ -206,13 +207,13 @@ numbers = record {
   zero-never = λ formed. unfold endedNumber refusalNumber in refl;
   no-text = λ n. unfold endedNumber textNumber refusalNumber in refl;
   clock-large = unfold tickedNumber refusalNumber in refl;
-  leb = λ e i r s h. subst (ByNumber _ _) (sym (at-bytes e _ s h)) (by-leb e 21 Unsigned i r (lebUnsigned (ahead e (aligned e 8 s))) s);
-  signed-leb = λ e i s h.
-      subst (ByNumber _ _) (sym (at-bytes e _ s h)) (by-leb e 22 Signed i noRole (lebSigned (ahead e (aligned e 8 s))) s);
-  zero-byte = λ e s h. subst (ByNumber _ _) (sym (at-bytes e _ s h)) (by-zeroByte e (zeroAt (ahead e (aligned e 8 s))) s refl);
-  static-text = λ e n s h f. subst (ByNumber _ _) (sym (due-passed _ s (h .room))) (by-bytes e 24 n s h f);
-  dynamic-text = λ e i n s h f u l.
-      subst (ByNumber _ _) (sym (due-passed _ s (h .room) ∙ length-passed i n _ s u l)) (by-bytes e 26 n s h f);
+  leb = λ e m i r s h. subst (ByNumber _ _) (sym (at-bytes e _ s h)) (by-leb e m 21 Unsigned i r (lebUnsigned (ahead e (aligned e 8 s))) s);
+  signed-leb = λ e m i s h.
+      subst (ByNumber _ _) (sym (at-bytes e _ s h)) (by-leb e m 22 Signed i noRole (lebSigned (ahead e (aligned e 8 s))) s);
+  zero-byte = λ e m s h. subst (ByNumber _ _) (sym (at-bytes e _ s h)) (by-zeroByte e m (zeroAt (ahead e (aligned e 8 s))) s refl);
+  static-text = λ e m n s h f. subst (ByNumber _ _) (sym (due-passed _ s (h .room))) (by-bytes e m 24 n s h f);
+  dynamic-text = λ e m i n s h f u l.
+      subst (ByNumber _ _) (sym (due-passed _ s (h .room) ∙ length-passed i n _ s u l)) (by-bytes e m 26 n s h f);
   stamp = λ l v s h. subst (ByNumber _ _) (sym (due-passed _ s h)) (by-clock l (clockAfter (s .clock) l v) s);
   too-large = needs-more;
   kind-unknown = unfold bodyNumber in refl;

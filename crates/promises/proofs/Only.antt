@@ -7,6 +7,7 @@ use mathlib.Core.List.{List, _∷_, _++_}
 use lib.ListN.{length, drop}
 use Rattle.rules.specs.declared.Entry.{Entry}
 use Rattle.rules.specs.declared.Stop.{Stop}
+use Rattle.rules.specs.Limits.{wordsPerEntry}
 use Rattle.rules.specs.Entry.{words}
 use Rattle.rules.specs.Slots.{Slots, noSlots}
 use Rattle.rules.specs.Step.{State, Out, stop, go, Step}
@@ -64,7 +65,7 @@ module _ (o : Out) (came : Progress) (ws : List ℕ) where
       let q : go (d .listed) (full st l (length ws - u)) ≡ go (d′ .listed) (full st′ l′ (length ws - u′)) = sym (d .out) ∙ d′ .out in
       let e : d .listed ≡ d′ .listed = go-entries _ _ _ _ q in
       let s = go-state _ _ _ _ q in
-      let p : u ≡ u′ = d .counted ∙ ap (λ z. 4 * length z) e ∙ sym (d′ .counted) in
+      let p : u ≡ u′ = d .counted ∙ ap (λ z. wordsPerEntry * length z) e ∙ sym (d′ .counted) in
       record {
         went = refl;
         used = p;
@@ -81,7 +82,7 @@ module _ (o : Out) (came : Progress) (ws : List ℕ) where
   did-same (Stopped v) (Stopped v′) u u′ st st′ l l′ vs vs′ d d′ =
       let q : stop (d .listed) v ≡ stop (d′ .listed) v′ = sym (d .out) ∙ d′ .out in
       let e : d .listed ≡ d′ .listed = stop-entries _ _ _ _ q in
-      let p : u ≡ u′ = d .counted ∙ ap (λ z. 4 * length z) e ∙ sym (d′ .counted) in
+      let p : u ≡ u′ = d .counted ∙ ap (λ z. wordsPerEntry * length z) e ∙ sym (d′ .counted) in
       record {
         went = ap Stopped (stop-why _ _ _ _ q);
         used = p;

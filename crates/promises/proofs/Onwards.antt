@@ -109,9 +109,9 @@ lower-one : (e e′ : Env) (total : ℕ) → e′ .start .0 + total ≡ e .start
 unfolding lower numberLower farEntry
 lower-one e e′ total h x n l =
     let p : x .place .0 - total ≡ e′ .start .0 + (x .place .0 - e .start .0) = omega arith in
-    ap (λ v. entry (x .kind) (bitPlace (x .place .0 - total)) (x .bits) v)
+    ap (λ v. entry (x .kind) (bitPlace (x .place .0 - total)) (x .bits) v (x .number))
     (if-false (eqb (x .kind) packetStarts) _ _ (ne-eqb (x .kind) packetStarts n))
-    ∙ ap (λ z. entry (x .kind) (bitPlace z) (x .bits) (x .value)) p
+    ∙ ap (λ z. entry (x .kind) (bitPlace z) (x .bits) (x .value) (x .number)) p
 
 lower-all : (e e′ : Env) (total : ℕ) → e′ .start .0 + total ≡ e .start .0 → (es : List Entry) → All (NotOf packetStarts) es
     → All (λ x. e .start .0 ≤ x .place .0) es
@@ -231,11 +231,12 @@ module _ (t : Asked) (w : Fitting Positive (λ r. Any) Any t) (only : HeaderOnly
         rests : 8 * length b′ - s′ .place .0 ≡ rest
         rests = omega (arith, o .place, gap .lengths)
 
-    list-there : map (lower total) es ≡ entry packetStarts (s′ .place) 0 k′ ∷ farAll e e′ (x .others)
+    list-there : map (lower total) es ≡ entry packetStarts (s′ .place) 0 k′ 0 ∷ farAll e e′ (x .others)
     unfolding lower numberLower
     list-there =
         ap (map (lower total)) (x .list)
-        ∙ (λ z. entry packetStarts (bitPlace (place z)) 0 (number z) ∷ lower-all e e′ total (o .place) (x .others) (x .none) (x .behind) z)
+        ∙ (λ z. entry packetStarts (bitPlace (place z)) 0 (number z) 0
+        ∷ lower-all e e′ total (o .place) (x .others) (x .none) (x .behind) z)
       where
         place : s .place .0 - total ≡ s′ .place .0
         place = omega (arith, o .place)

@@ -24,6 +24,7 @@ use Rattle.rules.specs.Step.{State, Out, stop, go, Step, onto, after, _⨾_, re
 use Rattle.rules.specs.Table.{StreamClass, EventClass, Asked}
 use Rattle.rules.specs.Field.{Env}
 use Rattle.rules.specs.Packet.{readEvent, readEvents, readContent, readPacket, readPackets, withEvent, withStream}
+use Rattle.rules.specs.Packet.{firstRoot, headerNumber, commonNumber, payloadNumber}
 use Rattle.rules.specs.Packet.{mark, readRoot, startEvent, startPacket, nothingSaid, endPacket, orElse}
 use Rattle.facts.proofs.Truth.{or-false, if-agree}
 use Rattle.laws.specs.Between.{Moved}
@@ -61,11 +62,12 @@ rise-event : (t : Asked) (c : StreamClass) (e : Env) (n : ℕ) → Rise e (readE
 unfolding readEvent startEvent withLast
 rise-event t c e n = record {
   at = λ s₀.
-      (rise-due ⨾ᵘ rise-mark 4 0 n ⨾ᵘ rise-change _ (λ s. refl) ⨾ᵘ rise-root e (c .header) ⨾ᵘ rise-check _ ClockWentBack
+      (rise-due ⨾ᵘ rise-mark 4 0 n ⨾ᵘ rise-change _ (λ s. refl) ⨾ᵘ rise-root e (headerNumber c) (c .header) ⨾ᵘ rise-check _ ClockWentBack
       ⨾ᵘ rise-change _ (λ s. refl) ⨾ᵘ rise-due
       ⨾ᵘ record {
         at = λ s. rise-with (c .id) (s .said .event) (t .event (c .id) (s .said .event)) _
-            (λ d. rise-mark 5 0 (s .said .event) ⨾ᵘ rise-root e (c .common) ⨾ᵘ rise-root e (d .specific) ⨾ᵘ rise-root e (d .payload)) .at s;
+            (λ d. rise-mark 5 0 (s .said .event) ⨾ᵘ rise-root e (commonNumber c) (c .common) ⨾ᵘ rise-root e firstRoot (d .specific)
+            ⨾ᵘ rise-root e (payloadNumber d) (d .payload)) .at s;
       }
       ⨾ᵘ rise-check (λ s. eqb (s .place .0) (s₀ .place .0)) EventTookNoBits) .at s₀;
 }
@@ -229,7 +231,7 @@ module _ (t : Asked) (w : Fitting Positive (λ r. Any) Any t) where
   unfolding readEvent
   bound-event i c p e n = record {
     at = λ s₀ h₀.
-        (due′ (bound-mark e 4 0 n ⨾ᵇ starts ⨾ᵇ bound-root e (c .header) (w .events i c p .0)
+        (due′ (bound-mark e 4 0 n ⨾ᵇ starts ⨾ᵇ bound-root e (headerNumber c) (c .header) (w .events i c p .0)
         ⨾ᵇ checks (In e) (At e) (NoMore e) (place-of e) _ ClockWentBack tt ⨾ᵇ lasts
         ⨾ᵇ due′ (look
         ⨾ᵇ checks (In e) (At e) (NoMore e) (place-of e) (λ s. eqb (s .place .0) (s₀ .place .0)) EventTookNoBits tt))) .at s₀ h₀;
@@ -251,12 +253,13 @@ module _ (t : Asked) (w : Fitting Positive (λ r. Any) Any t) where
           changing (In e) (At e) (NoMore e) _ (λ s h. record { from = h .from; to = h .to; moved = h .moved })
 
       look : Bounded e (λ s. withEvent (c .id) (s .said .event) (t .event (c .id) (s .said .event))
-          (λ d. mark 5 0 (s .said .event) ⨾ readRoot e (c .common) ⨾ readRoot e (d .specific) ⨾ readRoot e (d .payload)) s)
+          (λ d. mark 5 0 (s .said .event) ⨾ readRoot e (commonNumber c) (c .common) ⨾ readRoot e firstRoot (d .specific)
+          ⨾ readRoot e (payloadNumber d) (d .payload)) s)
       look = record {
         at = λ s h. bound-with e (c .id) (s .said .event) (t .event (c .id) (s .said .event)) _
-            (λ d q. bound-mark e 5 0 (s .said .event) ⨾ᵇ bound-root e (c .common) (w .events i c p .1)
-            ⨾ᵇ bound-root e (d .specific) (w .event _ _ d q .0)
-            ⨾ᵇ bound-root e (d .payload) (w .event _ _ d q .1)) .at s h;
+            (λ d q. bound-mark e 5 0 (s .said .event) ⨾ᵇ bound-root e (commonNumber c) (c .common) (w .events i c p .1)
+            ⨾ᵇ bound-root e firstRoot (d .specific) (w .event _ _ d q .0)
+            ⨾ᵇ bound-root e (payloadNumber d) (d .payload) (w .event _ _ d q .1)) .at s h;
       }
 
   go-events : (last i : ℕ) (c : StreamClass) → t .stream i ≡ some c → (e : Env) (to : BitPlace) (n left : ℕ) → e .bound .0 ≤ to .0
@@ -324,7 +327,7 @@ module _ (t : Asked) (w : Fitting Positive (λ r. Any) Any t) where
   unfolding readPacket
   go-packet b k i s₀ l z =
       (go-due {A = Here} (λ s a. let q : s .place .0 ≡ s₀ .place .0 = ap (λ y. y .0) a in omega arith) ⨾ᵍ marked ⨾ᵍ started
-      ⨾ᵍ inside e (le-refl _) (rise-root e (t .header)) (bound-root e (t .header) (w .header))
+      ⨾ᵍ inside e (le-refl _) (rise-root e firstRoot (t .header)) (bound-root e firstRoot (t .header) (w .header))
       ⨾ᵍ go-same near _ StreamClassChanged ⨾ᵍ go-due near
       ⨾ᵍ record { at = λ s a. look s a (t .stream (s .said .stream)) refl }) .at s₀ refl
     where
@@ -382,13 +385,14 @@ module _ (t : Asked) (w : Fitting Positive (λ r. Any) Any t) where
 
       -- what is read of the stream class that is found
       found : ℕ → StreamClass → Step
-      found v c = mark 2 0 v ⨾ readRoot e (c .context) ⨾ λ s. readContent t c b (s₀ .place) (totalOf s) (contentOf s) s
+      found v c = mark 2 0 v ⨾ readRoot e firstRoot (c .context) ⨾ λ s. readContent t c b (s₀ .place) (totalOf s) (contentOf s) s
 
       look : (s : State) → Inside e s → (x : Option StreamClass) → t .stream (s .said .stream) ≡ x
           → Goes (8 * length b) (Behind b (s₀ .place .0)) (s .place .0) (withStream (s .said .stream) x (found (s .said .stream)) s)
       look s a none p = unfold withStream in go-refuse {A = Inside e} near (StreamClassUnknown (s .said .stream)) .at s a
       look s a (some c) p = unfold withStream in
-          (second (s .said .stream) ⨾ᵍ inside e (le-refl _) (rise-root e (c .context)) (bound-root e (c .context) (w .context _ c p))
+          (second (s .said .stream) ⨾ᵍ inside e (le-refl _) (rise-root e firstRoot (c .context))
+          (bound-root e firstRoot (c .context) (w .context _ c p))
           ⨾ᵍ record {
             at = λ s a.
                 let g = go-content _ c p b (s₀ .place) (totalOf s) (contentOf s) e refl refl s a in

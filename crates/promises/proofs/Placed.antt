@@ -23,7 +23,7 @@ use Rattle.rules.specs.Entry.{entry, packetStarts, streamClassFound, lengthsSet
 use Rattle.rules.specs.Step.{State, Out, stop, go, Step, onto, after, _⨾_, check, due, listed, pass}
 use Rattle.rules.specs.Table.{StreamClass, Table, Asked, asked}
 use Rattle.rules.specs.Field.{Env}
-use Rattle.rules.specs.Packet.{mark, readContent, withStream, readPacket, readPackets}
+use Rattle.rules.specs.Packet.{mark, readContent, withStream, readPacket, readPackets, firstRoot}
 use Rattle.rules.specs.Parse.{Parsed, bad, good, parse}
 use Rattle.rules.specs.Read.{Reading, ended, begin, readStream, readParsed, readAll}
 use Rattle.facts.proofs.Truth.{or-false}
@@ -98,9 +98,9 @@ module _ (b : List ℕ) where
 
   -- an entry that may tell one
   tells-mark : (z : Bounds) (k n v : ℕ) {A B : State → Type 0} {m : Step}
-      → ((s : State) → A s → Tells (behindEntry (8 * length b) z (entry k (s .place) n v)) AnyState m B) → Tells z A (mark k n v ⨾ m) B
+      → ((s : State) → A s → Tells (behindEntry (8 * length b) z (entry k (s .place) n v 0)) AnyState m B) → Tells z A (mark k n v ⨾ m) B
   unfolding _⨾_ mark listed after behindEntries
-  tells-mark z k n v {A} {B} {m} h = record { at = λ s a. told-onto z B (entry k (s .place) n v ∷ []) (m _) (h s a .at _ tt) }
+  tells-mark z k n v {A} {B} {m} h = record { at = λ s a. told-onto z B (entry k (s .place) n v 0 ∷ []) (m _) (h s a .at _ tt) }
 
   -- Packets, each from a whole byte on
 
@@ -146,10 +146,10 @@ module _ (b : List ℕ) where
     tells-behind : (rest : ℕ) (i : Stated) → Tells (inPacket (p .0)) AnyState (packet t b p rest i) Whole
     unfolding refusalNumber
     tells-behind rest i =
-        lands-change e₀ _ ⨾ᵗ lands-root e₀ w (t .header) ⨾ᵗ lands-check e₀ _ StreamClassChanged (refl, refl) ⨾ᵗ lands-due e₀
+        lands-change e₀ _ ⨾ᵗ lands-root e₀ w firstRoot (t .header) ⨾ᵗ lands-check e₀ _ StreamClassChanged (refl, refl) ⨾ᵗ lands-due e₀
         ⨾ᵗ record {
           at = λ s a. tells-found (s .said .stream) (t .stream (s .said .stream)) _
-              (λ c. lands-mark e₀ streamClassFound 0 (s .said .stream) (refl, refl) ⨾ᵗ lands-root e₀ w (c .context)
+              (λ c. lands-mark e₀ streamClassFound 0 (s .said .stream) (refl, refl) ⨾ᵗ lands-root e₀ w firstRoot (c .context)
               ⨾ᵗ record { at = λ s a. tells-content c _ _ .at s a }) .at s a;
         }
 

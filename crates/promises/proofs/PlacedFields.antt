@@ -42,9 +42,10 @@ use Rattle.rules.specs.Table.{StreamClass, EventClass, Asked}
 use Rattle.rules.specs.Field.{Env, aligned, ahead, bytesAt, fit, field, store, newClock, say, role, blobRole, fromSlot}
 use Rattle.rules.specs.Field.{readFixed, readLeb, asText, readZero, readText, readBlob}
 use Rattle.rules.specs.Packet.{mark, readRoot, withEvent, readEvent, endPacket, readEvents}
+use Rattle.rules.specs.Packet.{firstRoot, headerNumber, commonNumber, payloadNumber}
 use Rattle.leb128.specs.Answer.{TenthByte}
 use Rattle.leb128.proofs.Settled.{unsigned-reaches, signed-reaches}
-use Rattle.laws.proofs.Law.{FieldKind, Any, any-slot, Law, law-any}
+use Rattle.laws.proofs.Law.{FieldKind, Any, AnyRecord, any-slot, Law, law-any}
 use Rattle.laws.proofs.Triple.{Ok, Triple, then, passing, changing, refusing, checks, tested-at, untested-at}
 use Rattle.laws.proofs.Places.{ahead-fits, tenthByte}
 use Rattle.promises.specs.Places.{bytesFrom, AtTenth}
@@ -191,9 +192,9 @@ module _ (e : Env) where
 
   -- Fields
 
-  lands-field : (k a n v : ℕ) → QuietKind k → Lands (field e k a n v)
+  lands-field : (m k a n v : ℕ) → QuietKind k → Lands (field e m k a n v)
   unfolding field listed
-  lands-field k a n v h = record { at = λ s a. ((h, tt), tt) }
+  lands-field m k a n v h = record { at = λ s a. ((h, tt), tt) }
 
   lands-store : (i : ℕ) (x : Content) → Lands (store i x)
   unfolding store
@@ -234,37 +235,37 @@ module _ (e : Env) where
   lands-blobRole sequence b = lands-pass
   lands-blobRole eventClassId b = lands-pass
 
-  lands-fixed : (k : Sort) (n : ℕ) (o : Order) (a i : ℕ) (r : Role) → Lands (readFixed e k n o a i r)
+  lands-fixed : (m : ℕ) (k : Sort) (n : ℕ) (o : Order) (a i : ℕ) (r : Role) → Lands (readFixed e m k n o a i r)
   unfolding readFixed refusalNumber
-  lands-fixed k n o a i r =
+  lands-fixed m k n o a i r =
       lands-due ⨾ˡ lands-fit a 0 (lands-check _ OrderChanged (refl, refl) ⨾ˡ lands-fit a n (record {
-        at = λ s x. (lands-field (kindOf k) a n _ (sort-quiet k) ⨾ˡ lands-change _ ⨾ˡ lands-store i _ ⨾ˡ lands-role r n _) .at s x;
+        at = λ s x. (lands-field m (kindOf k) a n _ (sort-quiet k) ⨾ˡ lands-change _ ⨾ˡ lands-store i _ ⨾ˡ lands-role r n _) .at s x;
       }))
 
   -- where the number does not fit, its tenth byte is at hand
-  lands-leb : (k : ℕ) → QuietKind k → (c : ℕ → Content) (i : ℕ) (r : Role) (x : Leb) (s : State)
-      → (x ≡ Large → AtTenth (e .bytes) (e .bound .0) ((tenthByte e s) .0)) → Ok Quiet At Other AnyState (readLeb e k c i r x s)
+  lands-leb : (m k : ℕ) → QuietKind k → (c : ℕ → Content) (i : ℕ) (r : Role) (x : Leb) (s : State)
+      → (x ≡ Large → AtTenth (e .bytes) (e .bound .0) ((tenthByte e s) .0)) → Ok Quiet At Other AnyState (readLeb e m k c i r x s)
   unfolding readLeb refuseAt
-  lands-leb k g c i r (Value v n) s h = (lands-field k 8 _ v g ⨾ˡ lands-store i (c v) ⨾ˡ lands-role r _ v) .at s tt
-  lands-leb k g c i r Past s h = (tt, past-right (e .bytes) (e .bound))
-  lands-leb k g c i r Large s h = (tt, large-right (e .bytes) (e .bound .0) (tenthByte e s) (h refl))
+  lands-leb m k g c i r (Value v n) s h = (lands-field m k 8 _ v g ⨾ˡ lands-store i (c v) ⨾ˡ lands-role r _ v) .at s tt
+  lands-leb m k g c i r Past s h = (tt, past-right (e .bytes) (e .bound))
+  lands-leb m k g c i r Large s h = (tt, large-right (e .bytes) (e .bound .0) (tenthByte e s) (h refl))
 
   lands-asText : (x : List ℕ) → Lands (asText x)
   unfolding asText refusalNumber
   lands-asText x = lands-check _ NotText (refl, refl)
 
-  lands-zero : (x : Ended) → Lands (readZero e x)
+  lands-zero : (m : ℕ) (x : Ended) → Lands (readZero e m x)
   unfolding readZero refusalNumber
-  lands-zero (After n) =
-      record { at = λ s a. lands-asText (bytesAt e (aligned e 8 s) (n .0)) .at s a } ⨾ˡ lands-field 23 8 _ _ (refl, refl)
-  lands-zero Never = lands-refuse NoZeroByte (refl, refl)
+  lands-zero m (After n) =
+      record { at = λ s a. lands-asText (bytesAt e (aligned e 8 s) (n .0)) .at s a } ⨾ˡ lands-field m 23 8 _ _ (refl, refl)
+  lands-zero m Never = lands-refuse NoZeroByte (refl, refl)
 
   module _ (whole : e .start .0 % 8 ≡ 0) where
     tenth-aligned : (s : State) → (aligned e 8 s) .0 ≤ e .bound .0 → NoFit (ahead e (aligned e 8 s))
         → AtTenth (e .bytes) (e .bound .0) ((tenthByte e s) .0)
     tenth-aligned s l h = tenth-at e (aligned e 8 s) (aligned-whole e s whole) l h
 
-    lands-law : Law e Any Any Any Lands Lands
+    lands-law : Law e AnyRecord Any Any Any Lands Lands
     unfolding fromSlot refusalNumber
     lands-law = record {
       none? = tt;
@@ -278,26 +279,26 @@ module _ (e : Env) where
       inNone = lands-refuse SelectorInNoOption (refl, refl);
       within = λ n h. lands-check _ LengthTooLarge (refl, refl) ⨾ˡ h;
       slot = λ i f h. record { at = λ s a. h (slotAt (s .slots) i) (any-slot (slotAt (s .slots) i)) .at s a };
-      fixes = λ k n o a i r w z. lands-fixed k n o _ i r;
-      lebs = λ i r z. at-bytes (record { at = λ s l. lands-leb 21 (refl, refl) Unsigned i r _ s (λ q. tenth-aligned s l (inl q)) });
-      signedLebs = λ i z.
-          at-bytes (record { at = λ s l. lands-leb 22 (refl, refl) Signed i noRole _ s (λ q. tenth-aligned s l (inr q)) });
-      zeros = lands-fit 8 0 (record { at = λ s a. lands-zero (zeroAt (ahead e (aligned e 8 s))) .at s a });
-      texts = λ k n g. unfold readText in
+      fixes = λ m k n o a i r y w z. lands-fixed m k n o _ i r;
+      lebs = λ m i r y z. at-bytes (record { at = λ s l. lands-leb m 21 (refl, refl) Unsigned i r _ s (λ q. tenth-aligned s l (inl q)) });
+      signedLebs = λ m i y z.
+          at-bytes (record { at = λ s l. lands-leb m 22 (refl, refl) Signed i noRole _ s (λ q. tenth-aligned s l (inr q)) });
+      zeros = λ m y. lands-fit 8 0 (record { at = λ s a. lands-zero m (zeroAt (ahead e (aligned e 8 s))) .at s a });
+      texts = λ m k n g y. unfold readText in
           lands-fit 8 0 (lands-fit 8 (8 * n) (record {
-            at = λ s a. (lands-asText (bytesAt e (aligned e 8 s) n) ⨾ˡ lands-field k 8 (8 * n) _ (field-quiet k g)) .at s a;
+            at = λ s a. (lands-asText (bytesAt e (aligned e 8 s) n) ⨾ˡ lands-field m k 8 (8 * n) _ (field-quiet k g)) .at s a;
           }));
-      blobs = λ k n r g. unfold readBlob in
+      blobs = λ m k n r g y. unfold readBlob in
           lands-fit 8 0 (lands-fit 8 (8 * n) (record {
-            at = λ s a. (lands-field k 8 (8 * n) n (field-quiet k g) ⨾ˡ lands-blobRole r _) .at s a;
+            at = λ s a. (lands-field m k 8 (8 * n) n (field-quiet k g) ⨾ˡ lands-blobRole r _) .at s a;
           }));
-      heads = λ k a v g l w h. lands-fit a 0 (lands-field k a 0 v (field-quiet k g) ⨾ˡ h);
-      tags = λ k v g w h. lands-field k 1 0 v (field-quiet k g) ⨾ˡ h;
-      tag = λ k v g w. lands-field k 1 0 v (field-quiet k g);
+      heads = λ m k a v g y l w h. lands-fit a 0 (lands-field m k a 0 v (field-quiet k g) ⨾ˡ h);
+      tags = λ m k v g y w h. lands-field m k 1 0 v (field-quiet k g) ⨾ˡ h;
+      tag = λ m k v g y w. lands-field m k 1 0 v (field-quiet k g);
     }
 
-    pub lands-root : (c : Option Class) → Lands (readRoot e c)
-    lands-root c = law-any e lands-law c
+    pub lands-root : (m : ℕ) (c : Option Class) → Lands (readRoot e m c)
+    lands-root m c = law-any e lands-law m c
 
     -- Events
 
@@ -312,12 +313,13 @@ module _ (e : Env) where
       unfolding readEvent refusalNumber
       lands-event n = record {
         at = λ s₀ a.
-            (lands-due ⨾ˡ lands-mark eventStarts 0 n (refl, refl) ⨾ˡ lands-change _ ⨾ˡ lands-root (c .header)
+            (lands-due ⨾ˡ lands-mark eventStarts 0 n (refl, refl) ⨾ˡ lands-change _ ⨾ˡ lands-root (headerNumber c) (c .header)
             ⨾ˡ lands-check _ ClockWentBack (refl, refl) ⨾ˡ lands-change _ ⨾ˡ lands-due
             ⨾ˡ record {
               at = λ s a. lands-found (c .id) (s .said .event) (t .event (c .id) (s .said .event)) _
                   (λ d. lands-mark eventClassFound 0 (s .said .event) (refl, refl)
-                  ⨾ˡ lands-root (c .common) ⨾ˡ lands-root (d .specific) ⨾ˡ lands-root (d .payload)) .at s a;
+                  ⨾ˡ lands-root (commonNumber c) (c .common) ⨾ˡ lands-root firstRoot (d .specific)
+                  ⨾ˡ lands-root (payloadNumber d) (d .payload)) .at s a;
             }
             ⨾ˡ lands-check (λ s. eqb (s .place .0) (s₀ .place .0)) EventTookNoBits (refl, refl)) .at s₀ a;
       }

@@ -10,6 +10,7 @@ use Rattle.promises.proofs.Elements.{elements}
 use Rattle.promises.proofs.SlotHomes.{slot-homes}
 use Rattle.promises.proofs.Placed.{placed}
 use Rattle.promises.proofs.Sizes.{stream-sizes}
+use Rattle.promises.proofs.Records.{records}
 use Rattle.promises.proofs.Promised.{demands}
 use Rattle.promises.proofs.Only.{no-slack}
 use Rattle.promises.proofs.OnlyRan.{no-slack-ran}
@@ -40,6 +41,7 @@ all-promises = record {
   slot-homes = slot-homes;
   places = placed;
   stream-sizes = stream-sizes;
+  records = records;
   bits-cut = bits-cut;
   leb-settled = leb-settled;
   apart = apart;

@@ -25,25 +25,25 @@ use Rattle.promises.proofs.Exact.{left-out}
 use Rattle.promises.proofs.Calls.{lists-entries}
 use Rattle.promises.proofs.Counted.{reading-counts, reading-shown}
 
--- lists of 32 words and of 31
+-- lists of 40 words and of 39
 abbrev zeros : ℕ → List ℕ
 zeros n = replicate n 0
 
 -- the figure's result, and words of its list
-accepts : (resultOf (readAll table40 stream1 32)) .number ≡ 0
+accepts : (resultOf (readAll table40 stream1 40)) .number ≡ 0
 unfolding opened
 accepts = refl
 
-entries-32 : (resultOf (readAll table40 stream1 32)) .entries ≡ 8
+entries-40 : (resultOf (readAll table40 stream1 40)) .entries ≡ 8
 unfolding opened
-entries-32 = refl
+entries-40 = refl
 
-entries-31 : (resultOf (readAll table40 stream1 31)) .entries ≡ 7
+entries-39 : (resultOf (readAll table40 stream1 39)) .entries ≡ 7
 unfolding opened
-entries-31 = refl
+entries-39 = refl
 
 word : ℕ → ℕ → ℕ
-word v i = getD (listAfter (readAll table40 (v ∷ []) 32) (zeros 32)) i 0
+word v i = getD (listAfter (readAll table40 (v ∷ []) 40) (zeros 40)) i 0
 
 first-kind : word 42 0 ≡ 1
 unfolding opened word
@@ -53,15 +53,15 @@ first-place : word 42 1 ≡ 0
 unfolding opened word
 first-place = refl
 
-last-place : word 42 29 ≡ 8
+last-place : word 42 36 ≡ 8
 unfolding opened word
 last-place = refl
 
-value-42 : word 42 27 ≡ 42
+value-42 : word 42 33 ≡ 42
 unfolding opened word
 value-42 = refl
 
-value-43 : word 43 27 ≡ 43
+value-43 : word 43 33 ≡ 43
 unfolding opened word
 value-43 = refl
 
@@ -69,38 +69,42 @@ module _ (f : Reader) (m : Meets f) where
   result-of : (n : ℕ) → length (zeros n) ≡ n → (f table40 stream1 (zeros n)) .0 ≡ resultOf (readAll table40 stream1 n)
   result-of n h = m table40 stream1 (zeros n) .result ∙ ap (λ z. resultOf (readAll table40 stream1 z)) h
 
-  word-of : (v i : ℕ) → getD ((f table40 (v ∷ []) (zeros 32)) .1) i 0 ≡ word v i
+  word-of : (v i : ℕ) → getD ((f table40 (v ∷ []) (zeros 40)) .1) i 0 ≡ word v i
   unfolding word
-  word-of v i = ap (λ l. getD l i 0) (m table40 (v ∷ []) (zeros 32) .list)
+  word-of v i = ap (λ l. getD l i 0) (m table40 (v ∷ []) (zeros 40) .list)
 
-  eight : (f table40 stream1 (zeros 32)) .0 .entries ≡ 8
-  eight = ap (λ r. r .entries) (result-of 32 refl) ∙ entries-32
+  eight : (f table40 stream1 (zeros 40)) .0 .entries ≡ 8
+  eight = ap (λ r. r .entries) (result-of 40 refl) ∙ entries-40
 
-  seven-31 : (f table40 stream1 (zeros 31)) .0 .entries ≡ 7
-  seven-31 = ap (λ r. r .entries) (result-of 31 refl) ∙ entries-31
+  seven-39 : (f table40 stream1 (zeros 39)) .0 .entries ≡ 7
+  seven-39 = ap (λ r. r .entries) (result-of 39 refl) ∙ entries-39
 
   no-refusing : Refusing f → ⊥
-  no-refusing h = h table40 stream1 (zeros 32) (ap (λ r. r .number) (result-of 32 refl) ∙ accepts)
+  no-refusing h = h table40 stream1 (zeros 40) (ap (λ r. r .number) (result-of 40 refl) ∙ accepts)
 
   no-fixed : Fixed f → ⊥
   no-fixed h =
-      let p : _≡_ {A = ℕ} 42 43 = sym (word-of 42 27 ∙ value-42) ∙ ap (λ l. getD l 27 0) (h table40 table40 (42 ∷ []) (43 ∷ []) (zeros 32)) ∙ (word-of 43 27 ∙ value-43) in
+      let p : _≡_ {A = ℕ} 42 43 = sym (word-of 42 33 ∙ value-42)
+      ∙ ap (λ l. getD l 33 0) (h table40 table40 (42 ∷ []) (43 ∷ []) (zeros 40)) ∙ (word-of 43 33 ∙ value-43) in
       omega arith
 
   no-silent : Silent f → ⊥
-  no-silent h = let p : _≡_ {A = ℕ} 1 0 = sym (word-of 42 0 ∙ first-kind) ∙ ap (λ l. getD l 0 0) (h table40 stream1 (zeros 32)) in omega arith
+  no-silent h = let p : _≡_ {A = ℕ} 1 0 = sym (word-of 42 0 ∙ first-kind)
+      ∙ ap (λ l. getD l 0 0) (h table40 stream1 (zeros 40)) in omega arith
 
   no-at-once : AtOnce f → ⊥
   no-at-once h =
-      let p : _≡_ {A = ℕ} 8 0 = sym (word-of 42 29 ∙ last-place) ∙ h table40 (zeros 32) 42 7 (omega (arith, eight)) ∙ (word-of 42 1 ∙ first-place) in
+      let p : _≡_ {A = ℕ} 8 0 = sym (word-of 42 36 ∙ last-place) ∙ h table40 (zeros 40) 42 7 (omega (arith, eight))
+      ∙ (word-of 42 1 ∙ first-place) in
       omega arith
 
   no-whole : WholeOrNone f → ⊥
-  no-whole h = by (h table40 (zeros 32) (zeros 31) 42 (omega arith))
+  no-whole h = by (h table40 (zeros 40) (zeros 39) 42 (omega arith))
     where
-      by : ((f table40 stream1 (zeros 31)) .0 .entries ≡ (f table40 stream1 (zeros 32)) .0 .entries) ⊎ ((f table40 stream1 (zeros 31)) .0 .entries ≡ 0) → ⊥
-      by (inl p) = let q = sym seven-31 ∙ p ∙ eight in omega arith
-      by (inr p) = let q = sym seven-31 ∙ p in omega arith
+      by : ((f table40 stream1 (zeros 39)) .0 .entries
+          ≡ (f table40 stream1 (zeros 40)) .0 .entries) ⊎ ((f table40 stream1 (zeros 39)) .0 .entries ≡ 0) → ⊥
+      by (inl p) = let q = sym seven-39 ∙ p ∙ eight in omega arith
+      by (inr p) = let q = sym seven-39 ∙ p in omega arith
 
   no-made-up-entries : (x b ws : List ℕ) → MadeUpEntries f x b ws → ⊥
   unfolding resultOf listAfter
@@ -126,23 +130,23 @@ is-two : parse numbered ≡ good two []
 unfolding opened tableOf
 is-two = refl
 
-full-number : numberOf ((readStream (nearest two) (1 ∷ []) 400) .verdict) ≡ 0
+full-number : numberOf ((readStream (nearest two) (1 ∷ []) 500) .verdict) ≡ 0
 unfolding opened tableOf nearest nearestEvent
 full-number = refl
 
-full-missed : missed (λ i. true) (λ i j. not (eqb j 2)) ((readStream (nearest two) (1 ∷ []) 400) .entries) ≡ none
+full-missed : missed (λ i. true) (λ i j. not (eqb j 2)) ((readStream (nearest two) (1 ∷ []) 500) .entries) ≡ none
 unfolding opened tableOf nearest nearestEvent missed goneStream goneEvent both firstLost lost front later under
 full-missed = refl
 
-short-number : numberOf ((readStream (nearest (keep (λ i. true) (both (λ i. true) (λ i j. not (eqb j 2))) two)) (1 ∷ []) 400) .verdict) ≡ 37
+short-number : numberOf ((readStream (nearest (keep (λ i. true) (both (λ i. true) (λ i j. not (eqb j 2))) two)) (1 ∷ []) 500) .verdict) ≡ 37
 unfolding opened tableOf nearest nearestEvent keep both keepStreams keepEvents
 short-number = refl
 
 no-nearest : Demand3By nearest → ⊥
 unfolding shortened
 no-nearest h =
-    let d = h (λ i. true) (λ i j. not (eqb j 2)) numbered two [] is-two (1 ∷ []) 400 in
-    let e = d ∙ ap (λ o. shortened o (readStream (nearest two) (1 ∷ []) 400)) full-missed in
+    let d = h (λ i. true) (λ i j. not (eqb j 2)) numbered two [] is-two (1 ∷ []) 500 in
+    let e = d ∙ ap (λ o. shortened o (readStream (nearest two) (1 ∷ []) 500)) full-missed in
     let p : _≡_ {A = ℕ} 37 0 = sym short-number ∙ ap (λ r. numberOf (r .verdict)) e ∙ full-number in
     omega arith
 

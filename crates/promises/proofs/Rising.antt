@@ -24,7 +24,7 @@ use Rattle.laws.proofs.Places.{alignFrom-le}
 use Rattle.laws.proofs.Between.{In, At, NoMore}
 use Rattle.laws.proofs.Triple.{Ok}
 use Rattle.promises.specs.Laws.{Rising}
-use Rattle.laws.proofs.Law.{Any}
+use Rattle.laws.proofs.Law.{Any, AnyRecord}
 use Rattle.laws.proofs.Simple.{Simple, view, simple-root}
 
 abbrev pub RiseOut : ℕ → Out → Type 0
@@ -139,11 +139,11 @@ module _ {e : Env} where
   unfolding mark
   rise-mark k n v = record { at = λ s. in-listed e _ _ s (le-refl (s .place .0)) (le-refl (s .place .0)) }
 
-rise-field : (e : Env) (k a n v : ℕ) → 1 ≤ a → Rise e (field e k a n v)
+rise-field : (e : Env) (m k a n v : ℕ) → 1 ≤ a → Rise e (field e m k a n v)
 unfolding field aligned
-rise-field e k a n v h = record { at = λ s. in-listed e _ _ s (alignFrom-le (e .start .0) a (s .place .0) h) (omega arith) }
+rise-field e m k a n v h = record { at = λ s. in-listed e _ _ s (alignFrom-le (e .start .0) a (s .place .0) h) (omega arith) }
 
-rise-simple : (e : Env) → Simple e Any (Rise e) (Rise e)
+rise-simple : (e : Env) → Simple e AnyRecord Any (Rise e) (Rise e)
 unfolding refuseAt aligned store say fromSlot withSlots withOrder withClock withSaid
 rise-simple e = record {
   seq = λ a b. a ⨾ᵘ b;
@@ -160,7 +160,7 @@ rise-simple e = record {
   looks = λ f a. record { at = λ s. a (view s) .at s };
   looksʳ = λ f a. record { at = λ s. a (view s) .at s };
   slots = λ i f a. record { at = λ s. a (slotAt (s .slots) i) .at s };
-  fields = λ k a n v h l. rise-field e k a n v l;
+  fields = λ m k a n v h z l. rise-field e m k a n v l;
   clocked = λ l c. record { at = λ s. in-listed e _ _ s (le-refl (s .place .0)) (le-refl (s .place .0)) };
   stores = λ i x w. rise-change _ (λ s. refl);
   orders = λ o. rise-change _ (λ s. refl);
@@ -168,8 +168,8 @@ rise-simple e = record {
   says = λ f. rise-change _ (λ s. refl);
 }
 
-pub rise-root : (e : Env) (c : Option Class) → Rise e (readRoot e c)
-rise-root e c = simple-root e (rise-simple e) c
+pub rise-root : (e : Env) (m : ℕ) (c : Option Class) → Rise e (readRoot e m c)
+rise-root e m c = simple-root e (rise-simple e) m c
 
 -- Within the packet, the bound is at or behind the last
 

@@ -28,7 +28,7 @@ use Rattle.rules.specs.Parse.{Parsed, bad, good, parse}
 use Rattle.rules.specs.Read.{Reading, ended, begin, readStream, readAll, readParsed}
 use Rattle.facts.proofs.Steps.{onto-nil, onto-onto, after-onto}
 use Rattle.promises.specs.Laws.{RanOut}
-use Rattle.laws.proofs.Law.{Any}
+use Rattle.laws.proofs.Law.{Any, AnyRecord}
 use Rattle.laws.proofs.Places.{tenthByte}
 use Rattle.laws.proofs.Simple.{Simple, View, view}
 use Rattle.promises.proofs.Simple.{SimplePackets, simple-packet, simple-packets}
@@ -147,7 +147,7 @@ listed-wide e p d s r =
     let q : s .room + d - wordsPerEntry ≡ s .room - wordsPerEntry + d = omega arith in
     ap (λ x. go (e ∷ []) (record { place = p; room = x; slots = s .slots; order = s .order; clock = s .clock; last = s .last; said = s .said })) q
 
-wide-simple : (e : Env) → Simple e Any Wide WideR
+wide-simple : (e : Env) → Simple e AnyRecord Any Wide WideR
 unfolding _⨾_ field aligned store say fromSlot change withSlots withOrder withClock withSaid wide more
 wide-simple e = record {
   seq = λ {m} {n} h k. record { at = λ d s. wider-after d (m s) (m (more d s)) n (h .at d s) k };
@@ -164,7 +164,7 @@ wide-simple e = record {
   looks = λ f h. record { at = λ d s. h (view s) .at d s };
   looksʳ = λ f h. record { at = λ d s r. h (view s) .at d s r };
   slots = λ i f h. record { at = λ d s r. h (slotAt (s .slots) i) .at d s r };
-  fields = λ k a n v h l. record { at = λ d s r. inl (listed-wide _ _ d s r) };
+  fields = λ m k a n v h z l. record { at = λ d s r. inl (listed-wide _ _ d s r) };
   clocked = λ l c. record { at = λ d s r. inl (listed-wide _ _ d s r) };
   stores = λ i x w. record { at = λ d s. inl refl };
   orders = λ o. record { at = λ d s. inl refl };

@@ -16,6 +16,7 @@ use Rattle.rules.specs.Step.{State, Out, stop, go, Step, onto, after, _⨾_, re
 use Rattle.rules.specs.Table.{StreamClass, EventClass, Asked}
 use Rattle.rules.specs.Field.{Env}
 use Rattle.rules.specs.Packet.{readEvent, readEvents, withEvent, readRoot, startEvent, endPacket}
+use Rattle.rules.specs.Packet.{firstRoot, headerNumber, commonNumber, payloadNumber}
 use Rattle.facts.proofs.Truth.{if-agree}
 use Rattle.promises.proofs.Rising.{RiseIn, Rise, rising-le, rise-check, rise-due, rise-change, rise-mark, rise-root}
 
@@ -74,16 +75,17 @@ above-moved p = record { at = λ s l. by s l (eqb (s .place .0) p) refl }
 event-moves : (t : Asked) (c : StreamClass) (e : Env) (n : ℕ) (s : State) → From (suc (s .place .0)) (readEvent t c e n s)
 unfolding readEvent startEvent withLast
 event-moves t c e n s₀ =
-    (rising e rise-due ⨾ᵃ rising e (rise-mark 4 0 n) ⨾ᵃ rising e (rise-change _ (λ s. refl)) ⨾ᵃ root (c .header)
+    (rising e rise-due ⨾ᵃ rising e (rise-mark 4 0 n) ⨾ᵃ rising e (rise-change _ (λ s. refl)) ⨾ᵃ root (headerNumber c) (c .header)
     ⨾ᵃ rising e (rise-check _ ClockWentBack) ⨾ᵃ rising e (rise-change _ (λ s. refl)) ⨾ᵃ rising e rise-due
     ⨾ᵃ record {
       at = λ p s l. event-onward (c .id) (s .said .event) _ _
-          (λ d. rising e (rise-mark 5 0 (s .said .event)) ⨾ᵒ root (c .common) ⨾ᵒ root (d .specific) ⨾ᵒ root (d .payload)) .at p s l;
+          (λ d. rising e (rise-mark 5 0 (s .said .event)) ⨾ᵒ root (commonNumber c) (c .common) ⨾ᵒ root firstRoot (d .specific)
+          ⨾ᵒ root (payloadNumber d) (d .payload)) .at p s l;
     }
     ⨾ᵃ above-moved (s₀ .place .0)) .at s₀ (le-refl (s₀ .place .0))
   where
-    root : (x : Option Class) → Onward (readRoot e x)
-    root x = rising e (rise-root e x)
+    root : (m : ℕ) (x : Option Class) → Onward (readRoot e m x)
+    root m x = rising e (rise-root e m x)
 
 -- steps that agree wherever an outcome goes on
 after-agree : (p : ℕ) (o : Out) (n n′ : Step) → From p o → ((s : State) → p ≤ s .place .0 → n s ≡ n′ s) → after o n ≡ after o n′

@@ -18,11 +18,12 @@ use Rattle.rules.specs.Step.{Step, _⨾_, check, due, change, withLast}
 use Rattle.rules.specs.Table.{StreamClass, EventClass, Asked}
 use Rattle.rules.specs.Field.{Env}
 use Rattle.rules.specs.Packet.{mark, readRoot, withEvent, startEvent, readEvent, endPacket, readEvents, orElse, above, readContent, withStream, differs, startPacket, readPacket, readPackets}
-use Rattle.laws.proofs.Law.{Any}
+use Rattle.rules.specs.Packet.{firstRoot, headerNumber, commonNumber, payloadNumber}
+use Rattle.laws.proofs.Law.{Any, AnyRecord}
 use Rattle.laws.proofs.Simple.{View, view, Simple, simple-root}
 
 pub record SimplePackets (L R : Step → Type 0) : Type 0 where
-  pub simple : (e : Env) → Simple e Any L R
+  pub simple : (e : Env) → Simple e AnyRecord Any L R
   pub either : (t : View → Bool) {m n : Step} → L m → L n → L (λ s. elim (t (view s)) [ true ↦ m s | false ↦ n s ])
   pub marks : (k n v : ℕ) → R (mark k n v)
   pub starts : L (change startEvent)
@@ -46,17 +47,21 @@ module _ {L R : Step → Type 0} (h : SimplePackets L R) (t : Asked) where
   simple-event c e n =
       let p = h .simple e in
       p .looks
-      (λ x₀. due ⨾ mark eventStarts 0 n ⨾ change startEvent ⨾ readRoot e (c .header) ⨾ check (λ s. c .timed && ltb (s .clock) (s .last)) ClockWentBack
+      (λ x₀. due ⨾ mark eventStarts 0 n ⨾ change startEvent ⨾ readRoot e (headerNumber c) (c .header)
+      ⨾ check (λ s. c .timed && ltb (s .clock) (s .last)) ClockWentBack
       ⨾ change (λ s. withLast (s .clock) s) ⨾ due
       ⨾ (λ s. withEvent (c .id) (s .said .event) (t .event (c .id) (s .said .event))
-      (λ d. mark eventClassFound 0 (s .said .event) ⨾ readRoot e (c .common) ⨾ readRoot e (d .specific) ⨾ readRoot e (d .payload)) s)
+      (λ d. mark eventClassFound 0 (s .said .event) ⨾ readRoot e (commonNumber c) (c .common) ⨾ readRoot e firstRoot (d .specific)
+      ⨾ readRoot e (payloadNumber d) (d .payload)) s)
       ⨾ check (λ s. eqb (s .place .0) (x₀ .place .0)) EventTookNoBits)
-      (λ x₀. p .dueʳ (p .seqʳ (h .marks eventStarts 0 n) (p .seq (h .starts) (p .seq (simple-root e p (c .header))
+      (λ x₀. p .dueʳ (p .seqʳ (h .marks eventStarts 0 n) (p .seq (h .starts) (p .seq (simple-root e p (headerNumber c) (c .header))
       (p .seq (p .checks (λ x. c .timed && ltb (x .clock) (x .last)) ClockWentBack (λ z. omega arith)) (p .seq (h .lasts)
       (p .dueʳ (p .seqʳ (p .looksʳ (λ x. withEvent (c .id) (x .said .event) (t .event (c .id) (x .said .event))
-      (λ d. mark eventClassFound 0 (x .said .event) ⨾ readRoot e (c .common) ⨾ readRoot e (d .specific) ⨾ readRoot e (d .payload)))
+      (λ d. mark eventClassFound 0 (x .said .event) ⨾ readRoot e (commonNumber c) (c .common) ⨾ readRoot e firstRoot (d .specific)
+      ⨾ readRoot e (payloadNumber d) (d .payload)))
       (λ x. event-found e (c .id) (x .said .event) _ _ (λ d. p .seqʳ (h .marks eventClassFound 0 (x .said .event))
-      (p .seq (simple-root e p (c .common)) (p .seq (simple-root e p (d .specific)) (simple-root e p (d .payload)))))))
+      (p .seq (simple-root e p (commonNumber c) (c .common))
+      (p .seq (simple-root e p firstRoot (d .specific)) (simple-root e p (payloadNumber d) (d .payload)))))))
       (p .checks (λ x. eqb (x .place .0) (x₀ .place .0)) EventTookNoBits (λ z. omega arith))))))))))
 
   simple-events : (c : StreamClass) (e : Env) (to : BitPlace) (n left : ℕ) → L (readEvents t c e to n left)
@@ -81,14 +86,16 @@ module _ {L R : Step → Type 0} (h : SimplePackets L R) (t : Asked) where
   simple-packet b k i =
       h .simple (env (bitPlace 0)) .looks
       (λ x₀. let e : Env = env (x₀ .place) in
-      due ⨾ mark packetStarts 0 k ⨾ change startPacket ⨾ readRoot e (t .header) ⨾ check (λ s. differs (s .said .stream) i) StreamClassChanged ⨾ due
+      due ⨾ mark packetStarts 0 k ⨾ change startPacket ⨾ readRoot e firstRoot (t .header)
+      ⨾ check (λ s. differs (s .said .stream) i) StreamClassChanged ⨾ due
       ⨾ λ s. withStream (s .said .stream) (t .stream (s .said .stream)) (found e (x₀ .place) (s .said .stream)) s)
       (λ x₀. let e : Env = env (x₀ .place) in let p = h .simple e in
-      p .dueʳ (p .seqʳ (h .marks packetStarts 0 k) (p .seq (h .startsPacket) (p .seq (simple-root e p (t .header))
+      p .dueʳ (p .seqʳ (h .marks packetStarts 0 k) (p .seq (h .startsPacket) (p .seq (simple-root e p firstRoot (t .header))
       (p .seq (p .checks (λ x. differs (x .said .stream) i) StreamClassChanged (λ z. omega arith))
       (p .dueʳ (p .looksʳ (λ x. withStream (x .said .stream) (t .stream (x .said .stream)) (found e (x₀ .place) (x .said .stream)))
       (λ x. stream-found e (x .said .stream) _ _ (λ c. p .seqʳ (h .marks streamClassFound 0 (x .said .stream))
-      (p .seq (simple-root e p (c .context)) (p .looks (content (x₀ .place) c) (λ y. simple-content c b (x₀ .place) _ _))))))))))))
+      (p .seq (simple-root e p firstRoot (c .context))
+      (p .looks (content (x₀ .place) c) (λ y. simple-content c b (x₀ .place) _ _))))))))))))
     where
       env : BitPlace → Env
       env p = record { bytes = b; start = p; bound = bitPlace (8 * length b); uuid = t .uuid }
@@ -100,7 +107,7 @@ module _ {L R : Step → Type 0} (h : SimplePackets L R) (t : Asked) where
       content p c x = readContent t c b p (orElse (x .said .total) (x .said .content) (rest p)) (orElse (x .said .content) (x .said .total) (rest p))
 
       found : Env → BitPlace → ℕ → StreamClass → Step
-      found e p i c = mark streamClassFound 0 i ⨾ readRoot e (c .context) ⨾ λ s. content p c (view s) s
+      found e p i c = mark streamClassFound 0 i ⨾ readRoot e firstRoot (c .context) ⨾ λ s. content p c (view s) s
 
   pub simple-packets : (b : List ℕ) (k : ℕ) (i : Stated) (left : ℕ) → L (readPackets t b k i left)
   unfolding readPackets

@@ -28,7 +28,7 @@ use Rattle.rules.specs.Parse.{Parsed, bad, good, parse}
 use Rattle.rules.specs.Read.{ended, begin, readStream, readAll, readParsed}
 use Rattle.facts.proofs.Steps.{onto-nil}
 use Rattle.promises.specs.Laws.{SpentReading}
-use Rattle.laws.proofs.Law.{Any}
+use Rattle.laws.proofs.Law.{Any, AnyRecord}
 use Rattle.laws.proofs.Places.{tenthByte}
 use Rattle.laws.proofs.Simple.{NotFull, Simple, view}
 use Rattle.promises.proofs.Simple.{SimplePackets, simple-packet, simple-packets}
@@ -117,7 +117,7 @@ spent-listed : (e : Entry) (p : BitPlace) (s : State) → wordsPerEntry ≤ s .r
 unfolding listed
 spent-listed e p s r = omega arith
 
-spent-simple : (e : Env) → Simple e Any Spent SpentR
+spent-simple : (e : Env) → Simple e AnyRecord Any Spent SpentR
 unfolding _⨾_ refusalNumber field store say fromSlot withSlots withOrder withClock withSaid
 spent-simple e = record {
   seq = λ {m} {n} h k. record { at = λ s. spent-after s (m s) n (h .at s) k };
@@ -134,7 +134,7 @@ spent-simple e = record {
   looks = λ f h. record { at = λ s. h (view s) .at s };
   looksʳ = λ f h. record { at = λ s r. h (view s) .at s r };
   slots = λ i f h. record { at = λ s r. h (slotAt (s .slots) i) .at s r };
-  fields = λ k a n v h l. record { at = λ s r. spent-listed _ _ s r };
+  fields = λ m k a n v h z l. record { at = λ s r. spent-listed _ _ s r };
   clocked = λ l c. record { at = λ s r. spent-listed _ _ s r };
   stores = λ i x w. spent-change _ (λ s. refl);
   orders = λ o. spent-change _ (λ s. refl);

@@ -22,6 +22,7 @@ use Rattle.rules.specs.Class.{Class}
 use Rattle.rules.specs.Table.{StreamClass, EventClass, Asked}
 use Rattle.rules.specs.Field.{Env}
 use Rattle.rules.specs.Packet.{mark, readRoot, withEvent, startEvent, readEvent, endPacket, readEvents, startPacket, readPacket}
+use Rattle.rules.specs.Packet.{firstRoot, headerNumber, commonNumber, payloadNumber}
 use Rattle.facts.proofs.Steps.{listOf}
 use Rattle.laws.specs.All.{All}
 use Rattle.laws.proofs.All.{all-append}
@@ -49,22 +50,22 @@ field-not : (k : ℕ) → k < 6 → (x : Entry) → FieldEntry x → NotOf k x
 field-not k l x (inl p) q = omega arith
 field-not k l x (inr p) q = let g : 16 ≤ x .kind = p .0 in omega arith
 
-root-not : (k : ℕ) → k < 6 → (e : Env) (c : Option Class) (s : State) (es : List Entry) (u : State) → readRoot e c s ≡ go es u
+root-not : (k : ℕ) → k < 6 → (e : Env) (m : ℕ) (c : Option Class) (s : State) (es : List Entry) (u : State) → readRoot e m c s ≡ go es u
     → All (NotOf k) es
 unfolding listOf
-root-not k l e c s es u q = all-map (field-not k l) es (subst (λ o. All FieldEntry (listOf o)) q (fields-root e c .at s))
+root-not k l e m c s es u q = all-map (field-not k l) es (subst (λ o. All FieldEntry (listOf o)) q (fields-root e m c .at s))
 
 -- Entry 1 comes nowhere else
 
 abbrev NoStart : Entry → Type 0
 NoStart x = NotOf packetStarts x
 
-root-none : (e : Env) (c : Option Class) → Each NoStart (readRoot e c)
-root-none e c = record { at = λ s. all-map (field-not packetStarts (omega arith)) (listOf (readRoot e c s)) (fields-root e c .at s) }
+root-none : (e : Env) (m : ℕ) (c : Option Class) → Each NoStart (readRoot e m c)
+root-none e m c = record { at = λ s. all-map (field-not packetStarts (omega arith)) (listOf (readRoot e m c s)) (fields-root e m c .at s) }
 
 mark-none : (k n v : ℕ) → (k ≡ packetStarts → ⊥) → Each NoStart (mark k n v)
 unfolding mark
-mark-none k n v h = record { at = λ s. each-listed NoStart (entry k (s .place) n v) (s .place) s h }
+mark-none k n v h = record { at = λ s. each-listed NoStart (entry k (s .place) n v 0) (s .place) s h }
 
 infixr 20 _⨾ⁿ_
 _⨾ⁿ_ : {m n : Step} → Each NoStart m → Each NoStart n → Each NoStart (m ⨾ n)
@@ -72,19 +73,22 @@ h ⨾ⁿ k = _⨾ᵉ_ NoStart h k
 
 module _ (t : Asked) (c : StreamClass) (e : Env) where
   abbrev inside : ℕ → EventClass → Step
-  inside j d = mark eventClassFound 0 j ⨾ readRoot e (c .common) ⨾ readRoot e (d .specific) ⨾ readRoot e (d .payload)
+  inside j d = mark eventClassFound 0 j ⨾ readRoot e (commonNumber c) (c .common) ⨾ readRoot e firstRoot (d .specific)
+      ⨾ readRoot e (payloadNumber d) (d .payload)
 
   class-none : (i j : ℕ) (x : Option EventClass) → Each NoStart (withEvent i j x (inside j))
   unfolding withEvent
   class-none i j none = each-refuse NoStart (EventClassUnknown i j)
-  class-none i j (some d) = mark-none eventClassFound 0 j (λ q. omega arith) ⨾ⁿ root-none e (c .common) ⨾ⁿ root-none e (d .specific)
-      ⨾ⁿ root-none e (d .payload)
+  class-none i j (some d) = mark-none eventClassFound 0 j (λ q. omega arith) ⨾ⁿ root-none e (commonNumber c) (c .common)
+      ⨾ⁿ root-none e firstRoot (d .specific)
+      ⨾ⁿ root-none e (payloadNumber d) (d .payload)
 
   event-none : (n : ℕ) → Each NoStart (readEvent t c e n)
   unfolding readEvent
   event-none n = record {
     at = λ s₀.
-        (each-due NoStart ⨾ⁿ mark-none eventStarts 0 n (λ q. omega arith) ⨾ⁿ each-change NoStart startEvent ⨾ⁿ root-none e (c .header)
+        (each-due NoStart ⨾ⁿ mark-none eventStarts 0 n (λ q. omega arith) ⨾ⁿ each-change NoStart startEvent
+        ⨾ⁿ root-none e (headerNumber c) (c .header)
         ⨾ⁿ each-check NoStart _ ClockWentBack
         ⨾ⁿ each-change NoStart _ ⨾ⁿ each-due NoStart
         ⨾ⁿ record { at = λ s. class-none (c .id) (s .said .event) (t .event (c .id) (s .said .event)) .at s }
@@ -94,7 +98,7 @@ module _ (t : Asked) (c : StreamClass) (e : Env) where
   end-none : (to : BitPlace) (n : ℕ) → Each NoStart (endPacket to n)
   unfolding endPacket
   end-none to n = each-due NoStart
-      ⨾ⁿ record { at = λ s. each-listed NoStart (entry packetEnds to (to .0 - s .place .0) n) to s (λ q. omega arith) }
+      ⨾ⁿ record { at = λ s. each-listed NoStart (entry packetEnds to (to .0 - s .place .0) n 0) to s (λ q. omega arith) }
 
   none-if : (b : Bool) (x y : Out) → All NoStart (listOf x) → All NoStart (listOf y)
       → All NoStart (listOf (elim b [ true ↦ x | false ↦ y ]))
@@ -123,16 +127,16 @@ total-skip (x ∷ es) fs h = if-false (eqb (x .kind) lengthsSettled) _ _ (ne-eqb
 module _ (t : Asked) (b : List ℕ) (p : BitPlace) (rest : ℕ) (i : Stated) (s : State) (es : List Entry) (u : State)
     (r : Ran t b p rest i s es u) where
   abbrev found : Entry
-  found = entry streamClassFound (r .s₁ .place) 0 (r .s₁ .said .stream)
+  found = entry streamClassFound (r .s₁ .place) 0 (r .s₁ .said .stream) 0
 
   abbrev settled : Entry
-  settled = entry lengthsSettled (r .s₂ .place) (totalOf rest (r .s₂)) (contentOf rest (r .s₂))
+  settled = entry lengthsSettled (r .s₂ .place) (totalOf rest (r .s₂)) (contentOf rest (r .s₂)) 0
 
   not-header : (k : ℕ) → k < 6 → All (NotOf k) (r .es₁)
-  not-header k l = root-not k l (toEnd t b p) (t .header) (startPacket s) (r .es₁) (r .s₁) (r .header)
+  not-header k l = root-not k l (toEnd t b p) firstRoot (t .header) (startPacket s) (r .es₁) (r .s₁) (r .header)
 
   not-context : (k : ℕ) → k < 6 → All (NotOf k) (r .es₂)
-  not-context k l = root-not k l (toEnd t b p) (r .c .context) (less (r .s₁)) (r .es₂) (r .s₂) (r .context)
+  not-context k l = root-not k l (toEnd t b p) firstRoot (r .c .context) (less (r .s₁)) (r .es₂) (r .s₂) (r .context)
 
   events-not : All NoStart (r .content .rest)
   unfolding listOf
@@ -168,7 +172,7 @@ rising-all (x ∷ es) p q h =
 
 pub record Whole (t : Asked) (b : List ℕ) (k : ℕ) (i : Stated) (s : State) (es : List Entry) (u : State) : Type 0 where
   pub others : List Entry
-  pub list : es ≡ entry packetStarts (s .place) 0 k ∷ others
+  pub list : es ≡ entry packetStarts (s .place) 0 k 0 ∷ others
   pub none : All (NotOf packetStarts) others
   pub behind : All (λ x. s .place .0 ≤ x .place .0) others
   pub total : u .place .0 ≡ s .place .0 + totalIn others

@@ -25,6 +25,7 @@ use Rattle.rules.specs.declared.Entry.{Entry}
 use Rattle.rules.specs.declared.Refusal.{Refusal}
 use Rattle.rules.specs.declared.Refusal.the-variants.{PastBound, OrderChanged, NoZeroByte, SlotUnset, SlotOfWrongSort}
 use Rattle.rules.specs.declared.Refusal.the-variants.{LengthTooLarge, SelectorInNoOption, WrongMagic, WrongUuid, ClockTooLarge, NotText}
+use Rattle.rules.specs.Limits.{tableLimit}
 use Rattle.rules.specs.Verdict.{stopAt}
 use Rattle.rules.specs.Bits.{bits}
 use Rattle.rules.specs.Leb128.{lebUnsigned, lebSigned}
@@ -46,8 +47,9 @@ use Rattle.leb128.proofs.Settled.{unsigned-reaches, signed-reaches}
 use Rattle.text.proofs.Laws.{text-le, zero-found}
 use Rattle.laws.proofs.Places.{LebFits, LebReaches, ahead-fits, tenth-fits}
 use Rattle.promises.specs.Words.{Word, WordEntry, WordIds, WordStop}
-use Rattle.laws.proofs.Law.{Any, SlotOf, Law, FitRoot, law-root}
+use Rattle.laws.proofs.Law.{Any, SlotOf, Law, FitRoot, NumberedRoot, numbered-root}
 use Rattle.laws.proofs.Triple.{Ok, Triple, then, passing, changing, refusing, refusing-at, checks, tested-at, untested, untested-at, dued}
+use Rattle.promises.proofs.Small.{SmallRecord}
 use Rattle.promises.proofs.Values.{value-word, clock-word, WordSlots, slot-word, set-word, slotOf-word}
 
 abbrev pub StatedWord : Stated → Type 0
@@ -120,9 +122,10 @@ unfolding newClock
 word-newClock l none g h = word-refuse ClockTooLarge tt
 word-newClock l (some c) g h = six ⨾ʷ advanced
   where
-    six : Worded (λ s. listed (entry clockAdvanced (s .place) l c) (s .place) s)
+    six : Worded (λ s. listed (entry clockAdvanced (s .place) l c 0) (s .place) s)
     six = record {
-      at = λ s w. word-listed (entry clockAdvanced (s .place) l c) (s .place) s (omega arith, w .place, g, h c refl) (w .place) w;
+      at = λ s w.
+          word-listed (entry clockAdvanced (s .place) l c 0) (s .place) s (omega arith, w .place, g, h c refl, omega arith) (w .place) w;
     }
 
     advanced : Worded (change (withClock c))
@@ -192,66 +195,67 @@ module _ (e : Env) (g : Env64 e) where
   unfolding fit
   plain-fit a n h = untested-at WordEntry WordStop WordIds _ _ at-bound _ h
 
-  a-field : (k a n v : ℕ) → k ≤ 32 → Word v → Fine (Room a n) (field e k a n v)
+  a-field : (m k a n v : ℕ) → k ≤ 32 → m < tableLimit → Word v → Fine (Room a n) (field e m k a n v)
   unfolding field
-  a-field k a n v h w = record {
+  a-field m k a n v h y w = record {
     at = λ s x.
         let b : (aligned e a s) .0 + n ≤ e .bound .0 = x .1 in
         let c : Word (e .bound .0) = g .bound in
-        word-listed (entry k (aligned e a s) n v) _ s (omega arith) (omega arith) (x .0);
+        word-listed (entry k (aligned e a s) n v m) _ s (omega arith) (omega arith) (x .0);
   }
 
   -- a field of text that fits
-  text-field : (x : List ℕ) (k n v : ℕ) → k ≤ 32 → Word v → Fine (Room 8 n) (asText x ⨾ field e k 8 n v)
+  text-field : (x : List ℕ) (m k n v : ℕ) → k ≤ 32 → m < tableLimit → Word v → Fine (Room 8 n) (asText x ⨾ field e m k 8 n v)
   unfolding asText
-  text-field x k n v h w =
-      untested WordEntry WordStop WordIds (λ r i s y. place-of r i s (y .0)) _ NotText tt (a-field k 8 n v h w)
+  text-field x m k n v h z w =
+      untested WordEntry WordStop WordIds (λ r i s y. place-of r i s (y .0)) _ NotText tt (a-field m k 8 n v h z w)
 
-  tagged : (k v : ℕ) → k ≤ 32 → Word v → Worded (field e k 1 0 v)
+  tagged : (m k v : ℕ) → k ≤ 32 → m < tableLimit → Word v → Worded (field e m k 1 0 v)
   unfolding field aligned alignFrom roundUp
-  tagged k v h w = record {
+  tagged m k v h y w = record {
     at = λ s x.
         let b : Word (s .place .0) = x .place in
         let c : Word (e .start .0) = g .start in
-        word-listed (entry k (aligned e 1 s) 0 v) _ s (omega arith) (omega arith) x;
+        word-listed (entry k (aligned e 1 s) 0 v m) _ s (omega arith) (omega arith) x;
   }
 
-  word-fixed : (k : Sort) (n : ℕ) (o : Order) (a i : ℕ) (r : Role) → n ≤ 64 → Worded (readFixed e k n o a i r)
+  word-fixed : (m : ℕ) (k : Sort) (n : ℕ) (o : Order) (a i : ℕ) (r : Role) → m < tableLimit → n ≤ 64 → Worded (readFixed e m k n o a i r)
   unfolding readFixed
-  word-fixed k n o a i r h =
+  word-fixed m k n o a i r y h =
       word-due (plain-fit a 0 (untested WordEntry WordStop WordIds place-of _ OrderChanged tt (fitting a n (record {
         at = λ s x.
             (let p : ℕ = (aligned e a s) .0 in
             let v : ℕ = bits o (e .bytes) p n in
             let w : Word (valueOf k n v) = value-word k n o (e .bytes) p h in
-            a-field (kindOf k) a n (valueOf k n v) (kind-le k) w ⨾ʷ word-order (Was o)
+            a-field m (kindOf k) a n (valueOf k n v) (kind-le k) y w ⨾ʷ word-order (Was o)
             ⨾ʷ word-store i (slotOf k n v) (slotOf-word k n o (e .bytes) p h)
             ⨾ʷ word-role r n (valueOf k n v) (omega arith) w) .at s x;
       }))))
 
-  word-leb : (k : ℕ) (sl : ℕ → Content) (i : ℕ) (r : Role) (x : Leb) (s : State) → k ≤ 32 → ((v : ℕ) → Word v → SlotOf Word (sl v))
+  word-leb : (m k : ℕ) (sl : ℕ → Content) (i : ℕ) (r : Role) (x : Leb) (s : State) → m < tableLimit → k ≤ 32
+      → ((v : ℕ) → Word v → SlotOf Word (sl v))
       → Wordy s → (aligned e 8 s) .0 ≤ e .bound .0 → LebFits (ahead e (aligned e 8 s)) x → LebReaches (ahead e (aligned e 8 s)) x
-      → WordedOut (readLeb e k sl i r x s)
+      → WordedOut (readLeb e m k sl i r x s)
   unfolding readLeb
-  word-leb k sl i r Past s q f h b p t = refusing-at WordEntry WordStop WordIds _ _ at-bound .at s h
-  word-leb k sl i r Large s q f h b p t =
+  word-leb m k sl i r Past s z q f h b p t = refusing-at WordEntry WordStop WordIds _ _ at-bound .at s h
+  word-leb m k sl i r Large s z q f h b p t =
       let bound : Word (e .bound .0) = g .bound in
       unfold refuseAt in (tt, (omega (arith, tenth-fits e s b (t refl)), tt))
-  word-leb k sl i r (Value v n) s q f h b p t =
+  word-leb m k sl i r (Value v n) s z q f h b p t =
       let y = p v n refl in
       let u : Word v = y .fits in
-      (a-field k 8 (8 * n .0) v q u ⨾ʷ word-store i (sl v) (f v u) ⨾ʷ word-role r (7 * n .0) v (omega (arith, y .most)) u) .at s
+      (a-field m k 8 (8 * n .0) v q z u ⨾ʷ word-store i (sl v) (f v u) ⨾ʷ word-role r (7 * n .0) v (omega (arith, y .most)) u) .at s
       (h, ahead-fits e (aligned e 8 s) (n .0) b (y .inside))
 
-  word-zero : (x : Ended) (s : State) → Wordy s → (aligned e 8 s) .0 ≤ e .bound .0
-      → ((n : ByteLength) → x ≡ After n → n .0 < length (ahead e (aligned e 8 s))) → WordedOut (readZero e x s)
+  word-zero : (m : ℕ) (x : Ended) (s : State) → m < tableLimit → Wordy s → (aligned e 8 s) .0 ≤ e .bound .0
+      → ((n : ByteLength) → x ≡ After n → n .0 < length (ahead e (aligned e 8 s))) → WordedOut (readZero e m x s)
   unfolding readZero _⨾_
-  word-zero Never s h b p = word-refuse NoZeroByte tt .at s h
-  word-zero (After n) s h b p =
+  word-zero m Never s z h b p = word-refuse NoZeroByte tt .at s h
+  word-zero m (After n) s z h b p =
       let l : n .0 < length (ahead e (aligned e 8 s)) = p n refl in
       let f : (aligned e 8 s) .0 + 8 * (n .0 + 1) ≤ e .bound .0 = ahead-fits e (aligned e 8 s) (n .0 + 1) b (omega arith) in
       let c : Word (e .bound .0) = g .bound in
-      text-field (bytesAt e (aligned e 8 s) (n .0)) 23 (8 * (n .0 + 1)) (n .0) (omega arith) (omega arith) .at s (h, f)
+      text-field (bytesAt e (aligned e 8 s) (n .0)) m 23 (8 * (n .0 + 1)) (n .0) (omega arith) z (omega arith) .at s (h, f)
 
   at-zero : {m : Step} → Fine (λ s. Wordy s × ((aligned e 8 s) .0 ≤ e .bound .0)) m → Worded (fit e 8 0 ⨾ m)
   at-zero h = fitting 8 0 (record { at = λ s x. let b : (aligned e 8 s) .0 + 0 ≤ e .bound .0 = x .1 in h .at s (x .0, omega arith) })
@@ -260,7 +264,7 @@ module _ (e : Env) (g : Env64 e) where
   unfolding bytesAt
   text-word p n = omega (arith, text-le (take n (drop (p .0 / 8) (e .bytes))), length-take n (drop (p .0 / 8) (e .bytes)))
 
-  pub word-law : Law e To64 Any Word Worded Worded
+  pub word-law : Law e SmallRecord To64 Any Word Worded Worded
   unfolding fromSlot
   word-law = record {
     none? = omega arith;
@@ -274,37 +278,39 @@ module _ (e : Env) (g : Env64 e) where
     inNone = word-refuse SelectorInNoOption tt;
     within = λ n h. untested WordEntry WordStop WordIds place-of _ LengthTooLarge tt h;
     slot = λ i f h. record { at = λ s x. h (slotAt (s .slots) i) (slot-word (s .slots) i (x .slots)) .at s x };
-    fixes = λ k n o a i r w z. word-fixed k n o (2 ^ a) i r w;
-    lebs = λ i r z. at-zero (record {
+    fixes = λ m k n o a i r y w z. word-fixed m k n o (2 ^ a) i r y w;
+    lebs = λ m i r y z. at-zero (record {
       at = λ s x.
           let l = lebUnsigned (ahead e (aligned e 8 s)) in
-          word-leb 21 Unsigned i r l s (omega arith) (λ v w. w) (x .0) (x .1) (unsigned-value _) (unsigned-reaches _);
+          word-leb m 21 Unsigned i r l s y (omega arith) (λ v w. w) (x .0) (x .1) (unsigned-value _) (unsigned-reaches _);
     });
-    signedLebs = λ i z. at-zero (record {
+    signedLebs = λ m i y z. at-zero (record {
       at = λ s x.
           let l = lebSigned (ahead e (aligned e 8 s)) in
-          word-leb 22 Signed i noRole l s (omega arith) (λ v w. w) (x .0) (x .1) (signed-value _) (signed-reaches _);
+          word-leb m 22 Signed i noRole l s y (omega arith) (λ v w. w) (x .0) (x .1) (signed-value _) (signed-reaches _);
     });
-    zeros = at-zero (record { at = λ s x. word-zero (zeroAt (ahead e (aligned e 8 s))) s (x .0) (x .1) (λ n z. zero-found _ n z .0) });
-    texts = λ k n h. unfold readText in
+    zeros = λ m y. at-zero (record {
+      at = λ s x. word-zero m (zeroAt (ahead e (aligned e 8 s))) s y (x .0) (x .1) (λ n z. zero-found _ n z .0);
+    });
+    texts = λ m k n h z. unfold readText in
         plain-fit 8 0 (fitting 8 (8 * n) (record {
           at = λ s x.
               let b : (aligned e 8 s) .0 + 8 * n ≤ e .bound .0 = x .1 in
               let c : Word (e .bound .0) = g .bound in
               let y = bytesAt e (aligned e 8 s) n in
-              text-field y k (8 * n) (textLength y) (h .1) (omega (arith, text-word (aligned e 8 s) n)) .at s x;
+              text-field y m k (8 * n) (textLength y) (h .1) z (omega (arith, text-word (aligned e 8 s) n)) .at s x;
         }));
-    blobs = λ k n r h. unfold readBlob in
+    blobs = λ m k n r h z. unfold readBlob in
         plain-fit 8 0 (fitting 8 (8 * n) (record {
           at = λ s x.
               let b : (aligned e 8 s) .0 + 8 * n ≤ e .bound .0 = x .1 in
               let c : Word (e .bound .0) = g .bound in
-              (a-field k 8 (8 * n) n (h .1) (omega arith) ⨾ʷ word-blobRole e r (bytesAt e (aligned e 8 s) n)) .at s x;
+              (a-field m k 8 (8 * n) n (h .1) z (omega arith) ⨾ʷ word-blobRole e r (bytesAt e (aligned e 8 s) n)) .at s x;
         }));
-    heads = λ k a v h l w x. fitting a 0 (a-field k a 0 v (h .1) w ⨾ʷ x);
-    tags = λ k v h w x. tagged k v (h .1) w ⨾ʷ x;
-    tag = λ k v h w. tagged k v (h .1) w;
+    heads = λ m k a v h z l w x. fitting a 0 (a-field m k a 0 v (h .1) z w ⨾ʷ x);
+    tags = λ m k v h z w x. tagged m k v (h .1) z w ⨾ʷ x;
+    tag = λ m k v h z w. tagged m k v (h .1) z w;
   }
 
-  pub word-root : (c : Option Class) → FitRoot To64 Any Word c → Worded (readRoot e c)
-  word-root c w = law-root e word-law c w
+  pub word-root : (m : ℕ) (c : Option Class) → FitRoot To64 Any Word c → NumberedRoot SmallRecord m c → Worded (readRoot e m c)
+  word-root m c w z = numbered-root e word-law m c w z

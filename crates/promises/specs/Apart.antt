@@ -52,7 +52,7 @@ unfoldable pub numberLower : Entry → ℕ
 numberLower e = elim (eqb (e .kind) packetStarts) [ true ↦ e .value - 1 | false ↦ e .value ]
 
 unfoldable pub lower : ℕ → Entry → Entry
-lower total e = entry (e .kind) (bitPlace (e .place .0 - total)) (e .bits) (numberLower e)
+lower total e = entry (e .kind) (bitPlace (e .place .0 - total)) (e .bits) (numberLower e) (e .number)
 
 -- "its list is the old one without that packet's entries"
 unfoldable pub listWithout : ℕ → List Entry → List Entry
@@ -82,7 +82,7 @@ unfoldable pub threePackets : List ℕ
 threePackets = 16 ∷ 10 ∷ 16 ∷ 20 ∷ 16 ∷ 30 ∷ []
 
 abbrev pub theirList : List Entry
-theirList = (readAll stamped threePackets 400) .entries
+theirList = (readAll stamped threePackets 500) .entries
 
 -- a packet context of a flag and, where it is set, a total length; events of a byte
 abbrev pub maybeStated : List ℕ
@@ -94,14 +94,14 @@ unfoldable pub lastUnstated : List ℕ
 lastUnstated = 1 ∷ 24 ∷ 5 ∷ 0 ∷ 7 ∷ []
 
 abbrev pub unstatedList : List Entry
-unstatedList = (readAll maybeStated lastUnstated 400) .entries
+unstatedList = (readAll maybeStated lastUnstated 500) .entries
 
 pub record ApartFigures : Type 0 where
   pub three : packetsIn theirList ≡ 3
   pub without-first : bytesWithout 0 theirList threePackets ≡ 16 ∷ 20 ∷ 16 ∷ 30 ∷ []
   pub without-middle : bytesWithout 1 theirList threePackets ≡ 16 ∷ 10 ∷ 16 ∷ 30 ∷ []
   pub without-last : bytesWithout 2 theirList threePackets ≡ 16 ∷ 10 ∷ 16 ∷ 20 ∷ []
-  pub list : listWithout 1 theirList ≡ (readAll stamped (16 ∷ 10 ∷ 16 ∷ 30 ∷ []) 400) .entries
+  pub list : listWithout 1 theirList ≡ (readAll stamped (16 ∷ 10 ∷ 16 ∷ 30 ∷ []) 500) .entries
   pub two : packetsIn unstatedList ≡ 2
   pub without-stated : bytesWithout 0 unstatedList lastUnstated ≡ 0 ∷ 7 ∷ []
   pub without-unstated : bytesWithout 1 unstatedList lastUnstated ≡ 1 ∷ 24 ∷ 5 ∷ []

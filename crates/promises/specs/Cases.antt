@@ -2,11 +2,12 @@
 -- steps where two numbers lie close together. A table is written record by record.
 use mathlib.Core.Path.{_≡_}
 use Prim.Native.Nat.{ℕ}
-use mathlib.Core.List.{List, [], _∷_, _++_}
+use mathlib.Core.List.{List, [], _∷_, _++_, map}
 use mathlib.Core.Bool.{false}
 use mathlib.Core.Option.{none, some}
 use lib.ListN.{replicate}
 use Rattle.rules.specs.declared.Order.the-variants.{Little}
+use Rattle.rules.specs.declared.Entry.{Entry}
 use Rattle.rules.specs.declared.Result.{Result}
 use Rattle.rules.specs.Class.{Class, noRole, unsignedInt, fixed, dynamicBlob as blobOf, structure as structureOf, noMember, member}
 use Rattle.rules.specs.Class.{staticArray as staticOf, dynamicArray as dynamicOf}
@@ -168,6 +169,35 @@ behind c = payload (structure 3 ++ plain 16 0 ++ dynamicArray 16 ++ c ++ dynamic
 abbrev pub twice : List ℕ → List ℕ
 twice c = structure 2 ++ plain 16 0 ++ staticArray 1 ++ c
 
+-- every root, each a structure of one byte; and of a stream class and an event class the last root alone
+abbrev pub one : ℕ → List ℕ
+one n = root n ++ structure 1 ++ plain 255 0
+
+abbrev pub allRoots : List ℕ
+allRoots = preamble ++ traceClass ++ one 0 ++ streamClass 0 255 ++ one 1 ++ one 2 ++ one 3 ++ eventClass 0 0 ++ one 4 ++ one 5
+
+abbrev pub lastRoots : List ℕ
+lastRoots = preamble ++ streamClass 0 255 ++ one 3 ++ eventClass 0 0 ++ one 5
+
+-- a variant by slot 16 of two options with a range each, and an optional by slot 16 with two ranges, each between its selector and a byte
+abbrev pub betweenOptions : List ℕ
+betweenOptions =
+    payload (structure 3 ++ plain 16 0 ++ variant 16 2 ++ option 1 ++ range 0 3 ++ string ++ option 1 ++ range 5 9 ++ plain 255 0
+    ++ plain 255 0)
+
+abbrev pub betweenRanges : List ℕ
+betweenRanges = payload (structure 3 ++ plain 16 0 ++ optional 16 2 ++ range 1 1 ++ range 3 4 ++ plain 255 0 ++ plain 255 0)
+
+-- an optional by a flag, of a structure; an array of two structures; one of as many bytes as slot 16 says; each before a byte
+abbrev pub betweenFlags : List ℕ
+betweenFlags = payload (structure 3 ++ boolean 16 ++ optional 16 0 ++ structure 1 ++ plain 255 0 ++ plain 255 0)
+
+abbrev pub beforeElements : List ℕ
+beforeElements = payload (structure 2 ++ staticArray 2 ++ structure 1 ++ plain 255 0 ++ plain 255 0)
+
+abbrev pub betweenElements : List ℕ
+betweenElements = payload (structure 3 ++ plain 16 0 ++ dynamicArray 16 ++ plain 255 0 ++ plain 255 0)
+
 -- as a tree that no table gives, since slot 16 has two homes in it: the common context sets it, and an element reads it before it sets it
 abbrev pub early : (Class → Class) → Table
 early array =
@@ -183,13 +213,17 @@ early array =
 -- Answers
 
 abbrev pub answer : List ℕ → List ℕ → Result
-answer table stream = resultOf (readAll table stream 400)
+answer table stream = resultOf (readAll table stream 500)
 
 abbrev pub result : ℕ → ℕ → ℕ → ℕ → ℕ → Result
 result n k p i j = record { number = n; entries = k; place = p; first = i; second = j }
 
 abbrev pub number : List ℕ → ℕ
 number table = checkedNumber (checked table)
+
+-- the fifth words of a list
+abbrev pub fifths : List ℕ → List ℕ → List ℕ
+fifths table stream = map (λ (e : Entry). e .number) ((readAll table stream 500) .entries)
 
 abbrev pub byte : List ℕ → ℕ
 byte table = (checkedByte (checked table)) .0
@@ -209,9 +243,9 @@ pub record Cases : Type 0 where
   pub overlap : number (chosen 1 (option 2 ++ range 0 9 ++ range 5 12 ++ plain 255 0)) ≡ 0
   pub meeting : number (chosen 2 (option 1 ++ range 0 9 ++ plain 255 0 ++ option 1 ++ range 9 12 ++ plain 255 0)) ≡ 13
   -- 40 comes before the lookup that an entry waits for (33)
-  pub room-none : resultOf (readAll preamble stream1 3) ≡ result 40 0 0 0 0
-  pub room-first : resultOf (readAll preamble stream1 7) ≡ result 40 1 0 0 0
-  pub unknown-class : resultOf (readAll preamble stream1 8) ≡ result 33 1 0 0 0
+  pub room-none : resultOf (readAll preamble stream1 4) ≡ result 40 0 0 0 0
+  pub room-first : resultOf (readAll preamble stream1 9) ≡ result 40 1 0 0 0
+  pub unknown-class : resultOf (readAll preamble stream1 10) ≡ result 33 1 0 0 0
   -- a slot that is unset, and of the wrong sort: as a length, as a flag, as a number
   pub unset : answer (payload (structure 1 ++ dynamicBlob 16)) (0 ∷ []) ≡ result 26 6 0 0 0
   pub signed-length : answer (payload (structure 2 ++ signed 16 ++ dynamicBlob 16)) (0 ∷ []) ≡ result 27 7 8 0 0
@@ -220,11 +254,13 @@ pub record Cases : Type 0 where
   -- slots 16 to 63 are unset when an event starts
   pub forgotten : answer remembered (0 ∷ 3 ∷ 1 ∷ 0 ∷ []) ≡ result 26 14 24 0 0
   -- an optional that is there, and one that is not
-  pub absent : (readAll (payload (structure 2 ++ boolean 16 ++ optional 16 0 ++ plain 255 0)) (0 ∷ []) 400) .entries
-      ≡ listed 1 0 0 0 ∷ listed 2 0 0 0 ∷ listed 3 0 8 8 ∷ listed 4 0 0 0 ∷ listed 5 0 0 0 ∷ listed 28 0 0 2 ∷ listed 17 0 8 0 ∷ listed 31 8 0 0 ∷ listed 7 8 0 1 ∷ []
-  pub present : (readAll (payload (structure 2 ++ boolean 16 ++ optional 16 0 ++ plain 255 0)) (2 ∷ 7 ∷ []) 400) .entries
-      ≡ listed 1 0 0 0 ∷ listed 2 0 0 0 ∷ listed 3 0 16 16 ∷ listed 4 0 0 0 ∷ listed 5 0 0 0 ∷ listed 28 0 0 2 ∷ listed 17 0 8 1 ∷ listed 31 8 0 1 ∷ listed 18 8 8 7
-      ∷ listed 7 16 0 1 ∷ []
+  pub absent : (readAll (payload (structure 2 ++ boolean 16 ++ optional 16 0 ++ plain 255 0)) (0 ∷ []) 500) .entries
+      ≡ listed 1 0 0 0 0 ∷ listed 2 0 0 0 0 ∷ listed 3 0 8 8 0 ∷ listed 4 0 0 0 0 ∷ listed 5 0 0 0 0
+      ∷ listed 28 0 0 2 2 ∷ listed 17 0 8 0 3 ∷ listed 31 8 0 0 4 ∷ listed 7 8 0 1 0 ∷ []
+  pub present : (readAll (payload (structure 2 ++ boolean 16 ++ optional 16 0 ++ plain 255 0)) (2 ∷ 7 ∷ []) 500) .entries
+      ≡ listed 1 0 0 0 0 ∷ listed 2 0 0 0 0 ∷ listed 3 0 16 16 0 ∷ listed 4 0 0 0 0 ∷ listed 5 0 0 0 0
+      ∷ listed 28 0 0 2 2 ∷ listed 17 0 8 1 3 ∷ listed 31 8 0 1 4 ∷ listed 18 8 8 7 5
+      ∷ listed 7 16 0 1 0 ∷ []
   -- the order changes in the middle of a byte
   pub turned : answer (payload (structure 2 ++ unsigned 4 0 0 255 0 ++ unsigned 4 1 0 255 0)) (0 ∷ []) ≡ result 23 7 4 0 0
   -- a selector in the second option, and in none
@@ -256,9 +292,10 @@ pub record Cases : Type 0 where
   pub no-static-string : answer (behindFour (staticString 2)) (0 ∷ 97 ∷ 0xFF ∷ []) ≡ result 41 7 4 0 0
   pub no-dynamic-string : answer (behindLength (dynamicString 16)) (2 ∷ 0 ∷ 97 ∷ 0xFF ∷ []) ≡ result 41 8 12 0 0
   -- text is listed with the count of its bytes, not of its characters
-  pub some-text : (readAll (payload (structure 1 ++ string)) (0xC3 ∷ 0xA9 ∷ 0 ∷ []) 400) .entries
-      ≡ listed 1 0 0 0 ∷ listed 2 0 0 0 ∷ listed 3 0 24 24 ∷ listed 4 0 0 0 ∷ listed 5 0 0 0 ∷ listed 28 0 0 1 ∷ listed 23 0 24 2
-      ∷ listed 7 24 0 1 ∷ []
+  pub some-text : (readAll (payload (structure 1 ++ string)) (0xC3 ∷ 0xA9 ∷ 0 ∷ []) 500) .entries
+      ≡ listed 1 0 0 0 0 ∷ listed 2 0 0 0 0 ∷ listed 3 0 24 24 0 ∷ listed 4 0 0 0 0 ∷ listed 5 0 0 0 0
+      ∷ listed 28 0 0 1 2 ∷ listed 23 0 24 2 3
+      ∷ listed 7 24 0 1 0 ∷ []
   -- the borders of its rows: one byte, and none that only follows; two
   pub text-one : ofString (1 ∷ 0x7F ∷ []) ≡ 0
   pub text-follows : ofString (0x80 ∷ []) ≡ 41
@@ -303,8 +340,25 @@ pub record Cases : Type 0 where
   pub unset-no-text : answer (payload (structure 1 ++ dynamicString 16)) (0xFF ∷ []) ≡ result 26 6 0 0 0
   pub signed-no-text : answer (payload (structure 2 ++ signed 16 ++ dynamicString 16)) (1 ∷ 0xFF ∷ []) ≡ result 27 7 8 0 0
   pub long-no-text : answer (payload (structure 2 ++ unsigned 24 0 0 16 0 ++ dynamicString 16)) (0 ∷ 0 ∷ 1 ∷ 0xFF ∷ []) ≡ result 28 7 24 0 0
-  pub room-no-text : resultOf (readAll (behindFour string) (0 ∷ 0xFF ∷ 0 ∷ []) 31) ≡ result 40 7 4 0 0
-  pub room-before-text : resultOf (readAll (behindFour string) (0 ∷ 0xFF ∷ 0 ∷ []) 32) ≡ result 41 7 4 0 0
+  pub room-no-text : resultOf (readAll (behindFour string) (0 ∷ 0xFF ∷ 0 ∷ []) 39) ≡ result 40 7 4 0 0
+  pub room-before-text : resultOf (readAll (behindFour string) (0 ∷ 0xFF ∷ 0 ∷ []) 40) ≡ result 41 7 4 0 0
+  -- "the fifth is the number of the class record within its own fragment, counted from 0 at the record that opens it" (02, 7): each record
+  -- counts. A fragment's roots go on, whichever are there, and each fragment starts again
+  pub fifth-roots : fifths allRoots (1 ∷ 2 ∷ 3 ∷ 4 ∷ 5 ∷ 6 ∷ [])
+      ≡ 0 ∷ 2 ∷ 3 ∷ 0 ∷ 2 ∷ 3 ∷ 0 ∷ 0 ∷ 5 ∷ 6 ∷ 0 ∷ 8 ∷ 9 ∷ 2 ∷ 3 ∷ 5 ∷ 6 ∷ 0 ∷ []
+  pub fifth-last-roots : fifths lastRoots (1 ∷ 2 ∷ []) ≡ 0 ∷ 0 ∷ 0 ∷ 0 ∷ 0 ∷ 2 ∷ 3 ∷ 2 ∷ 3 ∷ 0 ∷ []
+  -- options and their ranges, also of those that are passed over; a variant's entry has its own record's number
+  pub fifth-first-option : fifths betweenOptions (0 ∷ 0 ∷ 7 ∷ []) ≡ 0 ∷ 0 ∷ 0 ∷ 0 ∷ 0 ∷ 2 ∷ 3 ∷ 4 ∷ 7 ∷ 11 ∷ 0 ∷ []
+  pub fifth-second-option : fifths betweenOptions (5 ∷ 6 ∷ 7 ∷ []) ≡ 0 ∷ 0 ∷ 0 ∷ 0 ∷ 0 ∷ 2 ∷ 3 ∷ 4 ∷ 10 ∷ 11 ∷ 0 ∷ []
+  -- an optional's ranges, and its class where it is absent too; by a flag
+  pub fifth-present : fifths betweenRanges (3 ∷ 6 ∷ 7 ∷ []) ≡ 0 ∷ 0 ∷ 0 ∷ 0 ∷ 0 ∷ 2 ∷ 3 ∷ 4 ∷ 7 ∷ 8 ∷ 0 ∷ []
+  pub fifth-absent : fifths betweenRanges (0 ∷ 7 ∷ []) ≡ 0 ∷ 0 ∷ 0 ∷ 0 ∷ 0 ∷ 2 ∷ 3 ∷ 4 ∷ 8 ∷ 0 ∷ []
+  pub fifth-flagged : fifths betweenFlags (0 ∷ 7 ∷ []) ≡ 0 ∷ 0 ∷ 0 ∷ 0 ∷ 0 ∷ 2 ∷ 3 ∷ 4 ∷ 7 ∷ 0 ∷ []
+  -- each element of an array has the same number, and what is behind the array goes on
+  pub fifth-elements : fifths beforeElements (5 ∷ 6 ∷ 7 ∷ []) ≡ 0 ∷ 0 ∷ 0 ∷ 0 ∷ 0 ∷ 2 ∷ 3 ∷ 4 ∷ 5 ∷ 4 ∷ 5 ∷ 6 ∷ 0 ∷ []
+  pub fifth-counted-elements : fifths betweenElements (2 ∷ 5 ∷ 6 ∷ 7 ∷ []) ≡ 0 ∷ 0 ∷ 0 ∷ 0 ∷ 0 ∷ 2 ∷ 3 ∷ 4 ∷ 5 ∷ 5 ∷ 6 ∷ 0 ∷ []
+  -- an entry 6 has 0, though it follows a field
+  pub fifth-clock : fifths stamped (16 ∷ 200 ∷ []) ≡ 0 ∷ 0 ∷ 2 ∷ 3 ∷ 0 ∷ 0 ∷ 5 ∷ 6 ∷ 0 ∷ 0 ∷ 0 ∷ []
   -- content above total; a total that is no multiple of 8; a total past the stream; a content that ends before the context does
   pub content-above : answer measured (16 ∷ 24 ∷ 0 ∷ []) ≡ result 34 5 16 0 0
   pub total-odd : answer measured (20 ∷ 16 ∷ 0 ∷ []) ≡ result 34 5 16 0 0
@@ -323,8 +377,8 @@ pub record Cases : Type 0 where
   pub behind-signed-lebs : answer (behind (signedLebIn 17)) (1 ∷ 1 ∷ 7 ∷ []) ≡ result 26 9 16 0 0
   pub behind-options : answer (behind (variant 16 1 ++ option 1 ++ range 0 9 ++ plain 17 0)) (1 ∷ 1 ∷ 7 ∷ []) ≡ result 26 10 16 0 0
   -- before the first element its slots are unset
-  pub before-static : resultOf (readStream (asked (early (staticOf 1 0))) (1 ∷ 7 ∷ 0 ∷ []) 400) ≡ result 26 10 8 0 0
-  pub before-dynamic : resultOf (readStream (asked (early (dynamicOf 16 0))) (1 ∷ 7 ∷ 0 ∷ []) 400) ≡ result 26 10 8 0 0
+  pub before-static : resultOf (readStream (asked (early (staticOf 1 0))) (1 ∷ 7 ∷ 0 ∷ []) 500) ≡ result 26 10 8 0 0
+  pub before-dynamic : resultOf (readStream (asked (early (dynamicOf 16 0))) (1 ∷ 7 ∷ 0 ∷ []) 500) ≡ result 26 10 8 0 0
   -- an option is no element: its slot is kept, and has the home of what is beside the variant; so has an optional's
   pub option-kept : answer (payload (structure 4 ++ plain 16 0 ++ plain 17 0 ++ variant 16 1 ++ option 1 ++ range 0 9 ++ plain 17 0 ++ dynamicBlob 17)) (0 ∷ 0 ∷ 1 ∷ 7 ∷ [])
       ≡ result 0 12 32 0 0

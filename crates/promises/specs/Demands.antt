@@ -22,10 +22,11 @@ use Rattle.promises.specs.Clocks.{Ticking, NeedsMore}
 use Rattle.promises.specs.Edition.{leave}
 use Rattle.promises.specs.Missing.{Lost, missed, Good}
 
--- the first n entries of a list, four words each
+-- the first n entries of a list, five words each
 unfoldable pub entriesIn : ℕ → List ℕ → List Entry
 entriesIn zero ws = []
-entriesIn (suc n) ws = entry (getD ws 0 0) (bitPlace (getD ws 1 0)) (getD ws 2 0) (getD ws 3 0) ∷ entriesIn n (drop wordsPerEntry ws)
+entriesIn (suc n) ws =
+    entry (getD ws 0 0) (bitPlace (getD ws 1 0)) (getD ws 2 0) (getD ws 3 0) (getD ws 4 0) ∷ entriesIn n (drop wordsPerEntry ws)
 
 pub record Call : Type 0 where
   pub result : Result
@@ -73,7 +74,7 @@ pub record Demand1 (x b : List ℕ) (c : Call) : Type 0 where
   -- "Ids are 0 elsewhere.": 20 and 33 have the first one, 37 has both
   pub first : (c .result .number ≡ 20 → ⊥) → (c .result .number ≡ 33 → ⊥) → (c .result .number ≡ 37 → ⊥) → c .result .first ≡ 0
   pub second : (c .result .number ≡ 37 → ⊥) → c .result .second ≡ 0
-  -- "Entries stay": four words each, as the rules list them up to the refusal
+  -- "Entries stay": five words each, as the rules list them up to the refusal
   pub room : wordsPerEntry * c .result .entries ≤ length (c .before)
   pub stay : listedBy c ≡ (readAll x b (length (c .before))) .entries
   -- "words behind them are untouched"

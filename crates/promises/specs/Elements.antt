@@ -23,8 +23,8 @@ Behind P m = (s : State) (es : List Entry) (s′ : State) → m s ≡ go es s′
 pub record Elements : Type 0 where
   -- at an element's start and at its end
   pub start : (c : Class) → Behind (NoneSet c) (forget c)
-  pub end : (e : Env) (c : Class) → Behind (NoneSet c) (forget c ⨾ read e c ⨾ forget c)
+  pub end : (e : Env) (m : ℕ) (c : Class) → Behind (NoneSet c) (forget c ⨾ read e m c ⨾ forget c)
   -- behind an array that has an element
-  pub static : (e : Env) (n a : ℕ) (c : Class) → 0 < n → Behind (NoneSet c) (read e (staticArray n a c))
-  pub dynamic : (e : Env) (i a : ℕ) (c : Class) (n : ℕ) → 0 < n → (s : State) (es : List Entry) (s′ : State)
-      → slotAt (s .slots) i ≡ Unsigned n → read e (dynamicArray i a c) s ≡ go es s′ → NoneSet c s′
+  pub static : (e : Env) (m n a : ℕ) (c : Class) → 0 < n → Behind (NoneSet c) (read e m (staticArray n a c))
+  pub dynamic : (e : Env) (m i a : ℕ) (c : Class) (n : ℕ) → 0 < n → (s : State) (es : List Entry) (s′ : State)
+      → slotAt (s .slots) i ≡ Unsigned n → read e m (dynamicArray i a c) s ≡ go es s′ → NoneSet c s′

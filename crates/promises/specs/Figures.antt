@@ -1,4 +1,4 @@
--- The starred figures of document 01 ("Figures to check against"), as one statement.
+-- The starred figures of document 01 ("Figures to check against"), as one statement. Its words are those of five-word entries (02, 7).
 use mathlib.Core.Path.{_≡_}
 use Prim.Native.Nat.{ℕ, _^_, _-_}
 use mathlib.Core.List.{List, [], _∷_, _++_}
@@ -32,12 +32,14 @@ table40 =
 abbrev pub stream1 : List ℕ
 stream1 = 0x2A ∷ []
 
--- an entry, as the paper writes one
-abbrev pub listed : ℕ → ℕ → ℕ → ℕ → Entry
-listed k p n v = entry k (bitPlace p) n v
+-- an entry, as the paper writes one, and the number of its class's record
+abbrev pub listed : ℕ → ℕ → ℕ → ℕ → ℕ → Entry
+listed k p n v m = entry k (bitPlace p) n v m
 
 abbrev pub seven : List Entry
-seven = listed 1 0 0 0 ∷ listed 2 0 0 0 ∷ listed 3 0 8 8 ∷ listed 4 0 0 0 ∷ listed 5 0 0 0 ∷ listed 28 0 0 1 ∷ listed 18 0 8 42 ∷ []
+seven =
+    listed 1 0 0 0 0 ∷ listed 2 0 0 0 0 ∷ listed 3 0 8 8 0 ∷ listed 4 0 0 0 0 ∷ listed 5 0 0 0 0 ∷ listed 28 0 0 1 2 ∷ listed 18 0 8 42 3
+    ∷ []
 
 abbrev pub minus : ℕ → ℤ
 minus n = negℤ (pos n)
@@ -46,11 +48,11 @@ abbrev pub bytes3 : List ℕ
 bytes3 = 0xAB ∷ 0xCD ∷ 0xEF ∷ []
 
 pub record Figures : Type 0 where
-  -- "32 words suffice, 31 give 40 after seven entries"
-  pub entries-32 : (readAll table40 stream1 32) .entries ≡ seven ++ (listed 7 8 0 1 ∷ [])
-  pub result-32 : resultOf (readAll table40 stream1 32) ≡ record { number = 0; entries = 8; place = 8; first = 0; second = 0 }
-  pub entries-31 : (readAll table40 stream1 31) .entries ≡ seven
-  pub result-31 : resultOf (readAll table40 stream1 31) ≡ record { number = 40; entries = 7; place = 8; first = 0; second = 0 }
+  -- "32 words suffice, 31 give 40 after seven entries": "its 31 and 32 words ... speak of five-word entries from then on" (02, 7)
+  pub entries-40 : (readAll table40 stream1 40) .entries ≡ seven ++ (listed 7 8 0 1 0 ∷ [])
+  pub result-40 : resultOf (readAll table40 stream1 40) ≡ record { number = 0; entries = 8; place = 8; first = 0; second = 0 }
+  pub entries-39 : (readAll table40 stream1 39) .entries ≡ seven
+  pub result-39 : resultOf (readAll table40 stream1 39) ≡ record { number = 40; entries = 7; place = 8; first = 0; second = 0 }
   -- "12 bits twice from `AB CD EF`: little 3499, 3836; big 2748, 3567"
   pub little-1 : bits Little bytes3 0 12 ≡ 3499
   pub little-2 : bits Little bytes3 12 12 ≡ 3836

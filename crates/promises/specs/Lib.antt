@@ -18,4 +18,5 @@ pub mod Numbers
 pub mod Parts
 pub mod Places
 pub mod Sizes
+pub mod Records
 pub mod Promises

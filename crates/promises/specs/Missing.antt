@@ -104,15 +104,15 @@ noText = 97 ∷ 0 ∷ 0xFF ∷ 0 ∷ []
 -- the figure's table "with the event class left out: 37, four entries, ids 0 and 0"; and with its stream class left out
 pub record Demand3Figures : Type 0 where
   pub event-bytes : leave (λ i. true) (λ i j. false) table40 ≡ take 12 table40
-  pub event-missed : missed (λ i. true) (λ i j. false) ((readAll table40 stream1 32) .entries)
+  pub event-missed : missed (λ i. true) (λ i j. false) ((readAll table40 stream1 40) .entries)
       ≡ some (record { index = 4; refusal = stopAt (EventClassUnknown 0 0) (bitPlace 0) })
-  pub event-result : resultOf (readAll (take 12 table40) stream1 32) ≡ record { number = 37; entries = 4; place = 0; first = 0; second = 0 }
+  pub event-result : resultOf (readAll (take 12 table40) stream1 40) ≡ record { number = 37; entries = 4; place = 0; first = 0; second = 0 }
   pub stream-bytes : leave (λ i. false) (λ i j. true) table40 ≡ take 2 table40
-  pub stream-missed : missed (λ i. false) (λ i j. true) ((readAll table40 stream1 32) .entries)
+  pub stream-missed : missed (λ i. false) (λ i j. true) ((readAll table40 stream1 40) .entries)
       ≡ some (record { index = 1; refusal = stopAt (StreamClassUnknown 0) (bitPlace 0) })
-  pub stream-result : resultOf (readAll (take 2 table40) stream1 32) ≡ record { number = 33; entries = 1; place = 0; first = 0; second = 0 }
+  pub stream-result : resultOf (readAll (take 2 table40) stream1 40) ≡ record { number = 33; entries = 1; place = 0; first = 0; second = 0 }
   -- 41 does not tell two editions apart: the same number, place and list
   pub text-bytes : leave (λ i. true) (λ i j. eqb j 0) twoTexts ≡ oneText
-  pub text-missed : missed (λ i. true) (λ i j. eqb j 0) ((readAll twoTexts noText 400) .entries) ≡ none
-  pub text-result : resultOf (readAll twoTexts noText 400) ≡ record { number = 41; entries = 10; place = 16; first = 0; second = 0 }
-  pub text-same : readAll oneText noText 400 ≡ readAll twoTexts noText 400
+  pub text-missed : missed (λ i. true) (λ i j. eqb j 0) ((readAll twoTexts noText 500) .entries) ≡ none
+  pub text-result : resultOf (readAll twoTexts noText 500) ≡ record { number = 41; entries = 10; place = 16; first = 0; second = 0 }
+  pub text-same : readAll oneText noText 500 ≡ readAll twoTexts noText 500

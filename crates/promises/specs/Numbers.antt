@@ -74,21 +74,21 @@ pub record Numbers : Type 0 where
   pub no-text : (n : ByteLength) → endedNumber false (After n) ≡ 41
   pub clock-large : tickedNumber TooLarge ≡ 36
   -- a LEB128 number, kinds 21 and 22
-  pub leb : (e : Env) (i : ℕ) (r : Role) (s : State) → AtBytes e s
+  pub leb : (e : Env) (m i : ℕ) (r : Role) (s : State) → AtBytes e s
       → let x = lebUnsigned (ahead e (aligned e 8 s)) in
-      ByNumber (lebNumber x) (lebPlace e s x) (read e (leb128 i r) s)
-  pub signed-leb : (e : Env) (i : ℕ) (s : State) → AtBytes e s
+      ByNumber (lebNumber x) (lebPlace e s x) (read e m (leb128 i r) s)
+  pub signed-leb : (e : Env) (m i : ℕ) (s : State) → AtBytes e s
       → let x = lebSigned (ahead e (aligned e 8 s)) in
-      ByNumber (lebNumber x) (lebPlace e s x) (read e (signedLeb128 i) s)
+      ByNumber (lebNumber x) (lebPlace e s x) (read e m (signedLeb128 i) s)
   -- a string that a zero byte ends, kind 23: 25 where none does, and else 41 where the bytes before it are no text
-  pub zero-byte : (e : Env) (s : State) → AtBytes e s
+  pub zero-byte : (e : Env) (m : ℕ) (s : State) → AtBytes e s
       → let x = ahead e (aligned e 8 s) in
-      ByNumber (endedNumber (isText x) (zeroAt x)) (s .place) (read e string s)
+      ByNumber (endedNumber (isText x) (zeroAt x)) (s .place) (read e m string s)
   -- a string of n bytes, kinds 24 and 26: 41 where the bytes before its first zero byte, or all, are no text
-  pub static-text : (e : Env) (n : ℕ) (s : State) → AtBytes e s → BytesFit e n s
-      → ByNumber (textNumber (isText (bytesAt e (aligned e 8 s) n))) (s .place) (read e (staticString n) s)
-  pub dynamic-text : (e : Env) (i n : ℕ) (s : State) → AtBytes e s → BytesFit e n s → slotAt (s .slots) i ≡ Unsigned n → n ≤ lengthLimit
-      → ByNumber (textNumber (isText (bytesAt e (aligned e 8 s) n))) (s .place) (read e (dynamicString i) s)
+  pub static-text : (e : Env) (m n : ℕ) (s : State) → AtBytes e s → BytesFit e n s
+      → ByNumber (textNumber (isText (bytesAt e (aligned e 8 s) n))) (s .place) (read e m (staticString n) s)
+  pub dynamic-text : (e : Env) (m i n : ℕ) (s : State) → AtBytes e s → BytesFit e n s → slotAt (s .slots) i ≡ Unsigned n → n ≤ lengthLimit
+      → ByNumber (textNumber (isText (bytesAt e (aligned e 8 s) n))) (s .place) (read e m (dynamicString i) s)
   -- a stamp v of l bits, where there is room for its entry
   pub stamp : (l v : ℕ) (s : State) → wordsPerEntry ≤ s .room
       → ByNumber (tickedNumber (tickedOf (clockAfter (s .clock) l v))) (s .place) (role clock l v s)

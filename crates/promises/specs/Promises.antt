@@ -16,6 +16,7 @@ use Rattle.promises.specs.Elements.{Elements}
 use Rattle.promises.specs.SlotHomes.{SlotHomes}
 use Rattle.promises.specs.Places.{Places}
 use Rattle.promises.specs.Sizes.{StreamSizes}
+use Rattle.promises.specs.Records.{Records}
 use Rattle.promises.specs.Parts.{BitsCut, LebSettled, CheckTied, TableStands}
 use Rattle.promises.specs.Apart.{Apart, ApartFigures, ApartOfCalls}
 
@@ -42,6 +43,7 @@ pub record Promises : Type 0 where
   pub slot-homes : SlotHomes
   pub places : Places
   pub stream-sizes : StreamSizes
+  pub records : Records
   -- packets stand on their own: of the rules alone, and of every two calls that meet the contract of `read`
   pub apart : Apart
   pub apart-figures : ApartFigures

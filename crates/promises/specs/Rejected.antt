@@ -56,13 +56,14 @@ unfoldable pub before : ℕ → ℕ → ℕ
 before zero n = 0
 before (suc k) n = n + 1
 
--- the entries that a list shows which was lent as zeros: four words each, up to the first kind 0
+-- the entries that a list shows which was lent as zeros: five words each, up to the first kind 0
 unfoldable pub shown : List ℕ → ℕ
 shown [] = 0
 shown (k ∷ []) = 0
 shown (k ∷ p ∷ []) = 0
 shown (k ∷ p ∷ n ∷ []) = 0
-shown (k ∷ p ∷ n ∷ v ∷ ws) = before k (shown ws)
+shown (k ∷ p ∷ n ∷ v ∷ []) = 0
+shown (k ∷ p ∷ n ∷ v ∷ m ∷ ws) = before k (shown ws)
 
 -- it says another count of entries than its list shows
 pub record MadeUpEntries (f : Reader) (x b ws : List ℕ) : Type 0 where

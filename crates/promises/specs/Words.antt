@@ -22,7 +22,7 @@ AllWords (n ∷ l) = Word n × AllWords l
 
 -- the words of an entry, and a verdict's place and ids
 abbrev pub WordEntry : Entry → Type 0
-WordEntry x = Word (x .kind) × Word (x .place .0) × Word (x .bits) × Word (x .value)
+WordEntry x = Word (x .kind) × Word (x .place .0) × Word (x .bits) × Word (x .value) × Word (x .number)
 
 abbrev pub WordIds : Refusal → Type 0
 WordIds StreamSize = Unit {0}

@@ -17,7 +17,7 @@ use Rattle.rules.specs.declared.Result.{Result}
 use Rattle.rules.specs.Slots.{Slots}
 use Rattle.rules.specs.declared.Stated.the-variants.{Missing}
 use Rattle.rules.specs.declared.Refusal.the-variants.{StreamSize}
-use Rattle.rules.specs.Limits.{streamLimit}
+use Rattle.rules.specs.Limits.{streamLimit, wordsPerEntry}
 use Rattle.rules.specs.Place.{byteLength, bitPlace}
 use Rattle.rules.specs.Verdict.{stopAt, numberOf, placeOf, firstOf, secondOf}
 use Rattle.rules.specs.Entry.{words}
@@ -25,7 +25,7 @@ use Rattle.rules.specs.Record.{u8}
 use Rattle.rules.specs.Step.{State, stop, go}
 use Rattle.rules.specs.Table.{Table, Asked}
 use Rattle.rules.specs.Parse.{Parsed, bad, good, parse, byteOf, checkedOf, checked}
-use Rattle.rules.specs.Packet.{readPackets}
+use Rattle.rules.specs.Packet.{firstRoot, readPackets}
 use Rattle.rules.specs.Read.{resultOf, listAfter, ended, begin, readStream, readParsed, readAll}
 use Rattle.listing.specs.declared.Progress.{Progress}
 use Rattle.listing.specs.declared.Went.{Went}
@@ -37,29 +37,37 @@ use Rattle.class_layout.specs.Fragments.{askedAt, findTraceAt, fragmentsOf, hea
 use Rattle.class_layout.specs.Sizes.{foundOf, SizedFragment, uuidPlace}
 use Rattle.class_layout.specs.Notes.{Notes}
 use Rattle.class_layout.proofs.Lookups.{found-some, found-none, first-holds, sixteen, uuid-bytes}
+use Rattle.class_layout.proofs.RootNumbers.{first-number}
 use Rattle.class_layout.proofs.Asked.{checked-accepts, asked-at}
 use Rattle.class_lookup.specs.Index.{places, indexed, Hints}
 use Rattle.class_lookup.proofs.Index.{accepted-hints, empty-hints}
 use Rattle.laws.specs.Kept.{KeepsSlots}
 use Rattle.laws.proofs.Kept.{accepted-keeps}
 use Rattle.outcome.specs.declared.Ran.{Ran}
-use Rattle.event_turns.specs.Roots.{classOf, RootStands}
+use Rattle.event_turns.specs.Roots.{classOf, Numbered, RootStands}
 use Rattle.event_turns.specs.Ready.{Ready}
 use Rattle.outcome.specs.Ran.{RanDid}
 use Rattle.packet_read.specs.Pieces.{firstState, Lent}
 use Rattle.reader_result.specs.Answer.{refusedWith, answerOf}
 use Rattle.reader.specs.Answers.{Answers}
-use Rattle.event_turns.proofs.Looked.{root-class, root-stands}
+use Rattle.event_turns.proofs.Looked.{root-class, root-stands, root-numbered}
 
 -- What the trace class lends
 
 module _ (t : List ℕ) (x : Notes) (b : List ℕ) (g : Ready t x) (n : length b ≤ streamLimit) (y : TablePlace)
     (e : y ≡ foundOf (findTraceAt t (fragmentsOf t))) where
   pub lent-none : y ≡ Nothing → Lent t x [] Nothing b
-  unfolding askedAt classOf RootStands headerAt uuidAt
+  unfolding askedAt classOf Numbered RootStands headerAt uuidAt
   lent-none h =
       let q : findTraceAt t (fragmentsOf t) ≡ none = found-none _ (sym h ∙ e) in
-      record { ready = g; stands = tt; header = sym (ap (headerAt t) q); uuid = sym (ap (uuidAt t) q); small = n }
+      record {
+        ready = g;
+        stands = tt;
+        header = sym (ap (headerAt t) q);
+        numbered = tt;
+        uuid = sym (ap (uuidAt t) q);
+        small = n;
+      }
 
   module _ (o : ℕ) (h : y ≡ At o) where
     trace-at : findTraceAt t (fragmentsOf t) ≡ some o
@@ -80,6 +88,9 @@ module _ (t : List ℕ) (x : Notes) (b : List ℕ) (g : Ready t x) (n : length b
       unfolding askedAt headerAt
       header-is = root-class t o 0 r j ∙ sym (ap (headerAt t) trace-at)
 
+      header-numbered : Numbered t r firstRoot
+      header-numbered = root-numbered t o 0 firstRoot r j (λ p h. first-number t o p (trace-sized .stands) h)
+
       uuid-is : (p : Option ℕ) → uuidPlace t o ≡ p → sixteen t p ≡ (askedAt t) .uuid
       unfolding askedAt
       uuid-is p q = ap (sixteen t) (sym q) ∙ sym (uuid-bytes t o) ∙ sym (ap (uuidAt t) trace-at)
@@ -90,6 +101,7 @@ module _ (t : List ℕ) (x : Notes) (b : List ℕ) (g : Ready t x) (n : length b
         ready = g;
         stands = root-stands t o 0 r (trace-sized .stands) j;
         header = header-is;
+        numbered = header-numbered;
         uuid = uuid-is none (found-none _ (sym k ∙ v));
         small = n;
       }
@@ -111,15 +123,16 @@ module _ (t : List ℕ) (x : Notes) (b : List ℕ) (g : Ready t x) (n : length b
               ready = g;
               stands = root-stands t o 0 r (trace-sized .stands) j;
               header = header-is;
+              numbered = header-numbered;
               uuid = rw (m) (uuid-is (some p) (found-some _ p (sym k ∙ v)));
               small = n;
             }
 
 -- The result
 
-module _ (es : List Entry) (used : ℕ) (n : used ≡ 4 * length es) (ws ws′ : List ℕ) (k : ws′ ≡ words es ++ drop used ws) (y : Result)
-    (st : Progress) where
-  entries : used / 4 ≡ length es
+module _ (es : List Entry) (used : ℕ) (n : used ≡ wordsPerEntry * length es) (ws ws′ : List ℕ) (k : ws′ ≡ words es ++ drop used ws)
+    (y : Result) (st : Progress) where
+  entries : used / wordsPerEntry ≡ length es
   entries = omega arith
 
   on-answers : (s : State) → s .place ≡ st .place → y ≡ answerOf On used st → Answers (ended (go es s)) y ws ws′
@@ -130,9 +143,9 @@ module _ (es : List Entry) (used : ℕ) (n : used ≡ 4 * length es) (ws ws′ :
   unfolding answerOf refusedWith resultOf ended numberOf placeOf firstOf secondOf listAfter
   stopped-answers v e = record { result = e ∙ rw (entries) refl; list = k ∙ ap (λ m. words es ++ drop m ws) n }
 
-out-answers : (es : List Entry) (went : Went) (used : ℕ) → used ≡ 4 * length es → (ws ws′ : List ℕ) → ws′ ≡ words es ++ drop used ws
-    → (y : Result) (st : Progress) (l : Slots) (room : ℕ)
-    → y ≡ answerOf went used st → Answers (ended (outOf es went st l room)) y ws ws′
+out-answers : (es : List Entry) (went : Went) (used : ℕ) → used ≡ wordsPerEntry * length es → (ws ws′ : List ℕ)
+    → ws′ ≡ words es ++ drop used ws → (y : Result) (st : Progress) (l : Slots) (room : ℕ) → y ≡ answerOf went used st
+    → Answers (ended (outOf es went st l room)) y ws ws′
 unfolding outOf
 out-answers es On used n ws ws′ k y st l room e = on-answers es used n ws ws′ k y st (full st l room) refl e
 out-answers es (Stopped v) used n ws ws′ k y st l room e = stopped-answers es used n ws ws′ k y st v e

@@ -80,7 +80,7 @@ fn read_stream(table: &[u8], stream: &[u8], list: &mut [u64]) -> Result
 fn read_prepared(
     table: &[u8],
     sizes: &[u16],
-    aligns: &[u16],
+    aligns: &[u32],
     index: &[u32],
     stream: &[u8],
     list: &mut [u64],
@@ -137,7 +137,7 @@ fn read_prepared(
 fn read_by(
     table: &[u8],
     sizes: &[u16],
-    aligns: &[u16],
+    aligns: &[u32],
     index: &[u32],
     uuid: &[u8],
     header: TablePlace,
@@ -161,7 +161,7 @@ fn no_sizes() -> [u16; 65536]
     [0; 65536]
 }
 
-fn no_aligns() -> [u16; 65536]
+fn no_aligns() -> [u32; 65536]
     ensures { λ r. ⌜ 65536 ≡ length r ⌝ }
 {
     [0; 65536]

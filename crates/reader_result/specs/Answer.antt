@@ -3,6 +3,7 @@ use Prim.Native.Nat.{ℕ, _/_}
 use Rattle.rules.specs.declared.BitPlace.{BitPlace}
 use Rattle.rules.specs.declared.Stop.{Stop}
 use Rattle.rules.specs.declared.Result.{Result}
+use Rattle.rules.specs.Limits.{wordsPerEntry}
 use Rattle.rules.specs.Verdict.{refusalNumber, refusalFirst, refusalSecond}
 use Rattle.listing.specs.declared.Progress.{Progress}
 use Rattle.listing.specs.declared.Went.{Went}
@@ -20,7 +21,7 @@ refusedWith v n = record {
   second = refusalSecond (v .why);
 }
 
--- four words an entry
+-- so many words an entry
 unfoldable pub answerOf : Went → ℕ → Progress → Result
-answerOf On used st = record { number = 0; entries = used / 4; place = st .place .0; first = 0; second = 0 }
-answerOf (Stopped v) used st = refusedWith v (used / 4)
+answerOf On used st = record { number = 0; entries = used / wordsPerEntry; place = st .place .0; first = 0; second = 0 }
+answerOf (Stopped v) used st = refusedWith v (used / wordsPerEntry)

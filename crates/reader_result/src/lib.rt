@@ -1,5 +1,6 @@
 // What a reading answers: "Result: number (0 accepted), entries, place, two ids."
 use listing::Went;
+use numbers::limits::WORDS_PER_ENTRY;
 use outcome::Ran;
 use rules::BitPlace;
 use rules::Refusal;
@@ -17,12 +18,12 @@ pub fn answer(ran: Ran) -> Result
     match went {
         Went::On => Result {
             number: 0,
-            entries: used / 4,
+            entries: used / WORDS_PER_ENTRY,
             place: ran.state.place.0,
             first: 0,
             second: 0,
         },
-        Went::Stopped(stop) => refused(stop, used / 4),
+        Went::Stopped(stop) => refused(stop, used / WORDS_PER_ENTRY),
     }
 }
 

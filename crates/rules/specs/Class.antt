@@ -2,6 +2,7 @@
 use Prim.Native.Nat.{ℕ, _+_, _^_, max, _%_}
 use mathlib.Core.List.{List, [], _∷_, _++_}
 use mathlib.Core.Bool.{Bool, true, false, _&&_, _||_}
+use lib.ListN.{length}
 use lib.Dec.{leb, eqb}
 use Rattle.rules.specs.Limits.{noSlot}
 use Rattle.rules.specs.declared.Order.{Order}
@@ -86,6 +87,32 @@ unfoldable mutual
   pub alignsOf : Classes → ℕ
   alignsOf noMember = 1
   alignsOf (member c cs) = max (alignOf c) (alignsOf cs)
+
+-- the records of a class: its own, and those of all that it holds, its ranges and options among them
+unfoldable mutual
+  pub records : Class → ℕ
+  records (fixed k n o a i r) = 1
+  records (leb128 i r) = 1
+  records (signedLeb128 i) = 1
+  records string = 1
+  records (staticString n) = 1
+  records (staticBlob n r) = 1
+  records (dynamicString i) = 1
+  records (dynamicBlob i) = 1
+  records (structure a cs) = 1 + memberRecords cs
+  records (staticArray n a c) = 1 + records c
+  records (dynamicArray i a c) = 1 + records c
+  records (flagged i c) = 1 + records c
+  records (optional i g rs c) = 1 + length rs + records c
+  records (variant i g os) = 1 + optionRecords os
+
+  pub memberRecords : Classes → ℕ
+  memberRecords noMember = 0
+  memberRecords (member c cs) = records c + memberRecords cs
+
+  pub optionRecords : Options → ℕ
+  optionRecords noOption = 0
+  optionRecords (option rs c os) = 1 + length rs + records c + optionRecords os
 
 -- the slot that a class sets, or none
 unfoldable pub setting : ℕ → List ℕ

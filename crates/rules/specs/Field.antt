@@ -4,7 +4,7 @@ use Prim.Native.Nat.{ℕ, zero, suc, _+_, _-_, _*_, _/_, _%_, _^_}
 use mathlib.Core.List.{List, [], _∷_}
 use mathlib.Core.Bool.{Bool, true, false, not, _&&_}
 use mathlib.Core.Option.{Option, none, some}
-use lib.ListN.{take, drop}
+use lib.ListN.{length, take, drop}
 use lib.Dec.{ltb, eqb}
 use Rattle.rules.specs.declared.BitPlace.{BitPlace}
 use Rattle.rules.specs.declared.Order.{Order}
@@ -35,7 +35,7 @@ use Rattle.rules.specs.Class.{anyHolds}
 use Rattle.rules.specs.Class.{Class, fixed, leb128, signedLeb128, string, staticString, staticBlob, dynamicString, dynamicBlob}
 use Rattle.rules.specs.Class.{structure, staticArray, dynamicArray, flagged, optional, variant, Classes, noMember, member, Options}
 use Rattle.rules.specs.Class.{noOption, option}
-use Rattle.rules.specs.Class.{count, alignOf, sets}
+use Rattle.rules.specs.Class.{count, alignOf, sets, records}
 use Rattle.rules.specs.Entry.{entry, clockAdvanced}
 use Rattle.rules.specs.Step.{State, Step, _⨾_, pass, refuse, refuseAt, check, checkAt, due, listed, change}
 use Rattle.rules.specs.Step.{withSlots, withOrder, withClock, withSaid}
@@ -63,9 +63,10 @@ ahead e p = take ((e .bound .0 - p .0) / 8) (drop (p .0 / 8) (e .bytes))
 unfoldable pub bytesAt : Env → BitPlace → ℕ → List ℕ
 bytesAt e p n = take n (drop (p .0 / 8) (e .bytes))
 
--- "Fields: class kind, place once aligned, bits, value" (The list); the place goes behind the field
-unfoldable pub field : Env → ℕ → ℕ → ℕ → ℕ → Step
-field e k a n v s = listed (entry k (aligned e a s) n v) (further (aligned e a s) n) s
+-- "Fields: class kind, place once aligned, bits, value" (The list); "the fifth is the number of the class record within its own fragment,
+-- counted from 0 at the record that opens it" (02, 7): m throughout. The place goes behind the field
+unfoldable pub field : Env → ℕ → ℕ → ℕ → ℕ → ℕ → Step
+field e m k a n v s = listed (entry k (aligned e a s) n v m) (further (aligned e a s) n) s
 
 unfoldable pub store : ℕ → Content → Step
 store i x = change (λ s. withSlots (setSlot (s .slots) i x) s)
@@ -75,7 +76,7 @@ store i x = change (λ s. withSlots (setSlot (s .slots) i x) s)
 -- "entry 6 shows it": "place after the field, L, clock"; "clock above 64 bits" (36)
 unfoldable pub newClock : ℕ → Option ℕ → Step
 newClock l none = refuse ClockTooLarge
-newClock l (some c) = (λ s. listed (entry clockAdvanced (s .place) l c) (s .place) s) ⨾ change (withClock c)
+newClock l (some c) = (λ s. listed (entry clockAdvanced (s .place) l c 0) (s .place) s) ⨾ change (withClock c)
 
 unfoldable pub say : (Said → Said) → Step
 say f = change (λ s. withSaid (f (s .said)) s)
@@ -179,38 +180,38 @@ otherOrder Big (Was Big) = false
 unfoldable pub turned : Env → ℕ → Order → State → Bool
 turned e a o s = not (eqb (((aligned e a s) .0 - e .start .0) % 8) 0) && otherOrder o (s .order)
 
-unfoldable pub readFixed : Env → Sort → ℕ → Order → ℕ → ℕ → Role → Step
-readFixed e k n o a i r =
+unfoldable pub readFixed : Env → ℕ → Sort → ℕ → Order → ℕ → ℕ → Role → Step
+readFixed e m k n o a i r =
     due ⨾ fit e a 0 ⨾ check (turned e a o) OrderChanged ⨾ fit e a n
     ⨾ λ s.
     let v = bits o (e .bytes) ((aligned e a s) .0) n in
-    (field e (kindOf k) a n (valueOf k n v) ⨾ change (withOrder (Was o)) ⨾ store i (slotOf k n v) ⨾ role r n (valueOf k n v)) s
+    (field e m (kindOf k) a n (valueOf k n v) ⨾ change (withOrder (Was o)) ⨾ store i (slotOf k n v) ⨾ role r n (valueOf k n v)) s
 
 -- Kinds 21 to 27 stand at whole bytes (000 6.3.8 to 6.3.15)
 
 -- "For 24 it becomes the first bit of the byte at which the number became too long or too large" (02, 8): the tenth, and no other
 -- "LEB128 bits count 8 a byte"; "L the field's bits (7 times its bytes for LEB128)"
-unfoldable pub readLeb : Env → ℕ → (ℕ → Content) → ℕ → Role → Leb → Step
-readLeb e k c i r (Value v n) = field e k 8 (8 * n .0) v ⨾ store i (c v) ⨾ role r (lebWidth n) v
-readLeb e k c i r Past = refuseAt PastBound (e .bound)
-readLeb e k c i r Large = λ s. refuseAt LebTooLarge (further (aligned e 8 s) (8 * (lebLimit - 1))) s
+unfoldable pub readLeb : Env → ℕ → ℕ → (ℕ → Content) → ℕ → Role → Leb → Step
+readLeb e m k c i r (Value v n) = field e m k 8 (8 * n .0) v ⨾ store i (c v) ⨾ role r (lebWidth n) v
+readLeb e m k c i r Past = refuseAt PastBound (e .bound)
+readLeb e m k c i r Large = λ s. refuseAt LebTooLarge (further (aligned e 8 s) (8 * (lebLimit - 1))) s
 
 -- "otherwise refuse with a new number 41 at the field. Inside a field it comes after 22 and 25." (02, 1)
 unfoldable pub asText : List ℕ → Step
 asText b = check (λ s. not (isText b)) NotText
 
 -- "string 23 counts without its zero (bits include it)"
-unfoldable pub readZero : Env → Ended → Step
-readZero e (After n) = (λ s. asText (bytesAt e (aligned e 8 s) (n .0)) s) ⨾ field e 23 8 (8 * (n .0 + 1)) (n .0)
-readZero e Never = refuse NoZeroByte
+unfoldable pub readZero : Env → ℕ → Ended → Step
+readZero e m (After n) = (λ s. asText (bytesAt e (aligned e 8 s) (n .0)) s) ⨾ field e m 23 8 (8 * (n .0 + 1)) (n .0)
+readZero e m Never = refuse NoZeroByte
 
 -- n bytes as text: "Strings 24 and 26 have bits for all their bytes"; and as a BLOB: "BLOBs their byte count"
-unfoldable pub readText : Env → ℕ → ℕ → Step
-readText e k n =
-    fit e 8 0 ⨾ fit e 8 (8 * n) ⨾ λ s. let b = bytesAt e (aligned e 8 s) n in (asText b ⨾ field e k 8 (8 * n) (textLength b)) s
+unfoldable pub readText : Env → ℕ → ℕ → ℕ → Step
+readText e m k n =
+    fit e 8 0 ⨾ fit e 8 (8 * n) ⨾ λ s. let b = bytesAt e (aligned e 8 s) n in (asText b ⨾ field e m k 8 (8 * n) (textLength b)) s
 
-unfoldable pub readBlob : Env → ℕ → ℕ → Role → Step
-readBlob e k n r = fit e 8 0 ⨾ fit e 8 (8 * n) ⨾ λ s. (field e k 8 (8 * n) n ⨾ blobRole e r (bytesAt e (aligned e 8 s) n)) s
+unfoldable pub readBlob : Env → ℕ → ℕ → ℕ → Role → Step
+readBlob e m k n r = fit e 8 0 ⨾ fit e 8 (8 * n) ⨾ λ s. (field e m k 8 (8 * n) n ⨾ blobRole e r (bytesAt e (aligned e 8 s) n)) s
 
 -- Kinds 28 to 32 (000 6.3.16 to 6.3.20). "structures and arrays have bits 0 and their count, optionals bits 0 and 1 or 0, variants bits 0
 -- and the option's number from 0" (The list)
@@ -224,36 +225,42 @@ unfoldable pub forget : Class → Step
 forget c = change (λ s. withSlots (unset (s .slots) (sets c)) s)
 
 -- an optional that is there, and one that is not
-unfoldable pub present : Env → Bool → Step → Step
-present e true m = field e 31 1 0 1 ⨾ m
-present e false m = field e 31 1 0 0
+unfoldable pub present : Env → ℕ → Bool → Step → Step
+present e m true f = field e m 31 1 0 1 ⨾ f
+present e m false f = field e m 31 1 0 0
 
 unfoldable mutual
-  pub read : Env → Class → Step
-  read e (fixed k n o a i r) = readFixed e k n o (2 ^ a) i r
-  read e (leb128 i r) = due ⨾ fit e 8 0 ⨾ λ s. readLeb e 21 Unsigned i r (lebUnsigned (ahead e (aligned e 8 s))) s
-  read e (signedLeb128 i) = due ⨾ fit e 8 0 ⨾ λ s. readLeb e 22 Signed i noRole (lebSigned (ahead e (aligned e 8 s))) s
-  read e string = due ⨾ fit e 8 0 ⨾ λ s. readZero e (zeroAt (ahead e (aligned e 8 s))) s
-  read e (staticString n) = due ⨾ readText e 24 n
-  read e (staticBlob n r) = due ⨾ readBlob e 25 n r
-  read e (dynamicString i) = due ⨾ fromSlot i (λ x. asLength x (λ n. readText e 26 n))
-  read e (dynamicBlob i) = due ⨾ fromSlot i (λ x. asLength x (λ n. readBlob e 27 n noRole))
-  read e (structure a cs) = due ⨾ fit e (alignOf (structure a cs)) 0 ⨾ field e 28 (alignOf (structure a cs)) 0 (count cs) ⨾ readMembers e cs
-  read e (staticArray n a c) =
-      due ⨾ fit e (alignOf (staticArray n a c)) 0 ⨾ field e 29 (alignOf (staticArray n a c)) 0 n ⨾ times n (forget c ⨾ read e c ⨾ forget c)
-  read e (dynamicArray i a c) =
+  pub read : Env → ℕ → Class → Step
+  read e m (fixed k n o a i r) = readFixed e m k n o (2 ^ a) i r
+  read e m (leb128 i r) = due ⨾ fit e 8 0 ⨾ λ s. readLeb e m 21 Unsigned i r (lebUnsigned (ahead e (aligned e 8 s))) s
+  read e m (signedLeb128 i) = due ⨾ fit e 8 0 ⨾ λ s. readLeb e m 22 Signed i noRole (lebSigned (ahead e (aligned e 8 s))) s
+  read e m string = due ⨾ fit e 8 0 ⨾ λ s. readZero e m (zeroAt (ahead e (aligned e 8 s))) s
+  read e m (staticString n) = due ⨾ readText e m 24 n
+  read e m (staticBlob n r) = due ⨾ readBlob e m 25 n r
+  read e m (dynamicString i) = due ⨾ fromSlot i (λ x. asLength x (λ n. readText e m 26 n))
+  read e m (dynamicBlob i) = due ⨾ fromSlot i (λ x. asLength x (λ n. readBlob e m 27 n noRole))
+  read e m (structure a cs) =
+      due ⨾ fit e (alignOf (structure a cs)) 0 ⨾ field e m 28 (alignOf (structure a cs)) 0 (count cs) ⨾ readMembers e (m + 1) cs
+  read e m (staticArray n a c) =
+      due ⨾ fit e (alignOf (staticArray n a c)) 0 ⨾ field e m 29 (alignOf (staticArray n a c)) 0 n ⨾ times n (forget c ⨾ read e (m + 1) c ⨾ forget c)
+  read e m (dynamicArray i a c) =
       due
       ⨾ fromSlot i (λ x. asLength x (λ n.
-      fit e (alignOf (dynamicArray i a c)) 0 ⨾ field e 30 (alignOf (dynamicArray i a c)) 0 n ⨾ times n (forget c ⨾ read e c ⨾ forget c)))
-  read e (flagged i c) = due ⨾ fromSlot i (λ x. asFlag x (λ b. present e b (read e c)))
-  read e (optional i g rs c) = due ⨾ fromSlot i (λ x. asNumber g x (λ v. present e (anyHolds g v rs) (read e c)))
-  read e (variant i g os) = due ⨾ fromSlot i (λ x. asNumber g x (λ v. readOption e g v 0 os))
+      fit e (alignOf (dynamicArray i a c)) 0 ⨾ field e m 30 (alignOf (dynamicArray i a c)) 0 n ⨾ times n (forget c ⨾ read e (m + 1) c ⨾ forget c)))
+  read e m (flagged i c) = due ⨾ fromSlot i (λ x. asFlag x (λ b. present e m b (read e (m + 1) c)))
+  read e m (optional i g rs c) = due ⨾ fromSlot i (λ x. asNumber g x (λ v. present e m (anyHolds g v rs) (read e (m + 1 + length rs) c)))
+  read e m (variant i g os) = due ⨾ fromSlot i (λ x. asNumber g x (λ v. readOption e m (m + 1) g v 0 os))
 
-  pub readMembers : Env → Classes → Step
-  readMembers e noMember = pass
-  readMembers e (member c cs) = read e c ⨾ readMembers e cs
+  -- the records of members stand one behind the other
+  pub readMembers : Env → ℕ → Classes → Step
+  readMembers e m noMember = pass
+  readMembers e m (member c cs) = read e m c ⨾ readMembers e (m + records c) cs
 
-  -- the first option, the kth and up, that holds the selector; "selector in no option" (29)
-  pub readOption : Env → Sign → ℕ → ℕ → Options → Step
-  readOption e g v k noOption = refuse SelectorInNoOption
-  readOption e g v k (option rs c os) = elim (anyHolds g v rs) [ true ↦ field e 32 1 0 k ⨾ read e c | false ↦ readOption e g v (k + 1) os ]
+  -- the first option, the kth and up, whose record is the jth, that holds the selector; "selector in no option" (29)
+  pub readOption : Env → ℕ → ℕ → Sign → ℕ → ℕ → Options → Step
+  readOption e m j g v k noOption = refuse SelectorInNoOption
+  readOption e m j g v k (option rs c os) =
+      elim (anyHolds g v rs) [
+        | true ↦ field e m 32 1 0 k ⨾ read e (j + 1 + length rs) c
+        | false ↦ readOption e m (j + 1 + length rs + records c) g v (k + 1) os
+      ]

@@ -21,9 +21,9 @@ streamLimit = 536_870_911
 abbrev pub lengthLimit : ℕ
 lengthLimit = 65_535
 
--- "Lent 64-bit words, four an entry" (The list)
+-- "Lent 64-bit words", five an entry (The list; 02, 7)
 abbrev pub wordsPerEntry : ℕ
-wordsPerEntry = 4
+wordsPerEntry = 5
 
 -- "LEB128 takes at most 10 bytes" (Reading)
 abbrev pub lebLimit : ℕ

@@ -6,7 +6,8 @@ use Rattle.rules.specs.Leb128.{below, sevens, fitUnsigned, fits64, signe
 use Rattle.rules.specs.Clock.{advance, clockAfter}
 use Rattle.rules.specs.Text.{textLength, oneLater, zeroAt, rows, rowOf, utf8From, utf8, isText}
 use Rattle.rules.specs.Slots.{noSlots, packetSlots, slotAt, setSlot, unset}
-use Rattle.rules.specs.Class.{setting, sets, membersSet, optionsSet, kindOf, count, key, holds, anyHolds, alignOf, alignsOf}
+use Rattle.rules.specs.Class.{records, memberRecords, optionRecords, setting, sets, membersSet, optionsSet, kindOf, count, key}
+use Rattle.rules.specs.Class.{holds, anyHolds, alignOf, alignsOf}
 use Rattle.rules.specs.Record.{number, u8, u16, u64, no, bitsLayout, layouts, layoutOf, size, recordOf, behind}
 use Rattle.rules.specs.Faults.{pick, out, noIds, seen, among, pairAmong, fragmentFault, recordFault, firstFault, isTop, isLeading}
 use Rattle.rules.specs.Faults.{memberSpot, badNumber, badSlot, roles, roleOf, numberRole, blobRole, badRole, classFault, signOf}
@@ -27,13 +28,13 @@ use Rattle.rules.specs.Field.{aligned, fit, ahead, bytesAt, field, store
 use Rattle.rules.specs.Field.{blobRole as blobRoleInField}
 use Rattle.rules.specs.Field.{fromSlot, asFlag, asNumber, asLength, truth, oneOrNone, valueOf, slotOf, otherOrder, turned, readFixed}
 use Rattle.rules.specs.Field.{readLeb, asText, readZero, readText, readBlob, times, forget, present, read, readMembers, readOption}
-use Rattle.rules.specs.Packet.{mark, readRoot, withEvent, startEvent, readEvent, endPacket, readEvents, orElse, above, readContent}
+use Rattle.rules.specs.Packet.{mark, readRoot, rootRecords, withEvent, startEvent, readEvent, endPacket, readEvents, orElse, above, readContent}
 use Rattle.rules.specs.Packet.{withStream, differs, nothingSaid, startPacket, readPacket, readPackets}
 use Rattle.rules.specs.Read.{resultOf, listAfter, ended, begin, readStream, readParsed, readAll}
 
 unfoldable pub opened : ℕ
 unfolding roundUp alignFrom bitIndex bitAt bits signed word below sevens fitUnsigned fits64 signedValue fitSigned lebUnsigned lebSigned
-    advance clockAfter textLength oneLater zeroAt rows rowOf utf8From utf8 isText noSlots packetSlots slotAt setSlot unset setting sets membersSet optionsSet
+    advance clockAfter textLength oneLater zeroAt rows rowOf utf8From utf8 isText noSlots packetSlots slotAt setSlot unset records memberRecords optionRecords setting sets membersSet optionsSet
     kindOf count key holds anyHolds alignOf alignsOf number u8 u16 u64 no bitsLayout layouts layoutOf size recordOf behind pick
     out noIds seen among pairAmong fragmentFault recordFault firstFault isTop isLeading memberSpot badNumber badSlot roles roleOf
     numberRole blobRole badRole classFault signOf otherSign meets rangeFault optionFault rootFault many openFault both across
@@ -45,7 +46,7 @@ unfolding roundUp alignFrom bitIndex bitAt bits signed word below sevens fitUnsi
     refusalSecond numberOf placeOf firstOf secondOf onto after _⨾_ pass refuse refuseAt check checkAt due listed change withSlots withOrder
     withClock withLast withSaid aligned fit ahead bytesAt field store newClock say role sameBytes blobRoleInField fromSlot asFlag
     asNumber asLength truth oneOrNone valueOf slotOf otherOrder turned readFixed readLeb asText readZero readText readBlob times forget
-    present read readMembers readOption mark readRoot withEvent startEvent readEvent endPacket readEvents orElse above
+    present read readMembers readOption mark readRoot rootRecords withEvent startEvent readEvent endPacket readEvents orElse above
     readContent withStream differs nothingSaid startPacket readPacket readPackets resultOf listAfter ended begin readStream
     readParsed readAll
 opened = 0

@@ -13,7 +13,7 @@ use Rattle.rules.specs.declared.Said.{Said}
 use Rattle.rules.specs.declared.Refusal.the-variants.{StreamClassChanged, StreamClassUnknown, LengthsContradict, ClocksContradict, EventClassUnknown, EventTookNoBits, ClockWentBack}
 use Rattle.rules.specs.Place.{bitPlace, further}
 use Rattle.rules.specs.Slots.{noSlots, packetSlots}
-use Rattle.rules.specs.Class.{Class}
+use Rattle.rules.specs.Class.{Class, records}
 use Rattle.rules.specs.Entry.{entry, packetStarts, streamClassFound, lengthsSettled, eventStarts, eventClassFound, packetEnds}
 use Rattle.rules.specs.Step.{State, Step, _⨾_, pass, refuse, check, due, listed, change, withLast}
 use Rattle.rules.specs.Field.{Env, read}
@@ -21,12 +21,31 @@ use Rattle.rules.specs.Table.{StreamClass, EventClass, Asked}
 
 -- an entry at the place, which stays
 unfoldable pub mark : ℕ → ℕ → ℕ → Step
-mark k n v s = listed (entry k (s .place) n v) (s .place) s
+mark k n v s = listed (entry k (s .place) n v 0) (s .place) s
 
--- a root that is there is read
-unfoldable pub readRoot : Env → Option Class → Step
-readRoot e none = pass
-readRoot e (some c) = read e c
+-- a root that is there is read; m is its structure's number
+unfoldable pub readRoot : Env → ℕ → Option Class → Step
+readRoot e m none = pass
+readRoot e m (some c) = read e m c
+
+-- "counted from 0 at the record that opens it" (02, 7): the first root's record is 1, and its structure 2
+abbrev pub firstRoot : ℕ
+firstRoot = 2
+
+-- the records of a root that is there: its own, and those of its structure
+unfoldable pub rootRecords : Option Class → ℕ
+rootRecords none = 0
+rootRecords (some c) = 1 + records c
+
+-- the numbers of the other roots' structures: the records go on through a fragment's roots
+abbrev pub headerNumber : StreamClass → ℕ
+headerNumber c = firstRoot + rootRecords (c .context)
+
+abbrev pub commonNumber : StreamClass → ℕ
+commonNumber c = headerNumber c + rootRecords (c .header)
+
+abbrev pub payloadNumber : EventClass → ℕ
+payloadNumber d = firstRoot + rootRecords (d .specific)
 
 -- Events: "entry 4; event header; 39; entry 5 and the lookup of the id (0 if this event's header set none); common, specific, payload; 38 if
 -- the place did not move"
@@ -54,17 +73,21 @@ readEvent t c e n s₀ =
     (due
     ⨾ mark eventStarts 0 n
     ⨾ change startEvent
-    ⨾ readRoot e (c .header)
+    ⨾ readRoot e (headerNumber c) (c .header)
     ⨾ check (λ s. c .timed && ltb (s .clock) (s .last)) ClockWentBack
     ⨾ change (λ s. withLast (s .clock) s)
     ⨾ due
     ⨾ (λ s. withEvent (c .id) (s .said .event) (t .event (c .id) (s .said .event))
-    (λ d. mark eventClassFound 0 (s .said .event) ⨾ readRoot e (c .common) ⨾ readRoot e (d .specific) ⨾ readRoot e (d .payload)) s)
+    (λ d.
+    mark eventClassFound 0 (s .said .event)
+    ⨾ readRoot e (commonNumber c) (c .common)
+    ⨾ readRoot e firstRoot (d .specific)
+    ⨾ readRoot e (payloadNumber d) (d .payload)) s)
     ⨾ check (λ s. eqb (s .place .0) (s₀ .place .0)) EventTookNoBits) s₀
 
 -- "Entry 7; the place becomes P plus total": padding up to a place, and the number of events
 unfoldable pub endPacket : BitPlace → ℕ → Step
-endPacket to n = due ⨾ λ s. listed (entry packetEnds to (to .0 - s .place .0) n) to s
+endPacket to n = due ⨾ λ s. listed (entry packetEnds to (to .0 - s .place .0) n 0) to s
 
 -- "While the place is below the content's end". Each event takes a bit or more (38), so that as many rounds as there are bits left are
 -- enough
@@ -130,13 +153,13 @@ readPacket t b k i s₀ =
     due
     ⨾ mark packetStarts 0 k
     ⨾ change startPacket
-    ⨾ readRoot e (t .header)
+    ⨾ readRoot e firstRoot (t .header)
     ⨾ check (λ s. differs (s .said .stream) i) StreamClassChanged
     ⨾ due
     ⨾ λ s. withStream (s .said .stream) (t .stream (s .said .stream))
     (λ c.
     mark streamClassFound 0 (s .said .stream)
-    ⨾ readRoot e (c .context)
+    ⨾ readRoot e firstRoot (c .context)
     ⨾ λ s. let rest = 8 * length b - s₀ .place .0 in
     readContent t c b (s₀ .place) (orElse (s .said .total) (s .said .content) rest) (orElse (s .said .content) (s .said .total) rest) s) s) s₀
 

@@ -65,7 +65,8 @@ check t r s = elim (t s) [ true ↦ refuse r s | false ↦ pass s ]
 unfoldable pub checkAt : (State → Bool) → Refusal → BitPlace → Step
 checkAt t r p s = elim (t s) [ true ↦ refuseAt r p s | false ↦ pass s ]
 
--- "40 is tested only where an entry is due, and there before all else": "under four words left" (Refusing a stream)
+-- "40 is tested only where an entry is due, and there before all else": "under four words left" (Refusing a stream), five from
+-- request 7 on
 unfoldable pub due : Step
 due = check (λ s. ltb (s .room) wordsPerEntry) ListFull
 

@@ -54,6 +54,7 @@ pub struct Entry {
     pub place: BitPlace,
     pub bits: u64,
     pub value: u64,
+    pub number: u64,
 }
 
 // What reading a LEB128 number finds: the number in 64 bits and its bytes; that its bytes run past the bound; that it is too long

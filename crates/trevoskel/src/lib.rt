@@ -26,7 +26,7 @@ pub extern "C" fn trevoskel_check(table: &[u8], result: &mut [u64]) -> u32
     }
 }
 
-// Reads a stream by a table: 0 accepted, or the number that refuses it. The list gets the entries, four words each, and the result number,
+// Reads a stream by a table: 0 accepted, or the number that refuses it. The list gets the entries, five words each, and the result number,
 // entries, place and two ids.
 #[no_mangle]
 pub extern "C" fn trevoskel_read(

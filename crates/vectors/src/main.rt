@@ -3,6 +3,7 @@
 // numbers of 32 bits, little-endian (the table's bytes, the stream's bytes, the list's words), then the table and the stream.
 use libc::STDIN_FILENO;
 use libc::STDOUT_FILENO;
+use numbers::limits::WORDS_PER_ENTRY;
 use rules::ByteLength;
 use rules::Checked;
 use rules::Result;
@@ -123,14 +124,15 @@ fn say_entries(list: &[u64], entries: usize) {
     let mut left = entries;
     let mut at = 0;
     while left > 0 {
-        if list.len() - at < 4 {
+        if list.len() - at < WORDS_PER_ENTRY {
             return;
         }
         say_number(list[at], b" ");
         say_number(list[at + 1], b" ");
         say_number(list[at + 2], b" ");
-        say_number(list[at + 3], b"\n");
-        at += 4;
+        say_number(list[at + 3], b" ");
+        say_number(list[at + 4], b"\n");
+        at += WORDS_PER_ENTRY;
         left -= 1;
     }
 }

@@ -1,8 +1,10 @@
--- Turn by turn: the leaf is seen, and by that the definition says what is done, and of which leaves the rest is.
+-- Turn by turn: the leaf is seen, with the number that is noted of its record, and by that the definition says what is done, and of which
+-- leaves the rest is.
 use Rattle.leaf_read.proofs.read_leaves.Statement.{statement}
 use Rattle.leaf_read.proofs.read_leaves.Tie as tie
 use Rattle.leaf_read.proofs.read_leaves.Reads as reads
 use Rattle.leaf_read.proofs.read_leaves.Lts as lts
+use Rattle.class_layout.proofs.words.number_of.Reads as number-of-reads
 use Rattle.leaf_read.proofs.ends.Reads as ends-reads
 use Rattle.leaf_read.proofs.onward.Reads as onward-reads
 use Rattle.leaf_read.proofs.see_leaf.Reads as see-leaf-reads
@@ -15,25 +17,31 @@ use mathlib.Core.List.{_∷_, [], _++_}
 use Prim.Native.Nat.{_+_, _*_, _^_, _<_, _≤_}
 use native.Mathlib.Omega.{arith}
 use lib.ListN.{length}
+use Rattle.rules.specs.Limits.{wordsPerEntry}
 use Rattle.facts.specs.Bytes.{Bytes}
 use Rattle.listing.proofs.Parts.{Listed, one-more, listed-length, lent-room, merged}
 use Rattle.leaf_after.specs.Seeing.{Fits}
-use Rattle.class_layout.specs.Notes.{SizedClasses}
+use Rattle.class_layout.specs.Notes.{SizedClasses, NumberedClasses}
+use Rattle.class_layout.specs.Numbers.{numberAt}
 use Rattle.class_layout.specs.Fields.{onward}
 use Rattle.class_layout.specs.Trees.{nextAt}
 use Rattle.class_layout.proofs.Turns.{whole-inside}
-use Rattle.leaf_read.proofs.Reading.{asked, Reading, reading-start, reading-first, reading-length, reading-fits}
+use Rattle.leaf_read.specs.Seen.{seenAt}
+use Rattle.leaf_read.proofs.Reading.{asked, Reading, reading-start, reading-first, reading-length, reading-seen, reading-fits}
 use Rattle.leaf_read.proofs.Reading.{reading-onward, next-inside, answer-stops, answer-other, answer-last, reading-next}
 
 abbrev Inv-loop : tie.InvT-loop
-Inv-loop table sizes uuid stream frame from count again content list₀ at₀ todo₀ place₀ order₀ used₀ list at todo place order used =
+Inv-loop table sizes aligns uuid stream frame from count again content list₀ at₀ todo₀ place₀ order₀ used₀
+    list at todo place order used =
     Reading (asked again table stream uuid frame content from count place₀ order₀ list₀) list at todo place order used
 
 abbrev μ-loop : tie.MeasureT-loop
-μ-loop table sizes uuid stream frame from count again content list₀ at₀ todo₀ place₀ order₀ used₀ list at todo place order used = todo
+μ-loop table sizes aligns uuid stream frame from count again content list₀ at₀ todo₀ place₀ order₀ used₀
+    list at todo place order used =
+    todo
 
--- Places of the code: a leaf's turn; it is seen; it stops, or has other bytes than the UUID, or something is due of it; its entry stands in
--- the list; the next one's byte is known
+-- Places of the code: a leaf's turn; its number is known; it is seen; it stops, or has other bytes than the UUID, or something is due of
+-- it; its entry stands in the list; the next one's byte is known
 
 abbrev AtStart : Type 0
 AtStart = tie.Start Inv-loop μ-loop
@@ -43,6 +51,9 @@ AtBegun = tie.After-slice-known Inv-loop μ-loop
 
 abbrev AtLeaf : Type 0
 AtLeaf = tie.At-loop Inv-loop μ-loop
+
+abbrev AtNumber : Type 0
+AtNumber = tie.After-number-of Inv-loop μ-loop
 
 abbrev AtSeen : Type 0
 AtSeen = tie.After-see-leaf Inv-loop μ-loop
@@ -68,13 +79,19 @@ AtNext = tie.After-onward Inv-loop μ-loop
 -- The way back
 
 abbrev begun : AtBegun → AtStart
-begun c = c .before .before .before .before .before
+begun c = c .before .before .before .before .before .before
 
 abbrev start : AtLeaf → AtStart
 start c = begun (c .before)
 
+abbrev number : AtSeen → AtNumber
+number c = c .before
+
+abbrev turn : AtNumber → AtLeaf
+turn c = c .before .before
+
 abbrev leaf : AtSeen → AtLeaf
-leaf c = c .before
+leaf c = turn (number c)
 
 abbrev stops : AtStops → AtSeen
 stops c = c .before .before
@@ -100,36 +117,56 @@ due-listed c = c .before .before .before
 within : (c : AtLeaf) →
     let l = c .loop in
     let ws = start c .args .list .now in
-    (l .used + 4 ≤ length (l .list)) × (length (l .list) ≡ length ws) × (8 * length ws < 2 ^ 63)
+    (l .used + wordsPerEntry ≤ length (l .list)) × (length (l .list) ≡ length ws) × (8 * length ws < 2 ^ 63)
 within c =
     let h = c .loop .inv in
     (omega (arith, reading-length h, h .room), reading-length h, omega (arith, start c .good))
 
 bytes : (c : AtLeaf) → Bytes (start c .args .stream .now)
-bytes c i = omega (arith, c .before .before .shared-slice-known4 .given i)
+bytes c i = omega (arith, c .before .before .shared-slice-known5 .given i)
 
 sized : (c : AtLeaf) →
     let a = start c .args in
     (length (a .table .now) ≤ length (a .sizes .now)) × SizedClasses (a .table .now) (a .sizes .now)
 sized c = start c .pre .1 .1 .0
 
+noted : (c : AtLeaf) →
+    let a = start c .args in
+    (length (a .table .now) ≤ length (a .aligns .now)) × NumberedClasses (a .table .now) (a .aligns .now)
+noted c = start c .pre .1 .1 .1 .0
+
+-- there is a note of its class
+inside : (c : AtLeaf) → c .loop .at < length (start c .args .aligns .now)
+inside c = omega (arith, whole-inside _ _ _ (reading-first (c .loop .inv) .leaf), noted c .0)
+
+-- what is seen is by its record's number
+sees : (c : AtSeen) →
+    let a = start (leaf c) .args in
+    let l = leaf c .loop in
+    let t = a .table .now in
+    c .see-leaf .result
+    ≡ seenAt (numberAt t (l .at)) t (a .stream .now) (a .uuid .now) (a .frame) (l .at) (l .place) (l .order) (a .content)
+sees c =
+    let l = leaf c in
+    reading-seen (l .loop .inv) (start l .args .aligns .now) (noted l .1) (number c .number-of .ensures .0) (c .see-leaf .ensures)
+
 -- what is seen can be done
 fits : (c : AtSeen) → Fits (c .see-leaf .result)
-fits c = reading-fits (leaf c .loop .inv) (bytes (leaf c)) (c .see-leaf .ensures)
+fits c = reading-fits (leaf c .loop .inv) (bytes (leaf c)) (sees c)
 
 -- the entry stands behind what was listed
 other-list : (c : AtOtherListed) →
     let l = leaf (other (other-told c)) in
     let entry = other-told c .entry .given .0 .0 in
     let ws = merged (l .loop .used) (l .loop .list) (c .before .write .last .0) in
-    Listed (l .loop .inv .listed ++ (entry ∷ [])) (start l .args .list .now) ws (l .loop .used + 4)
+    Listed (l .loop .inv .listed ++ (entry ∷ [])) (start l .args .list .now) ws (l .loop .used + wordsPerEntry)
 other-list c = let h = leaf (other (other-told c)) .loop .inv in one-more (h .list) _ (h .room) (c .before .write .ensures)
 
 due-list : (c : AtListed) →
     let l = leaf (due (due-told c)) in
     let entry = due-told c .due .given .0 .0 .entry in
     let ws = merged (l .loop .used) (l .loop .list) (c .before .write2 .last .0) in
-    Listed (l .loop .inv .listed ++ (entry ∷ [])) (start l .args .list .now) ws (l .loop .used + 4)
+    Listed (l .loop .inv .listed ++ (entry ∷ [])) (start l .args .list .now) ws (l .loop .used + wordsPerEntry)
 due-list c = let h = leaf (due (due-told c)) .loop .inv in one-more (h .list) _ (h .room) (c .before .write2 .ensures)
 
 -- the next leaf's class stands where the sizes say
@@ -147,10 +184,19 @@ loop-holds : tie.Need-loop-holds Inv-loop μ-loop
 loop-holds c =
     let p = begun c .pre in
     let asks = p .1 .0 in
-    reading-start _ (p .0) (asks .0) (asks .1) (asks .2) (p .1 .1 .1 .0) (p .1 .1 .1 .1)
+    reading-start _ (p .0) (asks .0) (asks .1) (asks .2) (p .1 .1 .1 .1 .0) (p .1 .1 .1 .1 .1)
+
+mul-number-of : tie.Need-mul-number-of Inv-loop μ-loop
+mul-number-of c = omega (arith, inside c, start c .good)
+
+shared-slice-read-number-of : tie.Need-shared-slice-read-number-of Inv-loop μ-loop
+shared-slice-read-number-of c = inside (c .before)
+
+number-of-requires : tie.Need-number-of-requires Inv-loop μ-loop
+number-of-requires c κs = search needs
 
 see-leaf-requires : tie.Need-see-leaf-requires Inv-loop μ-loop
-see-leaf-requires c κs = let h = c .loop .inv in (reading-first h .leaf, (h .kind, h .framed))
+see-leaf-requires c κs = let h = turn c .loop .inv in (reading-first h .leaf, (h .kind, h .framed))
 
 enum-known-stop : tie.Need-enum-known-stop Inv-loop μ-loop
 enum-known-stop c = search needs
@@ -165,7 +211,7 @@ returns : tie.Need-returns Inv-loop μ-loop
 returns c =
     let told = c .before .before in
     let seen = stops told in
-    rw (c .stopped .ensures) (answer-stops (leaf seen .loop .inv) (seen .see-leaf .ensures) (told .stop .given .1))
+    rw (c .stopped .ensures) (answer-stops (leaf seen .loop .inv) (sees seen) (told .stop .given .1))
 
 enum-known-entry : tie.Need-enum-known-entry Inv-loop μ-loop
 enum-known-entry c = search needs
@@ -208,7 +254,7 @@ returns-2 c =
     let told = other-told listed in
     let seen = other told in
     rw (c .stopped2 .ensures, c .before .further .ensures)
-    (answer-other (leaf seen .loop .inv) (seen .see-leaf .ensures) (told .entry .given .1) (other-list listed))
+    (answer-other (leaf seen .loop .inv) (sees seen) (told .entry .given .1) (other-list listed))
 
 enum-known-due : tie.Need-enum-known-due Inv-loop μ-loop
 enum-known-due c = search needs
@@ -265,7 +311,7 @@ returns-3 c =
     let listed = due-listed next in
     let told = due-told listed in
     let seen = due told in
-    let last = answer-last (leaf seen .loop .inv) _ (seen .see-leaf .ensures) (told .due .given .1) (due-list listed) (there next) in
+    let last = answer-last (leaf seen .loop .inv) _ (sees seen) (told .due .given .1) (due-list listed) (there next) in
     rw (c .before .before .before .further2 .ensures) (last (c .before .ends .ensures) (c .if1 .taken))
 
 loop-less : tie.Need-loop-less Inv-loop μ-loop
@@ -277,7 +323,7 @@ loop-again c =
     let listed = due-listed next in
     let told = due-told listed in
     let seen = due told in
-    let more = reading-next (leaf seen .loop .inv) _ (seen .see-leaf .ensures) (told .due .given .1) (due-list listed) (there next) in
+    let more = reading-next (leaf seen .loop .inv) _ (sees seen) (told .due .given .1) (due-list listed) (there next) in
     rw (c .before .before .before .further2 .ensures) (more (c .before .ends .ensures) (bytes (leaf seen)) (c .if1 .left))
 
 pub read-leaves-spec : {M : Type 1} → statement M
@@ -287,6 +333,9 @@ read-leaves-spec =
     Inv-loop
     μ-loop
     loop-holds
+    mul-number-of
+    shared-slice-read-number-of
+    number-of-requires
     see-leaf-requires
     enum-known-stop
     stopped-requires

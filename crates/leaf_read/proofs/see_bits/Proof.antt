@@ -111,13 +111,14 @@ sees : (c : AtKind) {r : Seen} (k : Sort) (i ro : ℕ) →
     let a = given-kind c .args in
     let t = a .table .now in
     let b = a .stream .now in
-    r ≡ seen (to-found c .find-bits .result) (fixedSeen k (to-order (to-align (to-found c)) .order-of .result) i ro)
+    r ≡ seen (to-found c .find-bits .result) (fixedSeen (a .number) k (to-order (to-align (to-found c)) .order-of .result) i ro)
     → ((u : List ℕ) (x : Content)
-    → seenAt t b u (a .frame) (a .at) (a .from) (a .last) x ≡ bitsSeenAt t b (a .frame) (a .at) (a .from) (a .last) k i ro)
-    → BitsSeen t b (a .frame) (a .at) (a .from) (a .last) r
+    → seenAt (a .number) t b u (a .frame) (a .at) (a .from) (a .last) x
+    ≡ bitsSeenAt (a .number) t b (a .frame) (a .at) (a .from) (a .last) k i ro)
+    → BitsSeen (a .number) t b (a .frame) (a .at) (a .from) (a .last) r
 sees c k i ro is kind =
     let found = to-found c in
-    λ u x. bits-of _ _ u _ _ _ _ x (said (to-align found)) (found .find-bits .ensures) k i ro is (kind u x)
+    λ u x. bits-of _ _ _ u _ _ _ _ x (said (to-align found)) (found .find-bits .ensures) k i ro is (kind u x)
 
 -- The needs: width, order and align
 
@@ -230,25 +231,25 @@ returns : tie.Need-returns
 unfolding u8 shapeOf shapes seenIn
 returns c =
     let kind = c .before in
-    sees (kind .before) bitArray noSlot 0 (c .bit-array .ensures) (λ u x. seen-of _ _ u _ _ _ _ x 16 (kind .match .keys1))
+    sees (kind .before) bitArray noSlot 0 (c .bit-array .ensures) (λ u x. seen-of _ _ _ u _ _ _ _ x 16 (kind .match .keys1))
 
 returns-2 : tie.Need-returns-2
 unfolding u8 shapeOf shapes seenIn
 returns-2 c =
     let kind = c .before .before in
-    sees (kind .before) boolean _ 0 (c .boolean .ensures) (λ u x. seen-of _ _ u _ _ _ _ x 17 (kind .match .keys2))
+    sees (kind .before) boolean _ 0 (c .boolean .ensures) (λ u x. seen-of _ _ _ u _ _ _ _ x 17 (kind .match .keys2))
 
 returns-3 : tie.Need-returns-3
 unfolding u8 shapeOf shapes seenIn
 returns-3 c =
     let kind = c .before .before .before in
-    sees (kind .before) unsignedInt _ _ (c .unsigned .ensures) (λ u x. seen-of _ _ u _ _ _ _ x 18 (kind .match .keys3))
+    sees (kind .before) unsignedInt _ _ (c .unsigned .ensures) (λ u x. seen-of _ _ _ u _ _ _ _ x 18 (kind .match .keys3))
 
 returns-4 : tie.Need-returns-4
 unfolding u8 shapeOf shapes seenIn
 returns-4 c =
     let kind = c .before .before in
-    sees (kind .before) signedInt _ 0 (c .signed .ensures) (λ u x. seen-of _ _ u _ _ _ _ x 19 (kind .match .keys4))
+    sees (kind .before) signedInt _ 0 (c .signed .ensures) (λ u x. seen-of _ _ _ u _ _ _ _ x 19 (kind .match .keys4))
 
 returns-5 : tie.Need-returns-5
 unfolding u8 shapeOf shapes seenIn
@@ -256,7 +257,7 @@ returns-5 c =
     let kind = c .before in
     let start = given-kind (kind .before) in
     let is = is-float _ _ (start .pre .0) (start .pre .1 .0) (kind .match .rest) in
-    sees (kind .before) float noSlot 0 (c .float .ensures) (λ u x. seen-of _ _ u _ _ _ _ x 20 is)
+    sees (kind .before) float noSlot 0 (c .float .ensures) (λ u x. seen-of _ _ _ u _ _ _ _ x 20 is)
 
 pub see-bits-spec : {M : Type 1} → statement M
 see-bits-spec =

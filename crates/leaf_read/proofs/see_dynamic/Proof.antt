@@ -73,7 +73,7 @@ returns : tie.Need-returns
 returns c =
     let text = c .before .before in
     let bytes = to-bytes-from-text text in
-    text-seen _ _ _ _ (to-slot bytes .length-of .ensures) (bytes .bytes .given .1) _ (c .plain .ensures) (text .if1 .taken)
+    text-seen _ _ _ _ _ (to-slot bytes .length-of .ensures) (bytes .bytes .given .1) _ (c .plain .ensures) (text .if1 .taken)
     (c .before .find-text .ensures)
 
 -- Kind 27
@@ -87,13 +87,13 @@ plain-requires-2 : tie.Need-plain-requires-2
 plain-requires-2 c κs = search needs
 
 returns-2 : tie.Need-returns-2
-returns-2 c = no-length-seen _ _ _ _ (c .before .before .before .length-of .ensures) (c .before .why .given .1) _
+returns-2 c = no-length-seen _ _ _ _ _ (c .before .before .before .length-of .ensures) (c .before .why .given .1) _
 
 returns-3 : tie.Need-returns-3
 returns-3 c =
     let blob = c .before .before in
     let bytes = to-bytes-from-blob blob in
-    blob-seen _ _ _ _ (to-slot bytes .length-of .ensures) (bytes .bytes .given .1) _ (c .plain2 .ensures) (blob .if1 .left)
+    blob-seen _ _ _ _ _ (to-slot bytes .length-of .ensures) (bytes .bytes .given .1) _ (c .plain2 .ensures) (blob .if1 .left)
     (c .before .find-blob .ensures)
 
 pub see-dynamic-spec : {M : Type 1} → statement M

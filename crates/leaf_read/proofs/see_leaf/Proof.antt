@@ -202,26 +202,26 @@ returns-2 : tie.Need-returns-2
 unfolding u8 shapeOf shapes seenIn
 returns-2 c =
     let found = c .before .before .before in
-    sees-of _ _ _ _ _ _ _ _ 21 (found .before .match .keys1) (rw (found .find-unsigned .ensures) at (c .unsigned-leb .ensures))
+    sees-of _ _ _ _ _ _ _ _ _ 21 (found .before .match .keys1) (rw (found .find-unsigned .ensures) at (c .unsigned-leb .ensures))
 
 returns-3 : tie.Need-returns-3
 unfolding u8 shapeOf shapes seenIn
 returns-3 c =
     let found = c .before .before in
-    sees-of _ _ _ _ _ _ _ _ 22 (found .before .match .keys2) (rw (found .find-signed .ensures) at (c .signed-leb .ensures))
+    sees-of _ _ _ _ _ _ _ _ _ 22 (found .before .match .keys2) (rw (found .find-signed .ensures) at (c .signed-leb .ensures))
 
 returns-4 : tie.Need-returns-4
 unfolding u8 shapeOf shapes seenIn
 returns-4 c =
     let found = c .before in
-    sees-of _ _ _ _ _ _ _ _ 23 (found .before .match .keys3) (rw (found .find-string .ensures) at (c .plain .ensures))
+    sees-of _ _ _ _ _ _ _ _ _ 23 (found .before .match .keys3) (rw (found .find-string .ensures) at (c .plain .ensures))
 
 returns-5 : tie.Need-returns-5
 unfolding u8 shapeOf shapes seenIn
 returns-5 c =
     let found = c .before in
     let length = found .before in
-    sees-of _ _ _ _ _ _ _ _ 24 (length .before .match .keys4)
+    sees-of _ _ _ _ _ _ _ _ _ 24 (length .before .match .keys4)
     (rw (found .find-text .ensures, length .u16-at .ensures .0) at (c .plain2 .ensures))
 
 returns-6 : tie.Need-returns-6
@@ -229,7 +229,7 @@ unfolding u8 shapeOf shapes seenIn
 returns-6 c =
     let found = c .before .before in
     let length = found .before in
-    sees-of _ _ _ _ _ _ _ _ 25 (length .before .match .keys5)
+    sees-of _ _ _ _ _ _ _ _ _ 25 (length .before .match .keys5)
     (rw (found .find-blob .ensures, length .u16-at2 .ensures .0) at (c .static-blob .ensures))
 
 returns-7 : tie.Need-returns-7
@@ -238,7 +238,7 @@ returns-7 c =
     let kind = c .before .before in
     let start = given (kind .before) in
     let low = is-dynamic (start .args .table .now) (start .args .at) (kind .before .before .if1 .left) (kind .match .rest) in
-    dynamic-of _ _ _ _ _ _ _ _ low (start .pre .1 .0) (c .see-dynamic .ensures)
+    dynamic-of _ _ _ _ _ _ _ _ _ low (start .pre .1 .0) (c .see-dynamic .ensures)
 
 pub see-leaf-spec : {M : Type 1} → statement M
 see-leaf-spec =

@@ -13,13 +13,13 @@ uuid-blob-requires : tie.Need-uuid-blob-requires
 uuid-blob-requires c κs = search needs
 
 returns : tie.Need-returns
-returns c = c .uuid-blob .ensures ∙ role-seen _ _ _ _ _ (c .before .if1 .taken)
+returns c = c .uuid-blob .ensures ∙ role-seen _ _ _ _ _ _ (c .before .if1 .taken)
 
 plain-requires : tie.Need-plain-requires
 plain-requires c κs = search needs
 
 returns-2 : tie.Need-returns-2
-returns-2 c = c .plain .ensures ∙ no-role-seen _ _ _ _ _ (c .before .if1 .left)
+returns-2 c = c .plain .ensures ∙ no-role-seen _ _ _ _ _ _ (c .before .if1 .left)
 
 pub static-blob-spec : {M : Type 1} → statement M
 static-blob-spec = tie.close (tie.spec uuid-blob-requires returns plain-requires returns-2)

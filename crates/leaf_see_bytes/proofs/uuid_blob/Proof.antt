@@ -64,10 +64,10 @@ returns c =
     let asked = c .before .before in
     let byte = to-byte asked in
     rw (c .plain .ensures)
-    (uuid-seen _ _ _ _ _ _ (to-found byte .found2 .given .1) (byte .bytes-before .ensures) (asked .same .ensures) (c .before .if1 .taken))
+    (uuid-seen _ _ _ _ _ _ _ (to-found byte .found2 .given .1) (byte .bytes-before .ensures) (asked .same .ensures) (c .before .if1 .taken))
 
-cast-t15 : tie.Need-cast-t15
-cast-t15 c = search needs
+cast-t16 : tie.Need-cast-t16
+cast-t16 c = search needs
 
 returns-2 : tie.Need-returns-2
 unfolding seen
@@ -77,7 +77,7 @@ returns-3 : tie.Need-returns-3
 returns-3 c =
     let asked = c .before in
     let byte = to-byte asked in
-    other-seen _ _ _ _ _ _ (to-found byte .found2 .given .1) (byte .bytes-before .ensures) (asked .same .ensures) (c .if1 .left)
+    other-seen _ _ _ _ _ _ _ (to-found byte .found2 .given .1) (byte .bytes-before .ensures) (asked .same .ensures) (c .if1 .left)
 
 pub uuid-blob-spec : {M : Type 1} → statement M
 uuid-blob-spec =
@@ -89,6 +89,6 @@ uuid-blob-spec =
     same-requires
     plain-requires
     returns
-    cast-t15
+    cast-t16
     returns-2
     returns-3)

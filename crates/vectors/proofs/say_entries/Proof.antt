@@ -1,4 +1,4 @@
--- Four words an entry, and never past the list.
+-- The words of each entry, and never past the list.
 use borrow.Author.Needs.{needs}
 use Rattle.vectors.proofs.say_entries.Statement.{statement}
 use Rattle.vectors.proofs.say_entries.Tie as tie
@@ -6,10 +6,10 @@ use lib.ListN.{length}
 use Prim.Native.Nat.{_≤_}
 
 abbrev Inv-loop : tie.InvT-loop
-Inv-loop list entries left₀ at₀ t5 t6 t7 t8 left at = at ≤ length list
+Inv-loop list entries left₀ at₀ t5 t6 t7 t8 t9 left at = at ≤ length list
 
 abbrev μ-loop : tie.MeasureT-loop
-μ-loop list entries left₀ at₀ t5 t6 t7 t8 left at = left
+μ-loop list entries left₀ at₀ t5 t6 t7 t8 t9 left at = left
 
 loop-holds : tie.Need-loop-holds Inv-loop μ-loop
 loop-holds c = search needs
@@ -77,6 +77,21 @@ slice-aggregate-say-number-4 c = search needs
 say-number-requires-4 : tie.Need-say-number-requires-4 Inv-loop μ-loop
 say-number-requires-4 c κs = search needs
 
+add-say-number-4 : tie.Need-add-say-number-4 Inv-loop μ-loop
+add-say-number-4 c = search needs
+
+mul-say-number-5 : tie.Need-mul-say-number-5 Inv-loop μ-loop
+mul-say-number-5 c = search needs
+
+shared-slice-read-say-number-5 : tie.Need-shared-slice-read-say-number-5 Inv-loop μ-loop
+shared-slice-read-say-number-5 c = search needs
+
+slice-aggregate-say-number-5 : tie.Need-slice-aggregate-say-number-5 Inv-loop μ-loop
+slice-aggregate-say-number-5 c = search needs
+
+say-number-requires-5 : tie.Need-say-number-requires-5 Inv-loop μ-loop
+say-number-requires-5 c κs = search needs
+
 add-at : tie.Need-add-at Inv-loop μ-loop
 add-at c = search needs
 
@@ -120,6 +135,11 @@ say-entries-spec =
     shared-slice-read-say-number-4
     slice-aggregate-say-number-4
     say-number-requires-4
+    add-say-number-4
+    mul-say-number-5
+    shared-slice-read-say-number-5
+    slice-aggregate-say-number-5
+    say-number-requires-5
     add-at
     sub-left
     loop-less

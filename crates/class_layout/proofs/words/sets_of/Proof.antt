@@ -1,4 +1,4 @@
--- What is above them.
+-- The thirteen bits above them.
 use borrow.Author.Needs.{needs}
 use Rattle.class_layout.specs.Words.{setsOfWord}
 use Rattle.class_layout.proofs.words.sets_of.Statement.{statement}

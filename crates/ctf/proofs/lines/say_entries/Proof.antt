@@ -1,4 +1,4 @@
--- Four words an entry, and never past the list.
+-- The words of each entry, and never past the list.
 use borrow.Author.Needs.{needs}
 use Rattle.ctf.proofs.lines.say_entries.Statement.{statement}
 use Rattle.ctf.proofs.lines.say_entries.Tie as tie
@@ -53,6 +53,15 @@ mul-say-entry-4 c = search needs
 shared-slice-read-say-entry-4 : tie.Need-shared-slice-read-say-entry-4 Inv-loop μ-loop
 shared-slice-read-say-entry-4 c = search needs
 
+add-say-entry-4 : tie.Need-add-say-entry-4 Inv-loop μ-loop
+add-say-entry-4 c = search needs
+
+mul-say-entry-5 : tie.Need-mul-say-entry-5 Inv-loop μ-loop
+mul-say-entry-5 c = search needs
+
+shared-slice-read-say-entry-5 : tie.Need-shared-slice-read-say-entry-5 Inv-loop μ-loop
+shared-slice-read-say-entry-5 c = search needs
+
 say-entry-requires : tie.Need-say-entry-requires Inv-loop μ-loop
 say-entry-requires c κs = search needs
 
@@ -91,6 +100,9 @@ say-entries-spec =
     add-say-entry-3
     mul-say-entry-4
     shared-slice-read-say-entry-4
+    add-say-entry-4
+    mul-say-entry-5
+    shared-slice-read-say-entry-5
     say-entry-requires
     add-at
     sub-left

@@ -1,17 +1,17 @@
--- The place is aligned, and its entry written unless that lies past the bound.
+-- The place is aligned, and its entry written, with the record's number, unless that lies past the bound.
 use borrow.Author.Needs.{needs}
 use mathlib.Core.Path.{_≡_}
 use native.Mathlib.Omega.{arith}
 use Prim.Native.Nat.{ℕ, _^_}
 use Rattle.rules.specs.Record.{u8}
 use Rattle.frame.specs.Framed.{alignedAt}
-use Rattle.class_layout.specs.Notes.{alignNoted}
+use Rattle.class_layout.specs.Notes.{alignNoted, numberNoted}
 use Rattle.field_inside.proofs.Entering.{entered-past, entered-fits}
 use Rattle.field_inside.proofs.opening.enter_structure.Statement.{statement}
 use Rattle.field_inside.proofs.opening.enter_structure.Tie as tie
 
 -- Places of the code, in its order: all is given; the alignment can be read; it was; the place is aligned; the bound is known; the place is
--- not past it; the count was read; the entry is written
+-- not past it; the count was read; the number was; the entry is written
 
 abbrev AtStart : Type 0
 AtStart = tie.Start
@@ -33,6 +33,9 @@ AtWithin = tie.Else1
 
 abbrev AtCount : Type 0
 AtCount = tie.After-wide64
+
+abbrev AtNumber : Type 0
+AtNumber = tie.After-number-of
 
 abbrev AtListed : Type 0
 AtListed = tie.After-list-holder
@@ -57,14 +60,20 @@ to-bound c = c .before
 abbrev to-within : AtCount → AtWithin
 to-within c = c .before .before
 
-abbrev to-count : AtListed → AtCount
+abbrev to-count : AtNumber → AtCount
 to-count c = c .before .before
+
+abbrev to-number : AtListed → AtNumber
+to-number c = c .before .before
 
 abbrev aligned-start : AtAligned → AtStart
 aligned-start c = to-start (to-noted (to-alignment c))
 
 abbrev within-start : AtWithin → AtStart
 within-start c = aligned-start (to-aligned (to-bound c))
+
+abbrev number-start : AtNumber → AtStart
+number-start c = within-start (to-within (to-count c))
 
 -- What is known at them
 
@@ -77,6 +86,12 @@ placed : (c : AtAligned) →
     c .align .result ≡ alignedAt (s .args .frame) (bits s) (s .args .from)
 unfolding alignedAt alignNoted
 placed c = rw (to-alignment c .align-of .ensures .0) at (c .align .ensures)
+
+numbered : (c : AtNumber) →
+    let a = number-start c .args in
+    c .number-of .result ≡ numberNoted (a .aligns .now) (a .at)
+unfolding numberNoted
+numbered c = c .number-of .ensures .0
 
 -- The place
 
@@ -99,7 +114,7 @@ returns : tie.Need-returns
 returns c =
     let d = to-aligned (c .before) in
     let a = aligned-start d .args in
-    entered-past (a .frame) (bits (aligned-start d)) (a .from) _ (a .list .now) (placed d) (c .if1 .taken)
+    entered-past (a .frame) (bits (aligned-start d)) (a .from) _ _ (a .list .now) (placed d) (c .if1 .taken)
 
 -- Its entry
 
@@ -112,22 +127,33 @@ shared-slice-read-wide64 c = omega (arith, within-start (c .before) .pre .0 .0)
 wide64-requires : tie.Need-wide64-requires
 wide64-requires c κs = search needs
 
+mul-number-of : tie.Need-mul-number-of
+mul-number-of c = search needs
+
+shared-slice-read-number-of : tie.Need-shared-slice-read-number-of
+shared-slice-read-number-of c = within-start (to-within (c .before)) .pre .0 .1
+
+number-of-requires : tie.Need-number-of-requires
+number-of-requires c κs = search needs
+
 list-holder-requires : tie.Need-list-holder-requires
-list-holder-requires c κs = within-start (to-within (c .before)) .pre .1 .1
+list-holder-requires c κs = number-start (c .before) .pre .1 .1
 
 same-length : tie.Need-same-length
-same-length c = c .before .before .list-holder .kept .1 .1 .1 .0
+same-length c = c .before .before .list-holder .kept .1 .1 .1 .1 .0
 
 returns-2 : tie.Need-returns-2
 unfolding alignedAt u8
 returns-2 c =
     let l = c .before .before in
-    let w = to-within (to-count l) in
+    let n = to-number l in
+    let w = to-within (to-count n) in
     let a = within-start w .args in
-    entered-fits (a .frame) (bits (within-start w)) (a .from) _ (a .list .now) (placed (to-aligned (to-bound w))) (w .if1 .left)
-    (rw (to-count l .wide64 .ensures .0) at (l .list-holder .ensures))
+    entered-fits (a .frame) (bits (within-start w)) (a .from) _ _ (a .list .now) (placed (to-aligned (to-bound w))) (w .if1 .left)
+    (to-count n .wide64 .ensures .0) (numbered n) (l .list-holder .ensures)
 
 pub enter-structure-spec : {M : Type 1} → statement M
 enter-structure-spec = tie.close
-    (tie.spec mul-align-of shared-slice-read-align-of align-of-requires align-requires returns add-wide64 shared-slice-read-wide64
-    wide64-requires list-holder-requires same-length returns-2)
+    (tie.spec mul-align-of shared-slice-read-align-of align-of-requires align-requires returns add-wide64
+    shared-slice-read-wide64 wide64-requires mul-number-of shared-slice-read-number-of number-of-requires list-holder-requires
+    same-length returns-2)

@@ -1,22 +1,26 @@
 -- By what is told of the field.
 use borrow.Author.Needs.{needs}
 use native.Mathlib.Omega.{arith}
-use mathlib.Core.Path.{_∙_}
+use mathlib.Core.Path.{_≡_, _∙_}
 use Rattle.rules.specs.Record.{u8}
+use Rattle.class_layout.specs.Notes.{numberNoted}
 use Rattle.field_inside.specs.Opening.{openedAs, listOpened}
 use Rattle.field_inside.proofs.Holders.{record-there}
 use Rattle.field_inside.proofs.Entering.{opened-by}
 use Rattle.field_inside.proofs.opening.open_field.Statement.{statement}
 use Rattle.field_inside.proofs.opening.open_field.Tie as tie
 
--- Places of the code, in its order: all is given; the kind can be read; the field was looked at; it is refused; it holds members, and its
--- entry is written; or elements, its entry is written, and what is forgotten around each is told
+-- Places of the code, in its order: all is given; the kind can be read; the record's number was; the field was looked at; it is refused; it
+-- holds members, and its entry is written; or elements, its entry is written, and what is forgotten around each is told
 
 abbrev AtStart : Type 0
 AtStart = tie.Start
 
 abbrev AtKind : Type 0
 AtKind = tie.After-shared-slice-known4
+
+abbrev AtNumber : Type 0
+AtNumber = tie.After-number-of
 
 abbrev AtTold : Type 0
 AtTold = tie.After-look
@@ -44,8 +48,14 @@ AtForgotten = tie.After-forgotten-around
 abbrev to-start : AtKind → AtStart
 to-start c = c .before .before .before .before .before
 
+abbrev number-start : AtNumber → AtStart
+number-start c = to-start (c .before .before)
+
+abbrev to-number : AtTold → AtNumber
+to-number c = c .before
+
 abbrev told-start : AtTold → AtStart
-told-start c = to-start (c .before)
+told-start c = number-start (to-number c)
 
 abbrev refused-told : AtRefused → AtTold
 refused-told c = c .before .before
@@ -65,13 +75,32 @@ to-elements c = c .before .before .before
 abbrev to-listed : AtForgotten → AtElementsListed
 to-listed c = c .before .before .before
 
+-- What is known at them
+
+numbered : (c : AtNumber) →
+    let a = number-start c .args in
+    c .number-of .result ≡ numberNoted (a .aligns .now) (a .at)
+unfolding numberNoted
+numbered c = c .number-of .ensures .0
+
 -- Looked at
 
 shared-slice-read-kind : tie.Need-shared-slice-read-kind
 shared-slice-read-kind c = omega (arith, record-there (to-start c .pre .0))
 
+mul-number-of : tie.Need-mul-number-of
+mul-number-of c = search needs
+
+shared-slice-read-number-of : tie.Need-shared-slice-read-number-of
+shared-slice-read-number-of c =
+    let h = to-start (c .before) .pre .0 in
+    omega (arith, record-there h, h .aligns)
+
+number-of-requires : tie.Need-number-of-requires
+number-of-requires c κs = search needs
+
 look-requires : tie.Need-look-requires
-look-requires c κs = (to-start c .pre .0, to-start c .pre .1 .0)
+look-requires c κs = (number-start c .pre .0, number-start c .pre .1 .0)
 
 enum-known-stop : tie.Need-enum-known-stop
 enum-known-stop c = search needs
@@ -107,31 +136,32 @@ returns : tie.Need-returns
 unfolding openedAs listOpened
 returns c =
     let d = c .before .before in
-    opened-by _ _ _ _ (refused-told d .look .ensures) (d .stop .given .1)
+    opened-by _ _ _ _ (numbered (to-number (refused-told d))) (refused-told d .look .ensures) (d .stop .given .1)
 
 same-length : tie.Need-same-length
-same-length c = c .before .before .before .list-holder .kept .1 .1 .1 .0
+same-length c = c .before .before .before .list-holder .kept .1 .1 .1 .1 .0
 
 returns-2 : tie.Need-returns-2
 unfolding openedAs listOpened u8
 returns-2 c =
     let l = c .before .before .before in
     let m = to-members l in
-    let q = opened-by _ _ _ _ (members-told m .look .ensures) (m .there .given .1) in
+    let q = opened-by _ _ _ _ (numbered (to-number (members-told m))) (members-told m .look .ensures) (m .there .given .1) in
     (c .went-in .ensures ∙ q .0, l .list-holder .ensures ∙ q .1)
 
 same-length-2 : tie.Need-same-length-2
-same-length-2 c = to-listed (c .before) .list-holder2 .kept .1 .1 .1 .0
+same-length-2 c = to-listed (c .before) .list-holder2 .kept .1 .1 .1 .1 .0
 
 returns-3 : tie.Need-returns-3
 unfolding openedAs listOpened u8
 returns-3 c =
     let l = to-listed (c .before) in
     let m = to-elements l in
-    let q = opened-by _ _ _ _ (elements-told m .look .ensures) (m .there2 .given .1) in
+    let q = opened-by _ _ _ _ (numbered (to-number (elements-told m))) (elements-told m .look .ensures) (m .there2 .given .1) in
     (rw (c .before .forgotten-around .ensures) at (c .went-in2 .ensures) ∙ q .0, l .list-holder2 .ensures ∙ q .1)
 
 pub open-field-spec : {M : Type 1} → statement M
 open-field-spec = tie.close
-    (tie.spec shared-slice-read-kind look-requires enum-known-stop enum-known-there list-holder-requires went-in-requires enum-known-there-2
-    list-holder-requires-2 forgotten-around-requires went-in-requires-2 returns same-length returns-2 same-length-2 returns-3)
+    (tie.spec shared-slice-read-kind mul-number-of shared-slice-read-number-of number-of-requires look-requires enum-known-stop
+    enum-known-there list-holder-requires went-in-requires enum-known-there-2 list-holder-requires-2 forgotten-around-requires
+    went-in-requires-2 returns same-length returns-2 same-length-2 returns-3)

@@ -42,6 +42,7 @@ use Rattle.leaf_read.proofs.content_of.Reads as content-of-reads
 use Rattle.leaf_read.proofs.leaf_slot.Reads as leaf-slot-reads
 use Rattle.leaf_read.proofs.read_leaves.Reads as read-leaves-reads
 use Rattle.listing.proofs.at_place.Reads as at-place-reads
+use Rattle.listing.proofs.entry.is_full.Reads as is-full-reads
 use Rattle.listing.proofs.role.apply.Reads as apply-reads
 use Rattle.table_bytes.proofs.wide.Reads as wide-reads
 use Rattle.field_read.proofs.walk.+read_field+walk+walk_elements+walk_members.{statement}
@@ -54,11 +55,11 @@ use mathlib.Core.Bool.{true, false}
 use mathlib.Core.List.{List}
 use mathlib.Core.Logic.{_⊎_, inl, inr, ⊎-elim}
 use native.Mathlib.Omega.{arith}
-use Prim.Native.Nat.{_+_, _*_, _^_, _≤_}
+use Prim.Native.Nat.{_+_, _-_, _*_, _^_, _≤_}
 use lib.ListN.{length}
 use Rattle.rules.specs.declared.Content.{Content}
 use Rattle.rules.specs.declared.Stop.{Stop}
-use Rattle.rules.specs.Limits.{slotCount}
+use Rattle.rules.specs.Limits.{slotCount, wordsPerEntry}
 use Rattle.rules.specs.Record.{u8}
 use Rattle.rules.specs.Slots.{slotAt, setSlot, unset}
 use Rattle.rules.specs.Step.{_⨾_}
@@ -74,6 +75,7 @@ use Rattle.frame.specs.Framed.{envOf}
 use Rattle.class_slots.specs.Named.{slotsOf}
 use Rattle.leaf_read.specs.Reads.{leafSlot}
 use Rattle.leaf_read.specs.Leaves.{contentOf}
+use Rattle.listing.proofs.Checks.{full-said, room-said}
 use Rattle.listing.proofs.Parts.{part-length, lent-room, merged}
 use Rattle.field_inside.specs.Inside.{slotReadAt}
 use Rattle.field_inside.proofs.Noted.{opens, slot-within}
@@ -234,7 +236,7 @@ module _ (t : ℕ) where
   was-opened c = not-false _ (c .before .if2 .left)
 
   -- what is inside is lent the list behind its entry
-  entry-fits : (c : AtInside) → 4 ≤ length (inside-entry c .open-field .last .1 .1 .1 .1 .1 .1 .1 .0)
+  entry-fits : (c : AtInside) → wordsPerEntry ≤ length (inside-entry c .open-field .last .1 .1 .1 .1 .1 .1 .1 .0)
   entry-fits c = omega (arith, inside-entry c .open-field .kept .1 .1 .1 .1 .1 .1 .1 .0, field-holder (inside-met c) .room)
 
   one-depth : (c : AtInside) → 1 ≤ inside-given c .args .left
@@ -355,6 +357,8 @@ walk-calls t = (
   is-over-reads.Learnt,
   at-reads.Asked,
   at-reads.Learnt,
+  is-full-reads.Asked,
+  is-full-reads.Learnt,
   refused-reads.Asked,
   refused-reads.Learnt,
   first-reads.Asked,
@@ -411,9 +415,9 @@ abbrev In-walk : (t : ℕ)
 In-walk t N = N (walk-calls t) (walk-at t) walk.Post walk-Inv-loop walk-μ-loop
 
 module _ (t : ℕ) where
-  -- Places of the code: the stream's bytes are known; in front of the loop; a round's start, its run forward; a field left, room for it,
-  -- its class; leaves read, what is due of the last, its role done; a field that holds others, entered and its place taken, its members
-  -- the run; told its slot, opened and its place taken, what it holds the run; or read by itself
+  -- Places of the code: the stream's bytes are known; in front of the loop; a round's start, its run forward; a field left, no room for it,
+  -- or room, its class; leaves read, what is due of the last, its role done; a field that holds others, entered and its place taken, its
+  -- members the run; told its slot, opened and its place taken, what it holds the run; or read by itself
 
   abbrev AtStart : Type 0
   AtStart = In-walk t walk-lts.Start
@@ -435,6 +439,9 @@ module _ (t : ℕ) where
 
   abbrev AtField : Type 0
   AtField = In-walk t walk-lts.Else3
+
+  abbrev AtFull : Type 0
+  AtFull = In-walk t walk-lts.Then4
 
   abbrev AtRoom : Type 0
   AtRoom = In-walk t walk-lts.Else4
@@ -522,8 +529,11 @@ module _ (t : ℕ) where
   abbrev field-loop : AtField → AtLoop
   field-loop c = forward-loop (field-forward c)
 
+  abbrev full-field : AtFull → AtField
+  full-field c = c .before .before
+
   abbrev room-field : AtRoom → AtField
-  room-field c = c .before
+  room-field c = c .before .before
 
   abbrev class-room : AtClass → AtRoom
   class-room c = c .before
@@ -813,19 +823,34 @@ module _ (t : ℕ) where
 
   -- No room (40)
 
-  walk-sub-if4 : In-walk t walk-lts.Need-sub-if4
-  walk-sub-if4 c = within (field-loop c) .0
+  walk-sub-is-full : In-walk t walk-lts.Need-sub-is-full
+  walk-sub-is-full c = within (field-loop c) .0
+
+  walk-is-full-requires : In-walk t walk-lts.Need-is-full-requires
+  walk-is-full-requires c κs = search needs
+
+  no-room : (c : AtFull) →
+      let l = field-loop (full-field c) .loop in
+      length (l .list) - l .used < wordsPerEntry
+  no-room c = full-said _ (c .before .is-full .ensures) (c .if4 .taken)
 
   walk-refused-requires : In-walk t walk-lts.Need-refused-requires
   walk-refused-requires c κs = search needs
 
   walk-same-length-2 : In-walk t walk-lts.Need-same-length-2
-  walk-same-length-2 c = part-length (now (field-loop (c .before .before)) .part)
+  walk-same-length-2 c = part-length (now (field-loop (full-field (c .before))) .part)
 
   walk-returns-2 : In-walk t walk-lts.Need-returns-2
   walk-returns-2 c =
-      let k = c .before .before in
-      rw (c .refused .ensures) (stopped (field-loop k) (round-full (here k) (some-left k) (c .before .if4 .taken)))
+      let k = full-field (c .before) in
+      rw (c .refused .ensures) (stopped (field-loop k) (round-full (here k) (some-left k) (no-room (c .before))))
+
+  -- Room for an entry
+
+  room : (c : AtRoom) →
+      let l = field-loop (room-field c) .loop in
+      wordsPerEntry ≤ length (l .list) - l .used
+  room c = room-said _ (c .before .is-full .ensures) (c .if4 .left)
 
   -- Leaves
 
@@ -894,11 +919,14 @@ module _ (t : ℕ) where
           (
             past .before .before .if5 .taken,
             omega (arith, some-left k .some, count),
-            omega (arith, lent-room (l .used) (l .list), leaf-room past .if4 .left),
+            omega (arith, lent-room (l .used) (l .list), room (leaf-room past)),
           ),
           (
             (noted .sized .room, λ d p v. noted .classes d p v .size),
-            (h .framed, past-unset (leaf-border past .if1 .slots) _ (h .many) (leaf-told past)),
+            (
+              (noted .room, noted .numbers),
+              (h .framed, past-unset (leaf-border past .if1 .slots) _ (h .many) (leaf-told past)),
+            ),
           ),
         ),
       )
@@ -909,13 +937,13 @@ module _ (t : ℕ) where
       let l = leaves-loop c .loop in
       LeavesRound (walk-of (leaves-loop c)) (field-forward k .forward .result) (l .list) (l .used)
       (stateAt (l .place) (l .order) (l .state)) (leaves-border c .if1 .slots)
-      (c .read-leaves .result) (c .read-leaves .last .1 .1 .1 .1 .1 .1 .1 .1 .1 .1 .1 .0)
+      (c .read-leaves .result) (c .read-leaves .last .1 .1 .1 .1 .1 .1 .1 .1 .1 .1 .1 .1 .0)
   unfolding u8
   leaves c =
       let k = leaves-field c in
       leaves-did (here k) (some-left k) (c .before .before .is-element .ensures) (leaves-class c .first .ensures)
       (c .before .before .before .count .ensures) (bytes (leaves-loop c)) _ (leaves-leaf c .before .before .if5 .taken)
-      (leaves-room c .if4 .left) (leaf-told (leaves-leaf c)) (c .read-leaves .ensures .0) (c .read-leaves .ensures .1)
+      (room (leaves-room c)) (leaf-told (leaves-leaf c)) (c .read-leaves .ensures .0) (c .read-leaves .ensures .1)
 
   walk-add-used : In-walk t walk-lts.Need-add-used
   walk-add-used c =
@@ -980,7 +1008,7 @@ module _ (t : ℕ) where
       let r = due-behind c .behind .result in
       let w = walk-of (due-loop c) in
       Kept w (role (roleOf (q .role)) (q .width) (q .value) ⨾ left w r) r
-      (merged (l .used) (l .list) (y .last .1 .1 .1 .1 .1 .1 .1 .1 .1 .1 .1 .0)) (l .used + q .used)
+      (merged (l .used) (l .list) (y .last .1 .1 .1 .1 .1 .1 .1 .1 .1 .1 .1 .1 .0)) (l .used + q .used)
       (stateAt (q .place) (q .order) (l .state)) (c .if8 .slots)
   due c =
       leaves-due (leaves (due-leaves c)) (leaves-on c) (here (leaves-field (due-leaves c)) .many) (due-behind c .behind .ensures)
@@ -990,7 +1018,7 @@ module _ (t : ℕ) where
   leaves-fall : (c : AtDue) →
       let l = due-loop c .loop in
       let q = due-leaves c .read-leaves .result in
-      (l .used + 4 ≤ l .used + q .used) × (l .used + q .used ≤ length (l .list))
+      (l .used + wordsPerEntry ≤ l .used + q .used) × (l .used + q .used ≤ length (l .list))
       × (length (l .list) ≡ length (loop-start (due-loop c) .args .list .now))
   leaves-fall c =
       let y = leaves (due-leaves c) in
@@ -1025,7 +1053,7 @@ module _ (t : ℕ) where
       let q = y .result in
       let r = applied-behind c .behind .result in
       let w = walk-of (applied-loop c) in
-      RoleRound w (left w r) r (merged (l .used) (l .list) (y .last .1 .1 .1 .1 .1 .1 .1 .1 .1 .1 .1 .0)) (l .used + q .used)
+      RoleRound w (left w r) r (merged (l .used) (l .list) (y .last .1 .1 .1 .1 .1 .1 .1 .1 .1 .1 .1 .1 .0)) (l .used + q .used)
       (stateAt (q .place) (q .order) (l .state)) (applied-due c .if8 .slots) (c .apply .result) (c .apply .last .1 .1 .1 .1 .0)
   applied c = role-did _ _ _ (due (applied-due c)) (c .before .before .at2 .ensures) (c .apply .ensures)
 
@@ -1097,7 +1125,7 @@ module _ (t : ℕ) where
       slotAt came (slotReadAt (loop-start (holder-loop c) .args .table .now) (holder-class c .first .result)) ≡ x
       → Holder (walk-of (holder-loop c)) (c .taken .result) (l .list) (l .used) (stateAt (l .place) (l .order) (l .state)) came x
   unfolding u8
-  holder c x told = holds-first (holder-round c) (holder-next c) (c .before .if5 .left) (holder-room c .if4 .left) told
+  holder c x told = holds-first (holder-round c) (holder-next c) (c .before .if5 .left) (room (holder-room c)) told
 
   walk-taken-requires : In-walk t walk-lts.Need-taken-requires
   walk-taken-requires c κs =
@@ -1129,7 +1157,7 @@ module _ (t : ℕ) where
         (slot-there k, omega (arith, whole-inside _ _ _ there, o .aligns), o .align),
         (
           (h .framed .begun, omega (arith, h .framed .within, h .framed .ends, h .framed .small)),
-          omega (arith, lent-room (l .used) (l .list), holder-room k .if4 .left),
+          omega (arith, lent-room (l .used) (l .list), room (holder-room k)),
         ),
       )
 
@@ -1186,14 +1214,14 @@ module _ (t : ℕ) where
   walk-add-used-3 : In-walk t walk-lts.Need-add-used-3
   walk-add-used-3 c =
       let past = members-entered c in
-      omega (arith, within (entered-loop past), entered-room past .if4 .left)
+      omega (arith, within (entered-loop past), room (entered-room past))
 
   walk-loop-less-3 : In-walk t walk-lts.Need-loop-less-3
   walk-loop-less-3 c =
       let past = members-entered c in
       let l = entered-loop past .loop in
-      round-falls (length (l .list)) _ (l .used) (l .used + 4) 0 0 (structure past .same ∙ sym (within (entered-loop past) .1))
-      (omega (arith, entered-room past .if4 .left)) (omega arith)
+      round-falls (length (l .list)) _ (l .used) (l .used + wordsPerEntry) 0 0 (structure past .same ∙ sym (within (entered-loop past) .1))
+      (omega (arith, room (entered-room past))) (omega arith)
 
   walk-loop-again-3 : In-walk t walk-lts.Need-loop-again-3
   unfolding u8
@@ -1266,7 +1294,7 @@ module _ (t : ℕ) where
         opens _ _ (h .noted) _ _ (class-there (told-class past)) (k .before .if5 .left),
         (
           (h .framed .begun, omega (arith, h .framed .within, h .framed .ends, h .framed .small)),
-          omega (arith, lent-room (l .used) (l .list), told-room past .if4 .left),
+          omega (arith, lent-room (l .used) (l .list), room (told-room past)),
         ),
       )
 
@@ -1312,7 +1340,8 @@ module _ (t : ℕ) where
       let l = opened-loop (into-opened c) .loop in
       let o = into-opened c .open-field in
       Round (walk-of (opened-loop (into-opened c))) (c .into .result)
-      (merged (l .used) (l .list) (o .last .1 .1 .1 .1 .1 .1 .1 .0)) (l .used + 4) (stateAt (o .result .place) (l .order) (l .state))
+      (merged (l .used) (l .list) (o .last .1 .1 .1 .1 .1 .1 .1 .0)) (l .used + wordsPerEntry)
+      (stateAt (o .result .place) (l .order) (l .state))
       (opened-border (into-opened c) .if1 .slots)
   unfolding u8
   into-round c =
@@ -1323,14 +1352,14 @@ module _ (t : ℕ) where
   walk-add-used-4 : In-walk t walk-lts.Need-add-used-4
   walk-add-used-4 c =
       let past = into-opened c in
-      omega (arith, within (opened-loop past), opened-room past .if4 .left)
+      omega (arith, within (opened-loop past), room (opened-room past))
 
   walk-loop-less-4 : In-walk t walk-lts.Need-loop-less-4
   walk-loop-less-4 c =
       let past = into-opened c in
       let l = opened-loop past .loop in
-      round-falls (length (l .list)) _ (l .used) (l .used + 4) 0 0 (opening past .same ∙ sym (within (opened-loop past) .1))
-      (omega (arith, opened-room past .if4 .left)) (omega arith)
+      round-falls (length (l .list)) _ (l .used) (l .used + wordsPerEntry) 0 0 (opening past .same ∙ sym (within (opened-loop past) .1))
+      (omega (arith, room (opened-room past))) (omega arith)
 
   walk-loop-again-4 : In-walk t walk-lts.Need-loop-again-4
   walk-loop-again-4 c = (opened-loop (into-opened c) .loop .inv .0, into-round c)
@@ -1369,7 +1398,7 @@ module _ (t : ℕ) where
         (
           class-there (told-class past),
           (
-            (k .before .if5 .left, omega (arith, lent-room (l .used) (l .list), told-room past .if4 .left)),
+            (k .before .if5 .left, omega (arith, lent-room (l .used) (l .list), room (told-room past))),
             (h .noted, rw (c .before .at3 .ensures) (h .framed)),
           ),
         ),
@@ -1536,7 +1565,8 @@ pub +read-field+walk+walk-elements+walk-members-spec : {M : Type 1} → statemen
     (walk-at-requires t)
     (walk-same-length t)
     (walk-returns t)
-    (walk-sub-if4 t)
+    (walk-sub-is-full t)
+    (walk-is-full-requires t)
     (walk-refused-requires t)
     (walk-same-length-2 t)
     (walk-returns-2 t)
