@@ -28,7 +28,8 @@ use Rattle.promises.proofs.Roots.{Stops}
 use Rattle.promises.proofs.Homed.{RootsEnd}
 use Rattle.promises.proofs.Fragments.{nil-of, missing-nil, Clean, RootsOf, Front, front, Start, start, behind-first}
 use Rattle.promises.proofs.Fragments.{walk-step, goes-behind}
-use Rattle.promises.specs.Edition.{keep, keepStreams, keepEvents, both, stays, part, leaveRecords, leave, Editions}
+use Rattle.rules.specs.Edition.{both, stays, part, leaveRecords, leave}
+use Rattle.promises.specs.Edition.{keep, keepStreams, keepEvents, Editions}
 
 keepIf : Bool → List ℕ → List ℕ
 keepIf true x = x

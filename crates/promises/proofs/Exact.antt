@@ -37,7 +37,8 @@ use Rattle.laws.specs.All.{All}
 use Rattle.promises.proofs.Each.{Each, _⨾ᵉ_, each-check, each-due, each-change, each-pass}
 use Rattle.promises.proofs.Each.{each-refuse, each-λ, each-listed, FieldEntry, fields-root}
 use Rattle.promises.proofs.Leave.{kept, gone, stream-kept, stream-gone}
-use Rattle.promises.specs.Edition.{keep, keepStreams, keepEvents, both}
+use Rattle.rules.specs.Edition.{both}
+use Rattle.promises.specs.Edition.{keep, keepStreams, keepEvents}
 use Rattle.promises.proofs.Edited.{editions}
 use Rattle.promises.specs.Missing.{goneStream, goneEvent, Lost, under, lost, later, front}
 use Rattle.promises.specs.Missing.{firstLost, missed, Good, Demand3, shortened, Demand3≡}

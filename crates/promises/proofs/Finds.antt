@@ -15,7 +15,7 @@ use Rattle.rules.specs.Opened.{opened}
 use Rattle.promises.specs.Missing.{goneStream, goneEvent, Lost, under, lost, later}
 use Rattle.promises.specs.Missing.{front, firstLost, missed, shortened, Demand3Figures}
 use Rattle.promises.proofs.Exact.{KeptOrGone, latest, Less, sim-stream}
-use Rattle.promises.specs.Edition.{both, stays, part, leaveRecords, leave}
+use Rattle.rules.specs.Edition.{both, stays, part, leaveRecords, leave}
 
 some-some : {A : Type 0} (a b : A) → some a ≡ some b → a ≡ b
 some-some a b h = cc

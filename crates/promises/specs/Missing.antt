@@ -18,7 +18,7 @@ use Rattle.rules.specs.Parse.{checked}
 use Rattle.rules.specs.Read.{Reading, readAll, resultOf}
 use Rattle.promises.specs.Figures.{table40, stream1}
 use Rattle.promises.specs.Cases.{payload, structure, string, eventClass, root}
-use Rattle.promises.specs.Edition.{both, leave}
+use Rattle.rules.specs.Edition.{both, leave}
 
 -- an entry of a list, by its number from 0, and the refusal that names the class of which it is the finding
 pub record Lost : Type 0 where
