@@ -1,0 +1,95 @@
+// What is printed.
+use libc::STDOUT_FILENO;
+use numbers::faults;
+use rules::Bundled;
+use rules::Result;
+
+// The answer in numbers; says whether the streams were read.
+pub(crate) fn say_bundled(bundled: Bundled) -> bool {
+    match bundled {
+        Bundled::Written(length) => {
+            say_three(0, length.0 as u64, 0);
+            true
+        }
+        Bundled::TableRefused(number, byte) => {
+            say_three(faults::TABLE_REFUSED, byte.0 as u64, number as u64);
+            false
+        }
+        Bundled::TooManyStreams => {
+            say_three(faults::TOO_MANY_STREAMS, 0, 0);
+            false
+        }
+        Bundled::ShortBuffer(length) => {
+            say_three(faults::SHORT_BUFFER, length.0 as u64, 0);
+            true
+        }
+    }
+}
+
+fn say_three(number: u8, length: u64, id: u64) {
+    say_number(number as u64, b" ");
+    say_number(length, b" ");
+    say_number(id, b"\n");
+}
+
+pub(crate) fn say_result(r: Result) {
+    say_number(r.number as u64, b" ");
+    say_number(r.entries as u64, b" ");
+    say_number(r.place, b" ");
+    say_number(r.first, b" ");
+    say_number(r.second, b"\n");
+}
+
+pub(crate) fn say_words(words: &[u64]) {
+    let mut i = 0;
+    while i < words.len() {
+        say_number(words[i], b" ");
+        i += 1;
+    }
+    say(b"\n");
+}
+
+// Two digits a byte, 32 bytes at a time.
+pub(crate) fn say_bytes(bytes: &[u8]) {
+    let mut text = [0u8; 64];
+    let mut n = 0;
+    let mut i = 0;
+    while i < bytes.len() {
+        text[n] = digit(bytes[i] / 16);
+        text[n + 1] = digit(bytes[i] % 16);
+        n += 2;
+        if n > 62 {
+            say(&text[..n]);
+            n = 0;
+        }
+        i += 1;
+    }
+    say(&text[..n]);
+    say(b"\n");
+}
+
+fn digit(n: u8) -> u8
+    requires { ⌜ n < 16 ⌝ }
+{
+    if n < 10 { b'0' + n } else { b'a' - 10 + n }
+}
+
+// A number and what stands behind it.
+fn say_number(n: u64, behind: &[u8]) {
+    io::print_decimal(STDOUT_FILENO, n);
+    say(behind);
+}
+
+pub(crate) fn cut_short() -> bool {
+    say(b"the case is cut short\n");
+    false
+}
+
+pub(crate) fn too_long() -> bool {
+    say(b"the case is too long\n");
+    false
+}
+
+pub(crate) fn say(words: &[u8]) {
+    io::write_all(STDOUT_FILENO, words);
+}
