@@ -102,8 +102,18 @@ pub extern "C" fn trevoskel_bundle(
 {
     match bundle(table, streams, lengths, rooms, list, out) {
         Bundled::Written(length) => answer_bundle(0, length, 0, result),
-        Bundled::TableRefused(number, byte) => answer_bundle(faults::TABLE_REFUSED, byte, number, result),
-        Bundled::TooManyStreams => answer_bundle(faults::TOO_MANY_STREAMS, ByteLength(0), 0, result),
+        Bundled::TableRefused(number, byte) => answer_bundle(
+            faults::TABLE_REFUSED,
+            byte,
+            number,
+            result,
+        ),
+        Bundled::TooManyStreams => answer_bundle(
+            faults::TOO_MANY_STREAMS,
+            ByteLength(0),
+            0,
+            result,
+        ),
         Bundled::ShortBuffer(length) => answer_bundle(faults::SHORT_BUFFER, length, 0, result),
     }
 }

@@ -19,7 +19,11 @@ pub(crate) fn next_number() -> Next {
 
 // Within a case. One that is not there is 0: what the case lends behind it is not there then, and that is said.
 pub(crate) fn number() -> usize {
-    if let Next::Number(n) = next_number() { n } else { 0 }
+    if let Next::Number(n) = next_number() {
+        n
+    } else {
+        0
+    }
 }
 
 fn four(a: u8, b: u8, c: u8, d: u8) -> usize {

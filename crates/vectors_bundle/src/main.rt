@@ -64,11 +64,27 @@ fn answer_case(whole: bool) -> bool {
     let mut list_rooms = [0u64; PARTS];
     read_parts(larger(streams, rooms), &mut lengths, &mut list_rooms);
     if whole {
-        return answer_parts(table, &lengths[..streams], &list_rooms[..rooms], bytes, words, buffer, whole);
+        return answer_parts(
+            table,
+            &lengths[..streams],
+            &list_rooms[..rooms],
+            bytes,
+            words,
+            buffer,
+            whole,
+        );
     }
     let all_bytes = sum(&lengths);
     let all_words = sum(&list_rooms);
-    answer_parts(table, &lengths[..streams], &list_rooms[..rooms], all_bytes, all_words, buffer, whole)
+    answer_parts(
+        table,
+        &lengths[..streams],
+        &list_rooms[..rooms],
+        all_bytes,
+        all_words,
+        buffer,
+        whole,
+    )
 }
 
 // What the head says only of a whole case.
@@ -105,7 +121,11 @@ fn answer_parts(
     let mut streams = io::large_buffer();
     let mut list = list_room();
     let mut buffer = table_room();
-    if TABLE_ROOM < table_bytes || STREAM_ROOM < stream_bytes || LIST_ROOM < list_words || TABLE_ROOM < buffer_bytes {
+    if TABLE_ROOM < table_bytes
+        || STREAM_ROOM < stream_bytes
+        || LIST_ROOM < list_words
+        || TABLE_ROOM < buffer_bytes
+    {
         return too_long();
     }
     if !fill(&mut table[..table_bytes]) {
