@@ -133,23 +133,31 @@ pasted x old out y n e k h =
     let far : drop (n + e) out ≡ drop (n + e) old = behind-front x old out n (n + e) k h (omega arith) in
     rw (front, far)
 
-module _ {t : List ℕ} where
-  -- the preamble is put
-  first-put : {n : ℕ} {old out : List ℕ} → n ≡ length (take 2 t) → out ≡ paste old 0 (drop 0 t) n → out ≡ take 2 t ++ drop n old
-  first-put {n} {old} e k =
-      let own : take n t ≡ take 2 t = ap (λ i. take i t) e ∙ take-own 2 t in
-      k ∙ rw (zero-add n, own)
+-- the preamble is put into an old buffer; it has n bytes
+pub record Begun (t old out : List ℕ) (n : ℕ) : Type 0 where
+  pub size : n ≡ length (take 2 t)
+  pub list : out ≡ take 2 t ++ drop n old
+
+pub begun : {n : ℕ} (t old out : List ℕ) → n ≡ length (take 2 t) → out ≡ paste old 0 (drop 0 t) n → Begun t old out n
+begun {n} t old out e k =
+    let own : take n t ≡ take 2 t = ap (λ i. take i t) e ∙ take-own 2 t in
+    record { size = e; list = k ∙ rw (zero-add n, own) }
+
+-- what stays begins with the preamble
+first-fits : (t m : List ℕ) → length (take 2 t) ≤ length (kept t m)
+unfolding kept
+first-fits t m = omega (arith, length-append (take 2 t) (keptFrom t m (fragmentsOf t)))
+
+pub preamble-fits : {n room : ℕ} (t m : List ℕ) → n ≡ length (take 2 t) → length (kept t m) ≤ room → (0 + n ≤ length t) × (0 + n ≤ room)
+preamble-fits t m e l = (omega (arith, e, length-take 2 t), omega (arith, e, first-fits t m))
 
 module _ {t s m : List ℕ} where
-  pub copy-start : {n : ℕ} {old out : List ℕ} → Sized t s → n ≡ length (take 2 t) → out ≡ paste old 0 (drop 0 t) n
-      → Copying t s m out out 2 n
-  copy-start {n} {old} {out} h e k =
-      let put = first-put e k in
-      record {
-        done = take 2 t;
-        walked = walk-start h e;
-        list = put ∙ ap (λ y. take 2 t ++ y) (sym (behind-front (take 2 t) old out n n e put (omega arith)));
-      }
+  pub copy-start : {n : ℕ} {old out : List ℕ} → Sized t s → Begun t old out n → Copying t s m out out 2 n
+  copy-start {n} {old} {out} h b = record {
+    done = take 2 t;
+    walked = walk-start h (b .size);
+    list = b .list ∙ ap (λ y. take 2 t ++ y) (sym (behind-front (take 2 t) old out n n (b .size) (b .list) (omega arith)));
+  }
 
   pub copy-next : {old out out′ : List ℕ} {at to e k : ℕ} → at < length t → Copying t s m old out at to → e ≡ length (keptOne t m at)
       → k ≡ getD s at 0 → out′ ≡ paste out to (drop at t) e → Copying t s m old out′ (at + k) (to + e)
@@ -162,17 +170,20 @@ module _ {t s m : List ℕ} where
       }
 
   -- the buffer keeps its length
-  pub copy-length : {old out : List ℕ} {at to : ℕ} → length (kept t m) ≤ length old → Copying t s m old out at to → length out ≡ length old
-  copy-length {old} {out} {at} {to} l h =
-      let n = walk-some (h .walked) in
-      omega (arith, ap length (h .list), length-append (h .done) (drop to old), length-drop to old, h .walked .size)
+  pub copy-length : {old first out : List ℕ} {n at to : ℕ} → length (kept t m) ≤ length old → Begun t old first n
+      → Copying t s m first out at to → length out ≡ length old
+  copy-length {old} {first} {out} {n} {at} {to} l b h =
+      let few : n ≤ length old = omega (arith, b .size, first-fits t m) in
+      let some : to ≤ length old = omega (arith, walk-some (h .walked)) in
+      let was : length first ≡ length old =
+      ap length (b .list) ∙ omega (arith, length-append (take 2 t) (drop n old), length-drop n old, b .size) in
+      ap length (h .list) ∙ omega (arith, length-append (h .done) (drop to first), length-drop to first, h .walked .size)
 
-  -- over a buffer in which the preamble was put
-  pub copy-end : {old first out : List ℕ} {n at to : ℕ} → n ≡ length (take 2 t) → first ≡ paste old 0 (drop 0 t) n → length t ≤ at
-      → Copying t s m first out at to → out ≡ kept t m ++ drop (length (kept t m)) old
-  unfolding kept
-  copy-end {old} {first} {out} {n} {at} {to} e k l h =
-      let all = walk-end l (h .walked) in
+  pub copy-end : {old first out : List ℕ} {n at to : ℕ} → length t ≤ at → Begun t old first n → Copying t s m first out at to
+      → out ≡ kept t m ++ drop (length (kept t m)) old
+  copy-end {old} {first} {out} {n} {at} {to} l b h =
+      let all : kept t m ≡ h .done = walk-end l (h .walked) in
       let size : to ≡ length (kept t m) = h .walked .size ∙ ap length (sym all) in
-      let low : n ≤ length (kept t m) = omega (arith, e, length-append (take 2 t) (keptFrom t m (fragmentsOf t))) in
-      h .list ∙ rw (← all, size) (ap (λ y. kept t m ++ y) (behind-front (take 2 t) old first n (length (kept t m)) e (first-put e k) low))
+      let low : n ≤ length (kept t m) = omega (arith, b .size, first-fits t m) in
+      let rest = behind-front (take 2 t) old first n (length (kept t m)) (b .size) (b .list) low in
+      h .list ∙ rw (← all, size) (ap (λ y. kept t m ++ y) rest)
