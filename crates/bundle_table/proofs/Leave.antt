@@ -5,27 +5,24 @@ use Prim.Native.Nat.{ℕ, zero, suc, _+_, _-_, _≤_, _<_}
 use native.Mathlib.Omega.{arith}
 use mathlib.Core.List.{List, [], _∷_, _++_, append-assoc}
 use mathlib.Core.Bool.{Bool, true, false}
-use mathlib.Core.Logic.{⊎-elim}
 use lib.Dec.{ltb, eqb→eq}
-use lib.ListN.{length, getD, take, drop, length-drop, drop-of-length-le, List·getD-eq-default}
+use lib.ListN.{length, take, drop, drop-of-length-le}
 use lib.Seq.{drop-cons, drop-drop, take-add}
-use borrow.Author.Tests.{ltb-true, ltb-false}
+use borrow.Author.Tests.{ltb-false}
 use Rattle.rules.specs.declared.ByteLength.{ByteLength}
 use Rattle.rules.specs.declared.Checked.the-variants.{Accepted}
 use Rattle.rules.specs.Record.{Record, unknown, fragment, root, class, range, option, Fragment as Opening, preamble, traceClass, clockClass}
-use Rattle.rules.specs.Record.{streamClass, eventClass, u8, u64, layouts, recordOf, size, behind}
+use Rattle.rules.specs.Record.{streamClass, eventClass, u8, u64, layouts, recordOf, size}
 use Rattle.rules.specs.Parse.{missing, checked}
-use Rattle.rules.specs.Edition.{both, stays, part, leaveRecords, leave}
+use Rattle.rules.specs.Edition.{stays, part, leaveRecords, leave}
 use Rattle.facts.proofs.Cases.{_▷_, below}
-use Rattle.facts.proofs.Numbers.{lt-or-ge}
 use Rattle.class_layout.specs.Numbers.{nextRecord}
-use Rattle.class_layout.specs.Fragments.{openingSize, rootsOf, behindFragment, fragmentsFrom, fragmentsOf, Fragment, All, AllFragments}
+use Rattle.class_layout.specs.Fragments.{rootsOf, behindFragment, fragmentsFrom, fragmentsOf, Fragment, All, AllFragments}
 use Rattle.class_layout.proofs.Records.{fragmentKind, ofKind, kind-of, record-at, size-at, number-body, behind-at}
 use Rattle.class_layout.proofs.Numbers.{Row, next-onward}
 use Rattle.class_layout.proofs.RootNumbers.{recordsBefore, opening-bytes, roots-passed}
 use Rattle.class_layout.proofs.Asked.{checked-accepts}
-use Rattle.class_layout.proofs.Ahead.{none-left}
-use Rattle.bundle_table.specs.Kept.{marked, stood, bytesOf, keptOne, keptFrom, kept, Mark, Marks}
+use Rattle.bundle_table.specs.Kept.{stood, bytesOf, keptOne, keptFrom, kept, Mark, Marks}
 use Rattle.bundle_table.proofs.One.{stream-stood, event-stood, other-stood}
 
 abbrev keepIf : Bool → List ℕ → List ℕ
@@ -42,10 +39,12 @@ keep-both false u v z = refl
 -- bytes from p up to q, and from there up to r
 parts-join : (t : List ℕ) (p q r : ℕ) → p ≤ q → q ≤ r → take (q - p) (drop p t) ++ take (r - q) (drop q t) ≡ take (r - p) (drop p t)
 parts-join t p q r h l =
-    let there : drop (q - p) (drop p t) ≡ drop q t = (let e : p + (q - p) ≡ q = omega arith in rw e at (drop-drop (q - p) p t)) in
+    let far : p + (q - p) ≡ q = omega arith in
+    let rest : drop (q - p) (drop p t) ≡ drop q t = rw far at (drop-drop (q - p) p t) in
     let all : q - p + (r - q) ≡ r - p = omega arith in
-    rw (← there, ← take-add (q - p) (r - q) (drop p t), all)
+    rw (← rest, ← take-add (q - p) (r - q) (drop p t), all)
 
+-- a record begins before the table's end
 there : (t : List ℕ) (p : ℕ) → p < length t → missing (drop p t) ≡ false
 unfolding missing
 there t p l = rw (drop-cons t p 0 l)
@@ -66,7 +65,7 @@ module _ (ks : ℕ → Bool) (ke : ℕ → ℕ → Bool) where
       let own : nextRecord t p - p ≡ size (drop p t) = omega arith in
       rw (there t p l, leaveRecords, e, behind-at t p, part-keeps s (drop p t), own)
 
-  -- A row of records
+  -- A row of records that open no fragment
 
   fragment-low : (g : Opening) → fragmentKind g ≤ 5
   unfolding fragmentKind
@@ -76,7 +75,7 @@ module _ (ks : ℕ → Bool) (ke : ℕ → ℕ → Bool) where
   fragment-low (streamClass i c) = omega arith
   fragment-low (eventClass i j) = omega arith
 
-  -- a record that opens no fragment stays as the one before it
+  -- each stays as the one before it
   plain-stays : (t : List ℕ) (p : ℕ) (now : Bool) → 5 < u8 t p → stays ks ke now (recordOf (drop p t)) ≡ now
   unfolding stays ofKind
   plain-stays t p now l = by (recordOf (drop p t)) refl

@@ -71,7 +71,7 @@ loop-holds c =
 kept-size-requires : tie.Need-kept-size-requires Inv-loop μ-loop
 kept-size-requires c κs =
     let p = given c .pre in
-    (walk-here (c .loop-test .taken) (c .before .loop .inv .walked), p .0 .limit, p .0 .room, p .1)
+    (p .0, walk-here (c .loop-test .taken) (c .before .loop .inv .walked), p .1)
 
 copy-requires-2 : tie.Need-copy-requires-2 Inv-loop μ-loop
 copy-requires-2 c κs =
@@ -113,7 +113,8 @@ same-length c = kept-room (c .before)
 returns : tie.Need-returns Inv-loop μ-loop
 returns c =
     let b = c .before .before in
-    copy-end (c .loop-test .left) (begun _ _ _ (counted b .preamble-size .ensures) (b .before .before .copy .ensures)) (c .before .loop .inv)
+    copy-end (c .loop-test .left) (begun _ _ _ (counted b .preamble-size .ensures) (b .before .before .copy .ensures))
+    (c .before .loop .inv)
 
 pub copy-kept-spec : {M : Type 1} → statement M
 copy-kept-spec =

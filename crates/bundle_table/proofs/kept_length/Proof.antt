@@ -1,5 +1,4 @@
 -- The invariant: what stays is so many bytes, and what stays of the fragments ahead. The measure: the bytes left.
-use mathlib.Core.Path.{ap, sym, _∙_}
 use Prim.Native.Nat.{_-_}
 use native.Mathlib.Omega.{arith}
 use lib.ListN.{length}
@@ -13,11 +12,7 @@ Inv-loop table sizes marks count₀ at₀ count at = Counting table sizes marks 
 abbrev μ-loop : tie.MeasureT-loop
 μ-loop table sizes marks count₀ at₀ count at = length table - at
 
--- Places of the code, and the way back
-
-abbrev AtFragment : Type 0
-AtFragment = tie.In-loop Inv-loop μ-loop
-
+-- the way back
 abbrev start : tie.At-loop Inv-loop μ-loop → tie.Start Inv-loop μ-loop
 start c = c .before .before .before .before .before
 
@@ -32,7 +27,7 @@ loop-holds c = count-start (c .before .before .before .before .pre .0) (c .pream
 kept-size-requires : tie.Need-kept-size-requires Inv-loop μ-loop
 kept-size-requires c κs =
     let p = start (c .before) .pre in
-    (walk-here (c .loop-test .taken) (c .before .loop .inv .walked), p .0 .limit, p .0 .room, p .1)
+    (p .0, walk-here (c .loop-test .taken) (c .before .loop .inv .walked), p .1)
 
 add-count : tie.Need-add-count Inv-loop μ-loop
 add-count c =
