@@ -3,7 +3,7 @@ use mathlib.Core.Path.{_≡_}
 use Prim.Native.Nat.{ℕ, _+_, _-_}
 use mathlib.Core.List.{List, [], _∷_, _++_}
 use mathlib.Core.Bool.{Bool, true, false}
-use lib.ListN.{getD, take, drop}
+use lib.ListN.{length, getD, take, drop}
 use lib.Dec.{ltb, eqb}
 use Rattle.rules.specs.Record.{u8, u64}
 use Rattle.rules.specs.Edition.{both}
@@ -33,6 +33,10 @@ keptFrom t m (o ∷ os) = keptOne t m o ++ keptFrom t m os
 -- the preamble, and what stays behind it
 unfoldable pub kept : List ℕ → List ℕ → List ℕ
 kept t m = take 2 t ++ keptFrom t m (fragmentsOf t)
+
+-- a buffer with these bytes in its front, and as it was behind them
+abbrev pub inFront : List ℕ → List ℕ → List ℕ
+inFront x old = x ++ drop (length x) old
 
 -- The marks are those of the ids that stay, as `leave` is told them (rules, Edition)
 

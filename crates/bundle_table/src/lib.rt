@@ -7,11 +7,10 @@ use table_bytes::size_at;
 use table_records::bodies::PREAMBLE_SIZE;
 ghost use mathlib.Core.Path.{_≡_};
 ghost use Prim.Native.Nat.{_+_, _≤_, _<_};
-ghost use mathlib.Core.List.{_++_};
 ghost use lib.ListN.{length, take, drop};
 ghost use lib.Seq.{paste};
 ghost use Rattle.class_layout.specs.Sizes.{Sized, SizedFragment};
-ghost use Rattle.bundle_table.specs.Kept.{stood, keptOne, kept};
+ghost use Rattle.bundle_table.specs.Kept.{stood, keptOne, kept, inFront};
 
 // How many bytes stay.
 pub fn kept_length(table: &[u8], sizes: &[u16], marks: &[u8]) -> usize
@@ -29,8 +28,9 @@ pub fn kept_length(table: &[u8], sizes: &[u16], marks: &[u8]) -> usize
 
 // Puts what stays into a buffer, from its front; the bytes behind it stay as they came.
 pub fn copy_kept(table: &[u8], sizes: &[u16], marks: &[u8], out: &mut [u8])
-    requires { ⌜ (Sized (now table) (now sizes)) × (length (now marks) ≡ 65536) × (length (kept (now table) (now marks)) ≤ length (now out)) ⌝ }
-    ensures { λ _. ⌜ now (out .exit) ≡ kept (now (table .entry)) (now (marks .entry)) ++ drop (length (kept (now (table .entry)) (now (marks .entry)))) (now (out .entry)) ⌝ }
+    requires { ⌜ (Sized (now table) (now sizes)) × (length (now marks) ≡ 65536)
+        × (length (kept (now table) (now marks)) ≤ length (now out)) ⌝ }
+    ensures { λ _. ⌜ now (out .exit) ≡ inFront (kept (now (table .entry)) (now (marks .entry))) (now (out .entry)) ⌝ }
 {
     let mut to = preamble_size(table);
     copy(table, 0, to, out, 0);
@@ -55,7 +55,7 @@ fn preamble_size(table: &[u8]) -> usize
 
 // How many bytes of a fragment stay: all, or none.
 fn kept_size(table: &[u8], sizes: &[u16], marks: &[u8], fragment: usize) -> usize
-    requires { ⌜ (SizedFragment (now table) (now sizes) fragment) × (length (now table) ≤ 65536) × (length (now table) ≤ length (now sizes)) × (length (now marks) ≡ 65536) ⌝ }
+    requires { ⌜ (Sized (now table) (now sizes)) × (SizedFragment (now table) (now sizes) fragment) × (length (now marks) ≡ 65536) ⌝ }
     ensures { λ r. ⌜ r ≡ length (keptOne (now (table .entry)) (now (marks .entry)) fragment) ⌝ }
 {
     if stays(table, marks, fragment) {

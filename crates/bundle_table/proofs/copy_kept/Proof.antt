@@ -36,23 +36,23 @@ AtPut = tie.After-slice-known3 Inv-loop μ-loop
 
 -- The way back
 
-abbrev start : AtCounted → tie.Start Inv-loop μ-loop
-start c = c .before .before .before .before .before
+abbrev to-start : AtCounted → tie.Start Inv-loop μ-loop
+to-start c = c .before .before .before .before .before
 
-abbrev counted : AtBegun → AtCounted
-counted c = c .before .before .before .before
+abbrev to-counted : AtBegun → AtCounted
+to-counted c = c .before .before .before .before
 
-abbrev given : AtFragment → tie.Start Inv-loop μ-loop
-given c = start (counted (c .before .before))
+abbrev to-given : AtFragment → tie.Start Inv-loop μ-loop
+to-given c = to-start (to-counted (c .before .before))
 
-abbrev kept : AtPut → AtKept
-kept c = c .before .before .before .before
+abbrev to-kept : AtPut → AtKept
+to-kept c = c .before .before .before .before
 
 -- the buffer has kept its length
-kept-room : (c : AtLoop) → length (c .loop .out) ≡ length (start (counted (c .before)) .args .out .now)
+kept-room : (c : AtLoop) → length (c .loop .out) ≡ length (to-start (to-counted (c .before)) .args .out .now)
 kept-room c =
     let b = c .before in
-    copy-length (start (counted b) .pre .2) (begun _ _ _ (counted b .preamble-size .ensures) (b .before .before .copy .ensures))
+    copy-length (to-start (to-counted b) .pre .2) (begun _ _ _ (to-counted b .preamble-size .ensures) (b .before .before .copy .ensures))
     (c .loop .inv)
 
 -- The needs
@@ -61,48 +61,48 @@ preamble-size-requires : tie.Need-preamble-size-requires Inv-loop μ-loop
 preamble-size-requires c κs = tt
 
 copy-requires : tie.Need-copy-requires Inv-loop μ-loop
-copy-requires c κs = preamble-fits _ _ (c .before .preamble-size .ensures) (start (c .before) .pre .2)
+copy-requires c κs = preamble-fits _ _ (c .before .preamble-size .ensures) (to-start (c .before) .pre .2)
 
 loop-holds : tie.Need-loop-holds Inv-loop μ-loop
 loop-holds c =
-    let p = counted c in
-    copy-start (start p .pre .0) (begun _ _ _ (p .preamble-size .ensures) (c .before .before .copy .ensures))
+    let p = to-counted c in
+    copy-start (to-start p .pre .0) (begun _ _ _ (p .preamble-size .ensures) (c .before .before .copy .ensures))
 
 kept-size-requires : tie.Need-kept-size-requires Inv-loop μ-loop
 kept-size-requires c κs =
-    let p = given c .pre in
-    (walk-here (c .loop-test .taken) (c .before .loop .inv .walked), p .0 .limit, p .0 .room, p .1)
+    let p = to-given c .pre in
+    (p .0, walk-here (c .loop-test .taken) (c .before .loop .inv .walked), p .1)
 
 copy-requires-2 : tie.Need-copy-requires-2 Inv-loop μ-loop
 copy-requires-2 c κs =
     let k = c .before in
     let l = k .before .before in
     let f = walk-fits (k .before .loop-test .taken) (l .loop .inv .walked) (k .kept-size .ensures) in
-    (f .1, omega (arith, f .0, kept-room l, given (k .before) .pre .2))
+    (f .1, omega (arith, f .0, kept-room l, to-given (k .before) .pre .2))
 
 add-to : tie.Need-add-to Inv-loop μ-loop
 add-to c =
-    let k = kept c in
+    let k = to-kept c in
     let f = k .before in
     let w = f .before .loop .inv .walked in
-    omega (arith, w .small, walk-fits (f .loop-test .taken) w (k .kept-size .ensures) .1, given f .pre .0 .limit)
+    omega (arith, w .small, walk-fits (f .loop-test .taken) w (k .kept-size .ensures) .1, to-given f .pre .0 .limit)
 
 size-at-requires : tie.Need-size-at-requires Inv-loop μ-loop
-size-at-requires c κs = let f = kept c .before in omega (arith, given f .pre .0 .room, f .loop-test .taken)
+size-at-requires c κs = let f = to-kept c .before in omega (arith, to-given f .pre .0 .room, f .loop-test .taken)
 
 add-at : tie.Need-add-at Inv-loop μ-loop
 add-at c =
-    let f = kept (c .before) .before in
-    omega (arith, given f .pre .0 .limit, f .loop-test .taken, c .size-at .ensures .1)
+    let f = to-kept (c .before) .before in
+    omega (arith, to-given f .pre .0 .limit, f .loop-test .taken, c .size-at .ensures .1)
 
 loop-less : tie.Need-loop-less Inv-loop μ-loop
 loop-less c =
-    let f = kept (c .before) .before in
+    let f = to-kept (c .before) .before in
     omega (arith, walk-onward (f .loop-test .taken) (f .before .loop .inv .walked) (c .size-at .ensures .0))
 
 loop-again : tie.Need-loop-again Inv-loop μ-loop
 loop-again c =
-    let k = kept (c .before) in
+    let k = to-kept (c .before) in
     let f = k .before in
     copy-next (f .loop-test .taken) (f .before .loop .inv) (k .kept-size .ensures) (c .size-at .ensures .0)
     (c .before .before .before .copy2 .ensures)
@@ -113,7 +113,8 @@ same-length c = kept-room (c .before)
 returns : tie.Need-returns Inv-loop μ-loop
 returns c =
     let b = c .before .before in
-    copy-end (c .loop-test .left) (begun _ _ _ (counted b .preamble-size .ensures) (b .before .before .copy .ensures)) (c .before .loop .inv)
+    copy-end (c .loop-test .left) (begun _ _ _ (to-counted b .preamble-size .ensures) (b .before .before .copy .ensures))
+    (c .before .loop .inv)
 
 pub copy-kept-spec : {M : Type 1} → statement M
 copy-kept-spec =

@@ -1,5 +1,4 @@
 -- The invariant: what stays is so many bytes, and what stays of the fragments ahead. The measure: the bytes left.
-use mathlib.Core.Path.{ap, sym, _∙_}
 use Prim.Native.Nat.{_-_}
 use native.Mathlib.Omega.{arith}
 use lib.ListN.{length}
@@ -13,13 +12,9 @@ Inv-loop table sizes marks count₀ at₀ count at = Counting table sizes marks 
 abbrev μ-loop : tie.MeasureT-loop
 μ-loop table sizes marks count₀ at₀ count at = length table - at
 
--- Places of the code, and the way back
-
-abbrev AtFragment : Type 0
-AtFragment = tie.In-loop Inv-loop μ-loop
-
-abbrev start : tie.At-loop Inv-loop μ-loop → tie.Start Inv-loop μ-loop
-start c = c .before .before .before .before .before
+-- the way back
+abbrev to-start : tie.At-loop Inv-loop μ-loop → tie.Start Inv-loop μ-loop
+to-start c = c .before .before .before .before .before
 
 -- The needs
 
@@ -31,22 +26,22 @@ loop-holds c = count-start (c .before .before .before .before .pre .0) (c .pream
 
 kept-size-requires : tie.Need-kept-size-requires Inv-loop μ-loop
 kept-size-requires c κs =
-    let p = start (c .before) .pre in
-    (walk-here (c .loop-test .taken) (c .before .loop .inv .walked), p .0 .limit, p .0 .room, p .1)
+    let p = to-start (c .before) .pre in
+    (p .0, walk-here (c .loop-test .taken) (c .before .loop .inv .walked), p .1)
 
 add-count : tie.Need-add-count Inv-loop μ-loop
 add-count c =
     let f = c .before in
     let w = f .before .loop .inv .walked in
-    omega (arith, w .small, walk-fits (f .loop-test .taken) w (c .kept-size .ensures) .1, start (f .before) .pre .0 .limit)
+    omega (arith, w .small, walk-fits (f .loop-test .taken) w (c .kept-size .ensures) .1, to-start (f .before) .pre .0 .limit)
 
 size-at-requires : tie.Need-size-at-requires Inv-loop μ-loop
-size-at-requires c κs = omega (arith, start (c .before .before) .pre .0 .room, c .before .loop-test .taken)
+size-at-requires c κs = omega (arith, to-start (c .before .before) .pre .0 .room, c .before .loop-test .taken)
 
 add-at : tie.Need-add-at Inv-loop μ-loop
 add-at c =
     let f = c .before .before in
-    omega (arith, start (f .before) .pre .0 .limit, f .loop-test .taken, c .size-at .ensures .1)
+    omega (arith, to-start (f .before) .pre .0 .limit, f .loop-test .taken, c .size-at .ensures .1)
 
 loop-less : tie.Need-loop-less Inv-loop μ-loop
 loop-less c =
