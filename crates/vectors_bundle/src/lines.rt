@@ -56,7 +56,7 @@ pub(crate) fn say_bytes(bytes: &[u8]) {
     let mut i = 0;
     while i < bytes.len() {
         text[n] = digit(bytes[i] / 16);
-        text[n + 1] = digit(bytes[i] % 16);
+        text[n + 1] = digit(bytes[i]);
         n += 2;
         if n > 62 {
             say(&text[..n]);
@@ -68,10 +68,14 @@ pub(crate) fn say_bytes(bytes: &[u8]) {
     say(b"\n");
 }
 
-fn digit(n: u8) -> u8
-    requires { ⌜ n < 16 ⌝ }
-{
-    if n < 10 { b'0' + n } else { b'a' - 10 + n }
+// The last of a number's digits.
+fn digit(n: u8) -> u8 {
+    let last = n % 16;
+    if last < 10 {
+        b'0' + last
+    } else {
+        b'a' - 10 + last
+    }
 }
 
 // A number and what stands behind it.
