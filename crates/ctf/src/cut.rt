@@ -39,56 +39,123 @@ pub(crate) fn cut_loaded(table: &[u8], count: usize, list: &mut [u64]) {
     let mut rooms = [0u64; LENGTHS];
     if BUNDLE_LIMIT < count {
         // no stream is looked at: 20, or else 44
-        cut_streams(table, &streams[0..0], &lengths, &rooms, list);
+        cut_first(table, &streams[0..0], &lengths, &rooms, LENGTHS, list);
         return;
     }
     if load_streams(table, count, &mut streams, &mut lengths, &mut rooms, list) {
-        cut_streams(table, &streams, &lengths[..count], &rooms[..count], list);
+        cut_first(table, &streams, &lengths, &rooms, count, list);
     }
+}
+
+// By the first so many of the lengths and rooms.
+fn cut_first(
+    table: &[u8],
+    streams: &[u8],
+    lengths: &[u64; LENGTHS],
+    rooms: &[u64; LENGTHS],
+    count: usize,
+    list: &mut [u64],
+) {
+    let all_lengths = &lengths[..];
+    let all_rooms = &rooms[..];
+    // nobody asks for more than there are: this never comes
+    if all_lengths.len() < count || all_rooms.len() < count {
+        return;
+    }
+    let mut short = file_room();
+    cut_streams(
+        table,
+        streams,
+        &all_lengths[..count],
+        &all_rooms[..count],
+        list,
+        &mut short,
+    );
 }
 
 // Puts the streams one behind another, and gives each list as many words as its reading takes. Where that fails, it has said so.
 fn load_streams(
     table: &[u8],
     count: usize,
-    streams: &mut [u8; ALL_STREAMS],
+    streams: &mut [u8],
     lengths: &mut [u64; LENGTHS],
     rooms: &mut [u64; LENGTHS],
     list: &mut [u64],
 ) -> bool
-    requires { ⌜ count ≤ 16 ⌝ }
+    requires { ⌜ (count ≤ 16) × (1048577 ≤ length (now streams)) ⌝ }
 {
     let mut at = 0;
     let mut used = 0;
     let mut i = 0;
     while i < count {
-        let filled = load(FIRST_STREAM + i, &mut streams[at..at + STREAM_AND_ONE]);
-        if filled.failed {
+        let one = load_stream(
+            table,
+            i,
+            &mut streams[at..at + STREAM_AND_ONE],
+            &mut list[used..],
+        );
+        if one.failed {
             return false;
         }
-        let bytes = filled.bytes;
-        if STREAM_ROOM < bytes {
-            tell_too_long(i);
-            return false;
-        }
-        let r = reader::read(table, &streams[at..at + bytes], &mut list[used..]);
-        let entries = r.entries;
-        if r.number == LIST_FULL || (list.len() - used) / WORDS_PER_ENTRY < entries {
-            tell_too_many(i);
-            return false;
-        }
-        lengths[i] = bytes as u64;
-        rooms[i] = (entries * WORDS_PER_ENTRY) as u64;
-        at += bytes;
-        used += entries * WORDS_PER_ENTRY;
+        lengths[i] = one.bytes as u64;
+        rooms[i] = one.words as u64;
+        at += one.bytes;
+        used += one.words;
         i += 1;
     }
     true
 }
 
+// What a stream takes: bytes, and words of a list.
+struct Taken {
+    bytes: usize,
+    words: usize,
+    failed: bool,
+}
+
+fn load_stream(table: &[u8], i: usize, room: &mut [u8], list: &mut [u64]) -> Taken
+    requires { ⌜ i ≤ 16 ⌝ }
+    ensures { λ r. ⌜ (r .bytes ≤ 65536) × (r .words ≤ length (now (list .exit))) ⌝ }
+{
+    let filled = load(FIRST_STREAM + i, room);
+    if filled.failed {
+        return no_stream();
+    }
+    let bytes = filled.bytes;
+    if STREAM_ROOM < bytes {
+        tell_too_long(i + 1);
+        return no_stream();
+    }
+    let r = reader::read(table, &room[..bytes], list);
+    let entries = r.entries;
+    if r.number == LIST_FULL {
+        tell_too_many(i + 1);
+        return no_stream();
+    }
+    // no list has more entries than it has room for: this never comes
+    if list.len() / WORDS_PER_ENTRY < entries {
+        return no_stream();
+    }
+    Taken {
+        bytes,
+        words: entries * WORDS_PER_ENTRY,
+        failed: false,
+    }
+}
+
+fn no_stream() -> Taken
+    ensures { λ r. ⌜ (r .bytes ≡ 0) × (r .words ≡ 0) ⌝ }
+{
+    Taken {
+        bytes: 0,
+        words: 0,
+        failed: true,
+    }
+}
+
 fn tell_too_long(stream: usize) {
     tell(STDERR_FILENO, b"stream ");
-    tell_number(STDERR_FILENO, stream as u64 + 1);
+    tell_number(STDERR_FILENO, stream as u64);
     tell(
         STDERR_FILENO,
         b" has more than the 65,536 bytes that there is room for\n",
@@ -98,16 +165,22 @@ fn tell_too_long(stream: usize) {
 // A list that is full would name no class behind its end, and the table would lose it.
 fn tell_too_many(stream: usize) {
     tell(STDERR_FILENO, b"stream ");
-    tell_number(STDERR_FILENO, stream as u64 + 1);
+    tell_number(STDERR_FILENO, stream as u64);
     tell(
         STDERR_FILENO,
         b" has more entries than there is room for: all streams together have 131,072\n",
     );
 }
 
-fn cut_streams(table: &[u8], streams: &[u8], lengths: &[u64], rooms: &[u64], list: &mut [u64]) {
-    let mut short = file_room();
-    match bundle::bundle(table, streams, lengths, rooms, list, &mut short) {
+fn cut_streams(
+    table: &[u8],
+    streams: &[u8],
+    lengths: &[u64],
+    rooms: &[u64],
+    list: &mut [u64],
+    short: &mut [u8],
+) {
+    match bundle::bundle(table, streams, lengths, rooms, list, short) {
         Bundled::Written(length) => {
             let bytes = length.0;
             if bytes <= short.len() {
@@ -176,12 +249,16 @@ fn records(table: &[u8], kind: u8) -> usize {
     let mut found = 0;
     let mut at = 0;
     while at < table.len() {
-        if table[at] == kind {
-            found += 1;
-        }
+        found += counted(table[at], kind);
         at += 1 + mark_of(table[at]) as usize;
     }
     found
+}
+
+fn counted(kind: u8, asked: u8) -> usize
+    ensures { λ r. ⌜ r ≤ 1 ⌝ }
+{
+    if kind == asked { 1 } else { 0 }
 }
 
 fn tell_refused(number: u8, byte: ByteLength) {

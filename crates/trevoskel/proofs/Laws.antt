@@ -1,12 +1,14 @@
 -- The answer in words, by what was answered.
-use mathlib.Core.Path.{_≡_, sym}
+use mathlib.Core.Path.{_≡_, sym, _∙_}
 use Prim.Native.Nat.{ℕ}
 use mathlib.Core.List.{List}
 use Rattle.rules.specs.declared.Checked.{Checked}
 use Rattle.rules.specs.declared.Result.{Result}
+use Rattle.rules.specs.declared.Bundled.{Bundled}
 use Rattle.rules.specs.Parse.{checkedNumber}
+use Rattle.rules.specs.Bundle.{bundledNumber}
 use Rattle.trevoskel_words.specs.Written.{written}
-use Rattle.trevoskel.specs.Words.{checkedWords, resultWords}
+use Rattle.trevoskel.specs.Words.{checkedWords, resultWords, bundledWords}
 
 -- what is said of the case that a check gave is said of the check
 pub answered : (c d : Checked) (old : List ℕ) {r : ℕ} {out : List ℕ} → c ≡ d → (r ≡ checkedNumber d) × (out ≡ written (checkedWords d) old)
@@ -16,3 +18,8 @@ answered c d old e h = rw (e) h
 -- and what is said of the reader's result is said of the rules'
 pub resulted : (x y : Result) (old : List ℕ) {out : List ℕ} → x ≡ y → out ≡ written (resultWords x) old → out ≡ written (resultWords y) old
 resulted x y old e h = rw (sym e) h
+
+-- what is said of the case d that a bundle gave, its answer a, is said of that answer
+pub cut-told : (a b d : Bundled) (old : List ℕ) {r : ℕ} {out : List ℕ} → b ≡ a → b ≡ d
+    → (r ≡ bundledNumber d) × (out ≡ written (bundledWords d) old) → (r ≡ bundledNumber a) × (out ≡ written (bundledWords a) old)
+cut-told a b d old e f h = rw (sym e ∙ f) h

@@ -1,5 +1,6 @@
 // The numbers and bytes of a case, from standard input.
 use crate::lines::cut_short;
+use crate::lines::too_long;
 use libc::STDIN_FILENO;
 
 // A number, if the input has one more.
@@ -30,19 +31,30 @@ fn four(a: u8, b: u8, c: u8, d: u8) -> usize {
     a as usize + 256 * (b as usize) + 65536 * (c as usize) + 16777216 * (d as usize)
 }
 
-// A length and a room, so many times.
+// A length and a room, so many times, or until there is no place for more.
 pub(crate) fn read_parts(count: usize, lengths: &mut [u64], rooms: &mut [u64]) {
     let mut i = 0;
-    while i < count && i < lengths.len() && i < rooms.len() {
-        lengths[i] = number() as u64;
-        rooms[i] = number() as u64;
+    while i < count {
+        let length = number();
+        let room = number();
+        if lengths.len() <= i {
+            return;
+        }
+        lengths[i] = length as u64;
+        if rooms.len() <= i {
+            return;
+        }
+        rooms[i] = room as u64;
         i += 1;
     }
 }
 
-// Fills a room with bytes.
-pub(crate) fn fill(room: &mut [u8]) -> bool {
-    if io::read_full(STDIN_FILENO, room) < room.len() {
+// Fills a part of a room with bytes.
+pub(crate) fn fill(room: &mut [u8], length: usize) -> bool {
+    if room.len() < length {
+        return too_long();
+    }
+    if io::read_full(STDIN_FILENO, &mut room[..length]) < length {
         return cut_short();
     }
     true

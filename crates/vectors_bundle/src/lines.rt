@@ -49,22 +49,14 @@ pub(crate) fn say_words(words: &[u64]) {
     say(b"\n");
 }
 
-// Two digits a byte, 32 bytes at a time.
+// Two digits a byte.
 pub(crate) fn say_bytes(bytes: &[u8]) {
-    let mut text = [0u8; 64];
-    let mut n = 0;
     let mut i = 0;
     while i < bytes.len() {
-        text[n] = digit(bytes[i] / 16);
-        text[n + 1] = digit(bytes[i]);
-        n += 2;
-        if n > 62 {
-            say(&text[..n]);
-            n = 0;
-        }
+        let pair = [digit(bytes[i] / 16), digit(bytes[i])];
+        say(&pair);
         i += 1;
     }
-    say(&text[..n]);
     say(b"\n");
 }
 

@@ -29,12 +29,7 @@ mod lines;
 // What each byte of the buffer holds before.
 const HELD: u8 = 0xEE;
 
-// More lengths, or rooms, than any case has.
-const PARTS: usize = 32;
-
 const TABLE_ROOM: usize = 65537;
-
-const STREAM_ROOM: usize = 65536;
 
 const LIST_ROOM: usize = 8000;
 
@@ -52,34 +47,39 @@ fn answer_case(whole: bool) -> bool {
     let Next::Number(table) = next_number() else {
         return false;
     };
+    let mut lengths = [0u64; 32];
+    let mut rooms = [0u64; 32];
+    answer_head(table, &mut lengths, &mut rooms, whole)
+}
+
+// The rest of the head, and the lengths and rooms. Where it does not say all bytes and all words, they are the sums of these.
+fn answer_head(table: usize, lengths: &mut [u64], rooms: &mut [u64], whole: bool) -> bool {
     let streams = number();
     let buffer = number();
-    let rooms = said_or(whole, streams);
+    let lists = said_or(whole, streams);
     let bytes = said_or(whole, 0);
     let words = said_or(whole, 0);
-    if PARTS < streams || PARTS < rooms {
+    read_parts(larger(streams, lists), lengths, rooms);
+    if lengths.len() < streams || rooms.len() < lists {
         return too_long();
     }
-    let mut lengths = [0u64; PARTS];
-    let mut list_rooms = [0u64; PARTS];
-    read_parts(larger(streams, rooms), &mut lengths, &mut list_rooms);
     if whole {
         return answer_parts(
             table,
             &lengths[..streams],
-            &list_rooms[..rooms],
+            &rooms[..lists],
             bytes,
             words,
             buffer,
             whole,
         );
     }
-    let all_bytes = sum(&lengths);
-    let all_words = sum(&list_rooms);
+    let all_bytes = sum(lengths);
+    let all_words = sum(rooms);
     answer_parts(
         table,
         &lengths[..streams],
-        &list_rooms[..rooms],
+        &rooms[..lists],
         all_bytes,
         all_words,
         buffer,
@@ -97,17 +97,17 @@ fn larger(a: usize, b: usize) -> usize {
 }
 
 // Each of them has 32 bits: the sum does not wrap.
-fn sum(parts: &[u64; PARTS]) -> usize {
+fn sum(parts: &[u64]) -> usize {
     let mut all = 0;
     let mut i = 0;
-    while i < PARTS {
+    while i < parts.len() {
         all = wrapping_add_u64(all, parts[i]);
         i += 1;
     }
     all as usize
 }
 
-// Reads the table and the streams into the room that they have, and prints their answers.
+// Makes room for what is lent.
 fn answer_parts(
     table_bytes: usize,
     lengths: &[u64],
@@ -121,18 +121,47 @@ fn answer_parts(
     let mut streams = io::large_buffer();
     let mut list = list_room();
     let mut buffer = table_room();
-    if TABLE_ROOM < table_bytes
-        || STREAM_ROOM < stream_bytes
-        || LIST_ROOM < list_words
-        || TABLE_ROOM < buffer_bytes
+    if !fill(&mut table, table_bytes) {
+        return false;
+    }
+    if !fill(&mut streams, stream_bytes) {
+        return false;
+    }
+    answer_filled(
+        &table,
+        table_bytes,
+        &streams,
+        stream_bytes,
+        lengths,
+        rooms,
+        &mut list,
+        list_words,
+        &mut buffer,
+        buffer_bytes,
+        whole,
+    )
+}
+
+// Lends as much of it as the case says, and prints the answers.
+fn answer_filled(
+    table: &[u8],
+    table_bytes: usize,
+    streams: &[u8],
+    stream_bytes: usize,
+    lengths: &[u64],
+    rooms: &[u64],
+    list: &mut [u64],
+    list_words: usize,
+    buffer: &mut [u8],
+    buffer_bytes: usize,
+    whole: bool,
+) -> bool {
+    if table.len() < table_bytes
+        || streams.len() < stream_bytes
+        || list.len() < list_words
+        || buffer.len() < buffer_bytes
     {
         return too_long();
-    }
-    if !fill(&mut table[..table_bytes]) {
-        return false;
-    }
-    if !fill(&mut streams[..stream_bytes]) {
-        return false;
     }
     answer(
         &table[..table_bytes],
@@ -159,12 +188,28 @@ fn answer(
     hold(buffer);
     let listed = say_bundled(bundle::bundle(table, streams, lengths, rooms, list, buffer));
     say_bytes(buffer);
+    say_lists(table, streams, lengths, rooms, list, listed, whole);
+    say(b"\n");
+}
+
+// The words of the lists, or the readings, if there were any.
+fn say_lists(
+    table: &[u8],
+    streams: &[u8],
+    lengths: &[u64],
+    rooms: &[u64],
+    list: &mut [u64],
+    listed: bool,
+    whole: bool,
+) {
     if whole {
         say_words(list);
-    } else if listed {
-        say_readings(table, streams, lengths, rooms, list);
+        return;
     }
-    say(b"\n");
+    if listed {
+        say_readings(table, streams, lengths, rooms, list);
+        return;
+    }
 }
 
 // A line of each stream's reading by itself, in the words of the list.
