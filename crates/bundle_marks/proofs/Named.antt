@@ -296,6 +296,5 @@ module _ {t : List ℕ} (a : Accepts t) (rs : List Reading) (m : List ℕ) (room
         marks-of os (f .1) (λ i. s i .1) (λ i j. e i j .1),
       )
 
-  pub named : ((i : ℕ) → All (λ o. isStream t i o ≡ true → findStreamAt t (fragmentsOf t) i ≡ some o) (fragmentsOf t))
-      → Marks (streamListed rs) (eventListed rs) t (markAll t rs m)
-  named s = record { each = marks-of (fragmentsOf t) (a .fragments) s (a .firsts) }
+  pub named : Marks (streamListed rs) (eventListed rs) t (markAll t rs m)
+  named = record { each = marks-of (fragmentsOf t) (a .fragments) (a .streams) (a .firsts) }

@@ -12,7 +12,7 @@ ghost use lib.ListN.{length};
 ghost use Rattle.rules.specs.Limits.{tableLimit, wordsPerEntry};
 ghost use Rattle.class_layout.specs.Sizes.{Sized};
 ghost use Rattle.class_lookup.specs.Index.{Hints};
-ghost use Rattle.bundle_marks.specs.Marked.{entriesOf, streamPlace, frontOf, Below, markAt, inFront, markOne, markList};
+ghost use Rattle.bundle_marks.specs.Marked.{entriesOf, streamPlace, frontOf, Below, markAt, nextFront, markOne, markList};
 
 // The stream class in front: its id, and where it stands.
 struct Front {
@@ -67,7 +67,7 @@ fn mark_entry(
     requires { ⌜ (Sized (now table) (now sizes)) × (Hints (now table) (now index)) ⌝ }
     requires { ⌜ (front .place ≡ streamPlace (now table) (front .id)) × (tableLimit ≤ length (now marks)) ⌝ }
     ensures { λ r. ⌜
-        (r ≡ frontOf (now (table .entry)) (inFront (front .id) kind value))
+        (r ≡ frontOf (now (table .entry)) (nextFront (front .id) kind value))
         × (now (marks .exit) ≡ markOne (now (table .entry)) (front .id) kind value (now (marks .entry)))
         ⌝ }
 {
