@@ -25,7 +25,7 @@ ghost use Rattle.class_layout.specs.Sizes.{Sized};
 ghost use Rattle.class_lookup.specs.Index.{places, Hints};
 ghost use Rattle.bundle_table.specs.Kept.{kept};
 ghost use Rattle.bundle_marks.specs.Marked.{markList, markAll};
-ghost use Rattle.bundle.specs.Cut.{listsOf, Cut};
+ghost use Rattle.bundle.specs.Did.{listsRead, BundleDid};
 
 // Cuts a table to what some streams need. The streams stand one behind another, as long as `lengths` says, and their lists, as long as
 // `rooms` says; where a length is above what is left, it is what is left, and a stream without a room has a list of no words. The lists
@@ -70,8 +70,8 @@ fn bundle_by(
 ) -> Bundled
     requires { ⌜ checked (now table) ≡ Accepted (byteLength (length (now table))) ⌝ }
     ensures { λ r. ⌜
-        Cut (now (table .entry)) (now (streams .entry)) (now (lengths .entry)) (now (rooms .entry)) (now (list .entry)) (now (out .entry))
-        r (now (list .exit)) (now (out .exit))
+        BundleDid (now (table .entry)) (now (streams .entry)) (now (lengths .entry)) (now (rooms .entry)) (now (list .entry))
+        (now (out .entry)) r (now (list .exit)) (now (out .exit))
         ⌝ }
 {
     if limits::BUNDLE_LIMIT < lengths.len() {
@@ -118,7 +118,7 @@ fn read_streams(
     requires { ⌜ (Sized (now table) (now sizes)) × (Hints (now table) (now index)) × (tableLimit ≤ length (now marks)) ⌝ }
     ensures { λ _. ⌜
         (now (list .exit)
-        ≡ listsOf
+        ≡ listsRead
         (bundleReadings (now (table .entry)) (now (streams .entry)) (now (lengths .entry)) (now (rooms .entry)) (now (list .entry)))
         (now (rooms .entry)) (now (list .entry)))
         × (now (marks .exit)

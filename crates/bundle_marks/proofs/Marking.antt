@@ -100,8 +100,9 @@ module _ (t m : List ℕ) (k v : ℕ) {f : Front} where
 -- The entries that are left
 
 list-step : (t ws : List ℕ) (i left : ℕ) (m : List ℕ)
-    → markList t i (entriesOf (suc left) ws) m
-    ≡ markList t (nextFront i (getD ws 0 0) (getD ws 3 0)) (entriesOf left (drop wordsPerEntry ws)) (markOne t i (getD ws 0 0) (getD ws 3 0) m)
+    → let k = getD ws 0 0 in
+    let v = getD ws 3 0 in
+    markList t i (entriesOf (suc left) ws) m ≡ markList t (nextFront i k v) (entriesOf left (drop wordsPerEntry ws)) (markOne t i k v m)
 unfolding markList entriesOf under nextFront
 list-step t ws i left m = refl
 

@@ -1,5 +1,5 @@
--- Which fragments of a table the entries of lists name: a mark for each byte of the table, not 0 where a stream class or an event class opens
--- that is named.
+-- Which fragments of a table the entries of lists name: a mark for each byte of the table, not 0 where a stream class or an event class
+-- opens that is named.
 use Prim.Native.Nat.{ℕ, zero, suc, _<_}
 use mathlib.Core.List.{List, [], _∷_}
 use mathlib.Core.Bool.{true, false}

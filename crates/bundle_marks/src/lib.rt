@@ -1,6 +1,6 @@
-// Which stream and event classes a list names: a mark by the byte of the table where each fragment opens. Entry 2 names a stream class. Entry 5
-// names an event class of the stream class in front, that of the latest entry 2, and the stream class with it, so that no law about
-// lists is needed to say that an event class never stays without its stream class.
+// Which stream and event classes a list names: a mark by the byte of the table where each fragment opens. Entry 2 names a stream class.
+// Entry 5 names an event class of the stream class in front, that of the latest entry 2, and the stream class with it, so that no law
+// about lists is needed to say that an event class never stays without its stream class.
 use class_layout::TablePlace;
 use class_lookup::find_event_class;
 use class_lookup::find_stream_class;

@@ -48,7 +48,8 @@ mark-place-requires : tie.Need-mark-place-requires
 mark-place-requires c κs =
     let f = c .before in
     let s = from-found f in
-    stream-below (s .pre .0 .0) _ (s .pre .1 .1) (s .args .value) (front-place (s .args .table .now) (s .args .value) (f .in-front .ensures))
+    let v = s .args .value in
+    stream-below (s .pre .0 .0) _ (s .pre .1 .1) v (front-place (s .args .table .now) v (f .in-front .ensures))
 
 same-length : tie.Need-same-length
 same-length c = search needs
