@@ -153,8 +153,8 @@ module _ (t b ns ms ws : List ℕ) (i : ℕ) (l : i < length ns) where
 
 -- The loop
 
--- the readings of all streams b, of which the lists had the words ws₀ and the marks were m₀, are those of the streams from the ith on: these
--- begin at the byte from, their lists at the word at of ws, and m are the marks so far
+-- the readings of all streams b, of which the lists had the words ws₀ and the marks were m₀, are those of the streams from the ith on:
+-- these begin at the byte from, their lists at the word at of ws, and m are the marks so far
 pub record Going (t b ns ms ws₀ m₀ : List ℕ) (i from at : ℕ) (ws m : List ℕ) : Type 0 where
   pub here : from ≤ length b
   pub there : at ≤ length ws

@@ -1,5 +1,6 @@
 // The smallest bundle: what stays of a table so that streams read by it as they did, and no class more. The streams are read, each into a
-// list of its own; what their lists name is marked; and the fragments that stay are copied.
+// list of its own; what their lists name is marked; and the fragments that stay are copied. Each reading is `read` itself, so that the
+// table is checked and noted once more for each stream: up to seventeen times in a call.
 use bundle_marks::mark;
 use bundle_table::copy_kept;
 use bundle_table::kept_length;

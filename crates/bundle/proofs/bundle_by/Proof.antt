@@ -43,6 +43,9 @@ indexed c = c .before .before
 abbrev unmarked : tie.After-marks → AtUnmarked
 unmarked c = c .before .before .before .before
 
+abbrev read : tie.After-write-kept-arg → AtRead
+read c = c .before .before .before .before .before .before
+
 -- The needs
 
 returns : tie.Need-returns
@@ -107,7 +110,7 @@ slice-aggregate-write-kept-2 c = search needs
 
 write-kept-requires : tie.Need-write-kept-requires
 write-kept-requires c κs =
-    let r = c .before .before .before .before .before .before in
+    let r = read c in
     let u = unmarked (r .before) in
     (noted (indexed u) .note-sizes .ensures, r .read-streams .kept .1 .1 .1 .1 .1 .1 .1 .0 ∙ none-marked (u .no-marks .ensures))
 
@@ -120,7 +123,7 @@ same-length-2 c = search needs
 returns-2 : tie.Need-returns-2
 returns-2 c =
     let w = c .before .before in
-    let r = w .before .before .before .before .before .before .before in
+    let r = read (w .before) in
     let u = unmarked (r .before) in
     let f = few (noted (indexed u)) in
     let s = start (f .before) in

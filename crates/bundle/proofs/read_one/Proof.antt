@@ -11,12 +11,15 @@ use Rattle.bundle.proofs.read_one.Tie as tie
 abbrev start : tie.After-read → tie.Start
 start c = c .before .before .before .before .before .before .before .before
 
+abbrev read : tie.After-mark-arg2 → tie.After-read
+read c = c .before .before .before .before
+
 read-requires : tie.Need-read-requires
 read-requires c κs = search needs
 
 mark-requires : tie.Need-mark-requires
 mark-requires c κs =
-    let r = c .before .before .before .before in
+    let r = read c in
     let s = start r in
     let a = s .args in
     let x = readAll (a .table .now) (a .stream .now) (length (a .list .now)) in (
@@ -33,14 +36,12 @@ same-length-2 c = search needs
 returns : tie.Need-returns
 returns c =
     let m = c .before .before in
-    let r = m .before .before .before .before .before in
+    let r = read (m .before) in
     let s = start r in
     let a = s .args in
-    let x = readAll (a .table .now) (a .stream .now) (length (a .list .now)) in (
-      r .read .ensures .1,
-      m .mark .ensures
-          ∙ ap (λ es. markList (a .table .now) 0 es (a .marks .now)) (read-entries x (a .list .now) (r .read .ensures .0) (r .read .ensures .1)),
-    )
+    let x = readAll (a .table .now) (a .stream .now) (length (a .list .now)) in
+    let es = read-entries x (a .list .now) (r .read .ensures .0) (r .read .ensures .1) in
+    (r .read .ensures .1, m .mark .ensures ∙ ap (λ es. markList (a .table .now) 0 es (a .marks .now)) es)
 
 pub read-one-spec : {M : Type 1} → statement M
 read-one-spec = tie.close (tie.spec read-requires mark-requires same-length same-length-2 returns)

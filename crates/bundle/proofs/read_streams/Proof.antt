@@ -34,6 +34,12 @@ to-loop c = c .before .before .before
 abbrev to-fitted : AtLent → AtFitted
 to-fitted c = c .before .before .before
 
+abbrev to-read : tie.After-slice-known4 Inv-loop μ-loop → AtRead
+to-read c = c .before .before .before .before
+
+abbrev to-turn : AtRead → tie.In-loop Inv-loop μ-loop
+to-turn c = to-fitted (c .before) .before .before
+
 -- both parts end where there is an end
 
 bytes-in : (c : AtFitted) → to-loop c .loop .from + c .before .fitting .result ≤ length (start (to-loop c) .args .streams .now)
@@ -100,20 +106,17 @@ read-one-requires c κs =
 
 add-i : tie.Need-add-i Inv-loop μ-loop
 add-i c =
-    let turn = to-fitted (c .before .before .before .before .before) .before .before in
+    let turn = to-turn (to-read c) in
     omega (arith, turn .loop-test .taken, start (turn .before) .good .1 .1 .1 .1 .0 .0)
 
 loop-less : tie.Need-loop-less Inv-loop μ-loop
-loop-less c =
-    let turn = to-fitted (c .before .before .before .before .before) .before .before in
-    omega (arith, turn .loop-test .taken)
+loop-less c = omega (arith, to-turn (to-read c) .loop-test .taken)
 
 loop-again : tie.Need-loop-again Inv-loop μ-loop
 loop-again c =
-    let r = c .before .before .before .before in
+    let r = to-read c in
     let f = to-fitted (r .before) in
-    let l = to-loop f in
-    going-next (l .loop .inv) (f .before .before .loop-test .taken) (f .before .fitting .ensures) (f .fitting2 .ensures)
+    going-next (to-loop f .loop .inv) (to-turn r .loop-test .taken) (f .before .fitting .ensures) (f .fitting2 .ensures)
     (r .read-one .ensures) (r .read-one .kept .1 .1 .1 .1 .0) (r .read-one .kept .1 .1 .1 .1 .1 .0)
 
 same-length : tie.Need-same-length Inv-loop μ-loop
