@@ -10,13 +10,15 @@ use borrow.Rule.Slice.PartMut.{putMid, same-len-mid}
 use lib.Seq.{drop-cons, drop-drop, take-at, drop-at}
 use Rattle.rules.specs.Limits.{wordsPerEntry}
 use Rattle.rules.specs.Entry.{words}
-use Rattle.rules.specs.Read.{Reading, readAll, listAfter}
+use Rattle.rules.specs.declared.Result.{Result}
+use Rattle.rules.specs.Read.{Reading, resultOf, readAll, listAfter}
 use Rattle.rules.specs.Lists.{parts, behindParts, readings, wordsAfter}
 use Rattle.rules.specs.Bundle.{bundleReadings}
 use Rattle.facts.proofs.Numbers.{lt-or-ge}
 use Rattle.facts.proofs.Lists.{length-words}
-use Rattle.bundle_marks.specs.Marked.{markList, markAll}
-use Rattle.bundle.specs.Cut.{listsOf}
+use Rattle.bundle_marks.specs.Marked.{entriesOf, markList, markAll}
+use Rattle.bundle_marks.proofs.Entries.{entries-of-words}
+use Rattle.bundle.specs.Did.{listsRead}
 
 -- Lengths: "where a length promises more than is left, what is left"
 
@@ -68,7 +70,8 @@ Ahead y ms ms′ = (ms ≡ y ∷ ms′) ⊎ ((ms ≡ []) × (y ≡ 0) × (ms′ 
 ahead : (ns : List ℕ) (i : ℕ) → Ahead (getD ns i 0) (drop i ns) (drop (i + 1) ns)
 ahead ns i = ⊎-elim
     (λ (h : i < length ns). inl (rw (add-one) (drop-cons ns i 0 h)))
-    (λ (h : length ns ≤ i). inr (drop-of-length-le ns {i = i} h, List·getD-eq-default ns 0 {n = i} h, drop-of-length-le ns {i = i + 1} (omega arith)))
+    (λ (h : length ns ≤ i).
+    inr (drop-of-length-le ns {i = i} h, List·getD-eq-default ns 0 {n = i} h, drop-of-length-le ns {i = i + 1} (omega arith)))
     (lt-or-ge i (length ns))
 
 module _ (t : List ℕ) where
@@ -82,7 +85,7 @@ module _ (t : List ℕ) where
 
 -- Lists
 
-lists-none : (ms ws : List ℕ) → listsOf [] ms ws ≡ ws
+lists-none : (ms ws : List ℕ) → listsRead [] ms ws ≡ ws
 unfolding parts wordsAfter behindParts
 lists-none [] ws = refl
 lists-none (m ∷ ms) ws =
@@ -94,12 +97,32 @@ empty-of [] h = refl
 empty-of (x ∷ l) h = absurd (omega arith)
 
 lists-one : (r : Reading) (rs : List Reading) (y : ℕ) (ms ms′ ws : List ℕ) → Ahead y ms ms′
-    → length (listAfter r (take y ws)) ≡ length (take y ws) → listsOf (r ∷ rs) ms ws ≡ listAfter r (take y ws) ++ listsOf rs ms′ (drop y ws)
+    → length (listAfter r (take y ws)) ≡ length (take y ws)
+    → listsRead (r ∷ rs) ms ws ≡ listAfter r (take y ws) ++ listsRead rs ms′ (drop y ws)
 unfolding parts wordsAfter behindParts
 lists-one r rs y ms ms′ ws (inl e) k =
     rw e (append-assoc (listAfter r (take y ws)) (wordsAfter rs (parts ms′ (drop y ws))) (behindParts ms′ (drop y ws)))
 lists-one r rs y ms ms′ ws (inr e) k =
     rw (e .0, e .2, e .1) (rw (empty-of (listAfter r []) (rw (e .1) at k)) refl)
+
+-- A list that a reading was written into
+
+module _ (x : Reading) (ws : List ℕ) {r : Result} {ws′ : List ℕ} (e : r ≡ resultOf x) (w : ws′ ≡ listAfter x ws) where
+  count : r .entries ≡ length (x .entries)
+  unfolding resultOf
+  count = ap (λ r. r .entries) e
+
+  -- its entries have room in it
+  pub read-room : length ws′ ≡ length ws → wordsPerEntry * r .entries ≤ length ws′
+  unfolding listAfter
+  read-room k =
+      let a = length-append (words (x .entries)) (drop (wordsPerEntry * length (x .entries)) ws) in
+      omega (arith, count, ap length w, a, length-words (x .entries))
+
+  -- and are what it begins with
+  pub read-entries : entriesOf (r .entries) ws′ ≡ x .entries
+  unfolding listAfter
+  read-entries = rw (count, w) (entries-of-words (x .entries) _)
 
 -- One round: the ith stream of the lengths ns and the rooms ms, the first in b, with the first list in ws
 
@@ -117,10 +140,10 @@ module _ (t b ns ms ws : List ℕ) (i : ℕ) (l : i < length ns) where
       ∙ readings-one t (getD ns i 0) (getD ms i 0) (drop (i + 1) ns) (drop i ms) (drop (i + 1) ms) b ws (ahead ms i)
 
   round-lists : length (listAfter first (take (getD ms i 0) ws)) ≡ length (take (getD ms i 0) ws)
-      → listsOf (bundleReadings t b (drop i ns) (drop i ms) ws) (drop i ms) ws
-      ≡ listAfter first (take (getD ms i 0) ws) ++ listsOf others (drop (i + 1) ms) (drop (getD ms i 0) ws)
+      → listsRead (bundleReadings t b (drop i ns) (drop i ms) ws) (drop i ms) ws
+      ≡ listAfter first (take (getD ms i 0) ws) ++ listsRead others (drop (i + 1) ms) (drop (getD ms i 0) ws)
   round-lists k =
-      ap (λ rs. listsOf rs (drop i ms) ws) round-readings
+      ap (λ rs. listsRead rs (drop i ms) ws) round-readings
       ∙ lists-one first others (getD ms i 0) (drop i ms) (drop (i + 1) ms) ws (ahead ms i) k
 
   round-marks : (m : List ℕ)
@@ -130,15 +153,15 @@ module _ (t b ns ms ws : List ℕ) (i : ℕ) (l : i < length ns) where
 
 -- The loop
 
--- the readings of all streams b, of which the lists had the words ws₀, are those of the streams from the ith on, which begin at the byte from;
--- their lists begin at the word at of ws, and m are the marks so far
+-- the readings of all streams b, of which the lists had the words ws₀ and the marks were m₀, are those of the streams from the ith on:
+-- these begin at the byte from, their lists at the word at of ws, and m are the marks so far
 pub record Going (t b ns ms ws₀ m₀ : List ℕ) (i from at : ℕ) (ws m : List ℕ) : Type 0 where
   pub here : from ≤ length b
   pub there : at ≤ length ws
   pub kept : length ws ≡ length ws₀
   pub marked : length m ≡ length m₀
-  pub lists : listsOf (bundleReadings t b ns ms ws₀) ms ws₀
-      ≡ take at ws ++ listsOf (bundleReadings t (drop from b) (drop i ns) (drop i ms) (drop at ws)) (drop i ms) (drop at ws)
+  pub lists : listsRead (bundleReadings t b ns ms ws₀) ms ws₀
+      ≡ take at ws ++ listsRead (bundleReadings t (drop from b) (drop i ns) (drop i ms) (drop at ws)) (drop i ms) (drop at ws)
   pub marks : markAll t (bundleReadings t b ns ms ws₀) m₀
       ≡ markAll t (bundleReadings t (drop from b) (drop i ns) (drop i ms) (drop at ws)) m
 
@@ -164,7 +187,15 @@ module _ {t b ns ms ws₀ m₀ : List ℕ} {i from at : ℕ} {ws m : List ℕ} (
       let m₁ : m′ ≡ markList t 0 (r .entries) m = rw (pb, pw) at (e .1) in
       let same₁ : length (listAfter r part) ≡ length part = rw (ys₁, pw) at same in
       let long : length (take at ws ++ ys) ≡ at + k =
-      omega (arith, length-append (take at ws) ys, length-take at ws, h .there, same, length-take (at + k - at) (drop at ws), length-drop at ws) in
+      omega (
+        arith,
+        length-append (take at ws) ys,
+        length-take at ws,
+        h .there,
+        same,
+        length-take (at + k - at) (drop at ws),
+        length-drop at ws,
+      ) in
       let all = append-assoc (take at ws) ys (drop (at + k - at) (drop at ws)) in
       let front : take (at + k) (putMid at (at + k - at) ws ys) ≡ take at ws ++ listAfter r part =
       ap (take (at + k)) (sym all) ∙ take-at (take at ws ++ ys) _ (at + k) long ∙ ap (λ z. take at ws ++ z) ys₁ in
@@ -184,7 +215,7 @@ module _ {t b ns ms ws₀ m₀ : List ℕ} {i from at : ℕ} {ws m : List ℕ} (
         marks = h .marks ∙ round-marks t (drop from b) ns ms (drop at ws) i l m ∙ rw (back, rest, m₁) refl;
       }
 
-  pub going-end : length ns ≤ i → (ws ≡ listsOf (bundleReadings t b ns ms ws₀) ms ws₀) × (m ≡ markAll t (bundleReadings t b ns ms ws₀) m₀)
+  pub going-end : length ns ≤ i → (ws ≡ listsRead (bundleReadings t b ns ms ws₀) ms ws₀) × (m ≡ markAll t (bundleReadings t b ns ms ws₀) m₀)
   unfolding parts readings markAll
   going-end k =
       let e : drop i ns ≡ [] = drop-of-length-le ns {i = i} k in (

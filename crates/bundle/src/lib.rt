@@ -1,5 +1,6 @@
 // The smallest bundle: what stays of a table so that streams read by it as they did, and no class more. The streams are read, each into a
-// list of its own; what their lists name is marked; and the fragments that stay are copied.
+// list of its own; what their lists name is marked; and the fragments that stay are copied. Each reading is `read` itself, so that the
+// table is checked and noted once more for each stream: up to seventeen times in a call.
 use bundle_marks::mark;
 use bundle_table::copy_kept;
 use bundle_table::kept_length;
@@ -25,7 +26,7 @@ ghost use Rattle.class_layout.specs.Sizes.{Sized};
 ghost use Rattle.class_lookup.specs.Index.{places, Hints};
 ghost use Rattle.bundle_table.specs.Kept.{kept};
 ghost use Rattle.bundle_marks.specs.Marked.{markList, markAll};
-ghost use Rattle.bundle.specs.Cut.{listsOf, Cut};
+ghost use Rattle.bundle.specs.Did.{listsRead, BundleDid};
 
 // Cuts a table to what some streams need. The streams stand one behind another, as long as `lengths` says, and their lists, as long as
 // `rooms` says; where a length is above what is left, it is what is left, and a stream without a room has a list of no words. The lists
@@ -70,8 +71,8 @@ fn bundle_by(
 ) -> Bundled
     requires { ⌜ checked (now table) ≡ Accepted (byteLength (length (now table))) ⌝ }
     ensures { λ r. ⌜
-        Cut (now (table .entry)) (now (streams .entry)) (now (lengths .entry)) (now (rooms .entry)) (now (list .entry)) (now (out .entry))
-        r (now (list .exit)) (now (out .exit))
+        BundleDid (now (table .entry)) (now (streams .entry)) (now (lengths .entry)) (now (rooms .entry)) (now (list .entry))
+        (now (out .entry)) r (now (list .exit)) (now (out .exit))
         ⌝ }
 {
     if limits::BUNDLE_LIMIT < lengths.len() {
@@ -118,7 +119,7 @@ fn read_streams(
     requires { ⌜ (Sized (now table) (now sizes)) × (Hints (now table) (now index)) × (tableLimit ≤ length (now marks)) ⌝ }
     ensures { λ _. ⌜
         (now (list .exit)
-        ≡ listsOf
+        ≡ listsRead
         (bundleReadings (now (table .entry)) (now (streams .entry)) (now (lengths .entry)) (now (rooms .entry)) (now (list .entry)))
         (now (rooms .entry)) (now (list .entry)))
         × (now (marks .exit)

@@ -18,7 +18,7 @@ use Rattle.class_layout.specs.Fragments.{isStream, isEvent, firstOf, fragmentsO
 use Rattle.class_layout.specs.Sizes.{foundOf, SizedFragment, Sized}
 use Rattle.class_layout.proofs.Lookups.{first-holds}
 use Rattle.bundle_marks.specs.declared.Front.{Front}
-use Rattle.bundle_marks.specs.Marked.{entriesOf, streamPlace, eventPlace, frontOf, Below, markAt, inFront, markOne, markList}
+use Rattle.bundle_marks.specs.Marked.{entriesOf, streamPlace, eventPlace, frontOf, Below, markAt, nextFront, markOne, markList}
 
 -- Places
 
@@ -74,18 +74,18 @@ as-front t f e = ap (λ p. record { id = f .id; place = p }) e
 
 -- which stream class is in front behind an entry, and the marks
 abbrev pub One : List ℕ → ℕ → ℕ → ℕ → List ℕ → Front → List ℕ → Type 0
-One t i k v m f m′ = (f ≡ frontOf t (inFront i k v)) × (m′ ≡ markOne t i k v m)
+One t i k v m f m′ = (f ≡ frontOf t (nextFront i k v)) × (m′ ≡ markOne t i k v m)
 
 module _ (t m : List ℕ) (k v : ℕ) {f : Front} where
   pub stream-named : {m′ : List ℕ} (i : ℕ) → k ≡ streamClassFound → f ≡ frontOf t v → m′ ≡ markAt (f .place) m → One t i k v m f m′
-  unfolding inFront markOne
+  unfolding nextFront markOne
   stream-named i e w h =
-      let b = eq-eqb k streamClassFound e in (rw (b, inFront) w, rw (b, markOne) (h ∙ ap (λ p. markAt p m) (front-place t v w)))
+      let b = eq-eqb k streamClassFound e in (rw (b, nextFront) w, rw (b, markOne) (h ∙ ap (λ p. markAt p m) (front-place t v w)))
 
   module _ (n : k ≡ streamClassFound → ⊥) (w : f .place ≡ streamPlace t (f .id)) where
-    still : f ≡ frontOf t (inFront (f .id) k v)
-    unfolding inFront
-    still = rw (ne-eqb k streamClassFound n, inFront) (as-front t f w)
+    still : f ≡ frontOf t (nextFront (f .id) k v)
+    unfolding nextFront
+    still = rw (ne-eqb k streamClassFound n, nextFront) (as-front t f w)
 
     pub event-named : {p : TablePlace} {x m′ : List ℕ} → k ≡ eventClassFound → p ≡ foundOf (findEventAt t (fragmentsOf t) (f .id) v)
         → x ≡ markAt p m → m′ ≡ markAt (f .place) x → One t (f .id) k v m f m′
@@ -100,9 +100,10 @@ module _ (t m : List ℕ) (k v : ℕ) {f : Front} where
 -- The entries that are left
 
 list-step : (t ws : List ℕ) (i left : ℕ) (m : List ℕ)
-    → markList t i (entriesOf (suc left) ws) m
-    ≡ markList t (inFront i (getD ws 0 0) (getD ws 3 0)) (entriesOf left (drop wordsPerEntry ws)) (markOne t i (getD ws 0 0) (getD ws 3 0) m)
-unfolding markList entriesOf under inFront
+    → let k = getD ws 0 0 in
+    let v = getD ws 3 0 in
+    markList t i (entriesOf (suc left) ws) m ≡ markList t (nextFront i k v) (entriesOf left (drop wordsPerEntry ws)) (markOne t i k v m)
+unfolding markList entriesOf under nextFront
 list-step t ws i left m = refl
 
 -- n entries were to be marked by, over the marks m₀; the last of them are left, from the word at on
@@ -126,7 +127,7 @@ module _ {t ws m₀ : List ℕ} {n : ℕ} where
     same = h .same ∙ by left k (front-id t _ (d .0));
   }
     where
-      by : (left : ℕ) → 0 < left → f′ .id ≡ inFront (f .id) (getD ws at 0) (getD ws (at + 3) 0)
+      by : (left : ℕ) → 0 < left → f′ .id ≡ nextFront (f .id) (getD ws at 0) (getD ws (at + 3) 0)
           → markList t (f .id) (entriesOf left (drop at ws)) m
           ≡ markList t (f′ .id) (entriesOf (left - 1) (drop (at + wordsPerEntry) ws)) m′
       by zero k i = absurd (omega arith)

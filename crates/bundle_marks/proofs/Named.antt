@@ -1,5 +1,6 @@
 -- From no mark at all, the marks of a table's stream and event classes are those that readings list: `Marks` by `streamListed` and
--- `eventListed`. In order: one place that is marked; entries one after another, by any test of an entry; stream classes; event classes; the table.
+-- `eventListed`. In order: one place that is marked; entries one after another, by any test of an entry; a stream class; an event class;
+-- the table.
 use mathlib.Core.Path.{_≡_, refl, sym, ap, _∙_}
 use Prim.Native.Nat.{ℕ, _+_, _≤_, _<_}
 use native.Mathlib.Omega.{arith}
@@ -76,7 +77,10 @@ at-length Nothing m = refl
 -- an entry's marks, by whether it is an entry 2 and whether it is an entry 5
 abbrev markBy : List ℕ → ℕ → ℕ → List ℕ → Bool → Bool → List ℕ
 markBy t i v m c d =
-    elim c [ true ↦ markAt (streamPlace t v) m | false ↦ elim d [ true ↦ markAt (streamPlace t i) (markAt (eventPlace t i v) m) | false ↦ m ] ]
+    elim c [
+      | true ↦ markAt (streamPlace t v) m
+      | false ↦ elim d [ true ↦ markAt (streamPlace t i) (markAt (eventPlace t i v) m) | false ↦ m ]
+    ]
 
 one-length : (t : List ℕ) (i k v : ℕ) (m : List ℕ) → length (markOne t i k v m) ≡ length m
 unfolding markOne
@@ -145,74 +149,76 @@ module _ {t : List ℕ} (a : Accepts t) (o : ℕ) where
 
   -- A stream class, the first of its id
 
-  module _ (k : u8 t o ≡ streamKind) (first : (i : ℕ) → isStream t i o ≡ true → findStreamAt t (fragmentsOf t) i ≡ some o) where
+  module _ (i : ℕ) (k : u8 t o ≡ streamKind) (id : u64 t (o + 1) ≡ i)
+      (first : (i : ℕ) → isStream t i o ≡ true → findStreamAt t (fragmentsOf t) i ≡ some o) where
     -- the stream class of an id is this one just where the id is its own
-    stream-here : (v : ℕ) → u64 t (o + 1) ≡ v → streamPlace t v ≡ At o
+    stream-here : (v : ℕ) → v ≡ i → streamPlace t v ≡ At o
     unfolding streamPlace foundOf isStream
-    stream-here v e = ap foundOf (first v (rw (k, eq-eqb (u64 t (o + 1)) v e) refl))
+    stream-here v e = ap foundOf (first v (rw (k, eq-eqb (u64 t (o + 1)) v (id ∙ sym e)) refl))
 
-    of-stream : (v : ℕ) (m : List ℕ) → o < length m → marked (markAt (streamPlace t v) m) o ≡ (eqb v (u64 t (o + 1)) || marked m o)
-    of-stream v m l = by (eqb v (u64 t (o + 1))) refl
+    of-stream : (v : ℕ) (m : List ℕ) → o < length m → marked (markAt (streamPlace t v) m) o ≡ (eqb v i || marked m o)
+    of-stream v m l = by (eqb v i) refl
       where
-        by : (b : Bool) → eqb v (u64 t (o + 1)) ≡ b → marked (markAt (streamPlace t v) m) o ≡ (b || marked m o)
-        by true e = mark-here o m l (stream-here v (sym (eqb-true v (u64 t (o + 1)) e)))
-        by false e = mark-there o m (streamPlace t v) (λ q. eqb-false v (u64 t (o + 1)) e (sym (stream-is v q .1)))
+        by : (b : Bool) → eqb v i ≡ b → marked (markAt (streamPlace t v) m) o ≡ (b || marked m o)
+        by true e = mark-here o m l (stream-here v (eqb-true v i e))
+        by false e = mark-there o m (streamPlace t v) (λ q. eqb-false v i e (sym (stream-is v q .1) ∙ id))
 
     -- and no event class is
     no-event : (h v : ℕ) (m : List ℕ) → marked (markAt (eventPlace t h v) m) o ≡ marked m o
     no-event h v m = mark-there o m (eventPlace t h v) (λ q. omega (arith, event-is h v q .0))
 
     names : ℕ → ℕ → ℕ → Bool
-    names h x v = (eqb x streamClassFound && eqb v (u64 t (o + 1))) || (eqb x eventClassFound && eqb h (u64 t (o + 1)))
+    names h x v = (eqb x streamClassFound && eqb v i) || (eqb x eventClassFound && eqb h i)
 
     names-one : (h x v : ℕ) (m : List ℕ) → o < length m → marked (markOne t h x v m) o ≡ (names h x v || marked m o)
     unfolding markOne names
     names-one h x v m l = by (eqb x streamClassFound) refl (eqb x eventClassFound) refl
       where
         by : (c : Bool) → eqb x streamClassFound ≡ c → (d : Bool) → eqb x eventClassFound ≡ d
-            → marked (markBy t h v m c d) o ≡ (((c && eqb v (u64 t (o + 1))) || (d && eqb h (u64 t (o + 1)))) || marked m o)
+            → marked (markBy t h v m c d) o ≡ (((c && eqb v i) || (d && eqb h i)) || marked m o)
         by true p true q = absurd (not-both x p q)
-        by true p false q = of-stream v m l ∙ ap (λ b. b || marked m o) (sym (or-none (eqb v (u64 t (o + 1)))))
-        by false p true q = of-stream h _ (rw at-length l) ∙ ap (λ b. eqb h (u64 t (o + 1)) || b) (no-event h v m)
+        by true p false q = of-stream v m l ∙ ap (λ b. b || marked m o) (sym (or-none (eqb v i)))
+        by false p true q = of-stream h _ (rw at-length l) ∙ ap (λ b. eqb h i || b) (no-event h v m)
         by false p false q = refl
 
     names-in : (h : ℕ) (es : List Entry)
-        → hitIn t o names names-one h es ≡ (streamIn (u64 t (o + 1)) es || eventUnder (u64 t (o + 1)) h es)
+        → hitIn t o names names-one h es ≡ (streamIn i es || eventUnder i h es)
     unfolding hitIn streamIn eventUnder names
     names-in h [] = refl
     names-in h (e ∷ es) = rw (names-in (under h e) es)
-        (or-pairs (eqb (e .kind) streamClassFound && eqb (e .value) (u64 t (o + 1))) (eqb (e .kind) eventClassFound && eqb h (u64 t (o + 1)))
-        (streamIn (u64 t (o + 1)) es) (eventUnder (u64 t (o + 1)) (under h e) es))
+        (or-pairs (eqb (e .kind) streamClassFound && eqb (e .value) i) (eqb (e .kind) eventClassFound && eqb h i)
+        (streamIn i es) (eventUnder i (under h e) es))
 
-    names-by : (rs : List Reading) → hitBy t o names names-one rs ≡ streamListed rs (u64 t (o + 1))
+    names-by : (rs : List Reading) → hitBy t o names names-one rs ≡ streamListed rs i
     unfolding hitBy streamListed
     names-by [] = refl
     names-by (r ∷ rs) = rw (names-in 0 (r .entries), names-by rs)
-        (or-assoc (streamIn (u64 t (o + 1)) (r .entries)) (eventUnder (u64 t (o + 1)) 0 (r .entries)) (streamListed rs (u64 t (o + 1))))
+        (or-assoc (streamIn i (r .entries)) (eventUnder i 0 (r .entries)) (streamListed rs i))
 
     pub stream-marked : (rs : List Reading) (m : List ℕ) → o < length m → marked m o ≡ false
-        → marked (markAll t rs m) o ≡ streamListed rs (u64 t (o + 1))
-    stream-marked rs m l z = all-marks t o names names-one rs m l ∙ rw (names-by rs, z) (or-none (streamListed rs (u64 t (o + 1))))
+        → marked (markAll t rs m) o ≡ streamListed rs i
+    stream-marked rs m l z = all-marks t o names names-one rs m l ∙ rw (names-by rs, z) (or-none (streamListed rs i))
 
   -- An event class, the first of its ids
 
-  module _ (k : u8 t o ≡ eventKind) (first : (i j : ℕ) → isEvent t i j o ≡ true → findEventAt t (fragmentsOf t) i j ≡ some o) where
-    event-here : (h v : ℕ) → (eqb h (u64 t (o + 1)) && eqb v (u64 t (o + 9))) ≡ true → eventPlace t h v ≡ At o
+  module _ (i j : ℕ) (k : u8 t o ≡ eventKind) (id : u64 t (o + 1) ≡ i) (id′ : u64 t (o + 9) ≡ j)
+      (first : (i j : ℕ) → isEvent t i j o ≡ true → findEventAt t (fragmentsOf t) i j ≡ some o) where
+    event-here : (h v : ℕ) → (eqb h i && eqb v j) ≡ true → eventPlace t h v ≡ At o
     unfolding eventPlace foundOf isEvent
     event-here h v e =
-        let p : u64 t (o + 1) ≡ h = sym (eqb-true h _ (and-left (eqb h (u64 t (o + 1))) _ e)) in
-        let q : u64 t (o + 9) ≡ v = sym (eqb-true v _ (and-right (eqb h (u64 t (o + 1))) _ e)) in
+        let p : u64 t (o + 1) ≡ h = id ∙ sym (eqb-true h i (and-left (eqb h i) _ e)) in
+        let q : u64 t (o + 9) ≡ v = id′ ∙ sym (eqb-true v j (and-right (eqb h i) _ e)) in
         ap foundOf (first h v (rw (k, eq-eqb (u64 t (o + 1)) h p, eq-eqb (u64 t (o + 9)) v q) refl))
 
-    event-own : (h v : ℕ) → eventPlace t h v ≡ At o → (eqb h (u64 t (o + 1)) && eqb v (u64 t (o + 9))) ≡ true
-    event-own h v e = let i = event-is h v e in rw (eq-eqb h (u64 t (o + 1)) (sym (i .1)), eq-eqb v (u64 t (o + 9)) (sym (i .2))) refl
+    event-own : (h v : ℕ) → eventPlace t h v ≡ At o → (eqb h i && eqb v j) ≡ true
+    event-own h v e = let x = event-is h v e in rw (eq-eqb h i (sym (x .1) ∙ id), eq-eqb v j (sym (x .2) ∙ id′)) refl
 
     -- the event class of two ids is this one just where both are its own
     of-event : (h v : ℕ) (m : List ℕ) → o < length m
-        → marked (markAt (eventPlace t h v) m) o ≡ ((eqb h (u64 t (o + 1)) && eqb v (u64 t (o + 9))) || marked m o)
-    of-event h v m l = by (eqb h (u64 t (o + 1)) && eqb v (u64 t (o + 9))) refl
+        → marked (markAt (eventPlace t h v) m) o ≡ ((eqb h i && eqb v j) || marked m o)
+    of-event h v m l = by (eqb h i && eqb v j) refl
       where
-        by : (b : Bool) → (eqb h (u64 t (o + 1)) && eqb v (u64 t (o + 9))) ≡ b → marked (markAt (eventPlace t h v) m) o ≡ (b || marked m o)
+        by : (b : Bool) → (eqb h i && eqb v j) ≡ b → marked (markAt (eventPlace t h v) m) o ≡ (b || marked m o)
         by true e = mark-here o m l (event-here h v e)
         by false e = mark-there o m (eventPlace t h v) (λ q. clash (sym e ∙ event-own h v q))
 
@@ -221,32 +227,32 @@ module _ {t : List ℕ} (a : Accepts t) (o : ℕ) where
     no-stream v m = mark-there o m (streamPlace t v) (λ q. omega (arith, stream-is v q .0))
 
     tells : ℕ → ℕ → ℕ → Bool
-    tells h x v = eqb x eventClassFound && eqb h (u64 t (o + 1)) && eqb v (u64 t (o + 9))
+    tells h x v = eqb x eventClassFound && eqb h i && eqb v j
 
     tells-one : (h x v : ℕ) (m : List ℕ) → o < length m → marked (markOne t h x v m) o ≡ (tells h x v || marked m o)
     unfolding markOne tells
     tells-one h x v m l = by (eqb x streamClassFound) refl (eqb x eventClassFound) refl
       where
         by : (c : Bool) → eqb x streamClassFound ≡ c → (d : Bool) → eqb x eventClassFound ≡ d
-            → marked (markBy t h v m c d) o ≡ ((d && eqb h (u64 t (o + 1)) && eqb v (u64 t (o + 9))) || marked m o)
+            → marked (markBy t h v m c d) o ≡ ((d && eqb h i && eqb v j) || marked m o)
         by true p true q = absurd (not-both x p q)
         by true p false q = no-stream v m
         by false p true q = no-stream h _ ∙ of-event h v m l
         by false p false q = refl
 
-    tells-in : (h : ℕ) (es : List Entry) → hitIn t o tells tells-one h es ≡ eventIn (u64 t (o + 1)) (u64 t (o + 9)) h es
+    tells-in : (h : ℕ) (es : List Entry) → hitIn t o tells tells-one h es ≡ eventIn i j h es
     unfolding hitIn eventIn tells
     tells-in h [] = refl
     tells-in h (e ∷ es) = rw (tells-in (under h e) es) refl
 
-    tells-by : (rs : List Reading) → hitBy t o tells tells-one rs ≡ eventListed rs (u64 t (o + 1)) (u64 t (o + 9))
+    tells-by : (rs : List Reading) → hitBy t o tells tells-one rs ≡ eventListed rs i j
     unfolding hitBy eventListed
     tells-by [] = refl
     tells-by (r ∷ rs) = rw (tells-in 0 (r .entries), tells-by rs) refl
 
     pub event-marked : (rs : List Reading) (m : List ℕ) → o < length m → marked m o ≡ false
-        → marked (markAll t rs m) o ≡ eventListed rs (u64 t (o + 1)) (u64 t (o + 9))
-    event-marked rs m l z = all-marks t o tells tells-one rs m l ∙ rw (tells-by rs, z) (or-none (eventListed rs (u64 t (o + 1)) (u64 t (o + 9))))
+        → marked (markAll t rs m) o ≡ eventListed rs i j
+    event-marked rs m l z = all-marks t o tells tells-one rs m l ∙ rw (tells-by rs, z) (or-none (eventListed rs i j))
 
 -- An event class that is listed has its stream class listed
 
@@ -290,12 +296,11 @@ module _ {t : List ℕ} (a : Accepts t) (rs : List Reading) (m : List ℕ) (room
   marks-of (o ∷ os) f s e =
       let l : o < length m = omega (arith, f .0 .onward, f .0 .within) in (
         record {
-          stream = λ k. stream-marked a o k (λ i. s i .0) rs m l (no-mark m z o);
-          event = λ k. event-marked a o k (λ i j. e i j .0) rs m l (no-mark m z o) ∙ sym (both-listed rs _ _);
+          stream = λ k. stream-marked a o _ k refl (λ i. s i .0) rs m l (no-mark m z o);
+          event = λ k. event-marked a o _ _ k refl refl (λ i j. e i j .0) rs m l (no-mark m z o) ∙ sym (both-listed rs _ _);
         },
         marks-of os (f .1) (λ i. s i .1) (λ i j. e i j .1),
       )
 
-  pub named : ((i : ℕ) → All (λ o. isStream t i o ≡ true → findStreamAt t (fragmentsOf t) i ≡ some o) (fragmentsOf t))
-      → Marks (streamListed rs) (eventListed rs) t (markAll t rs m)
-  named s = record { each = marks-of (fragmentsOf t) (a .fragments) s (a .firsts) }
+  pub named : Marks (streamListed rs) (eventListed rs) t (markAll t rs m)
+  named = record { each = marks-of (fragmentsOf t) (a .fragments) (a .streams) (a .firsts) }

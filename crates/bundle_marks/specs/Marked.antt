@@ -1,5 +1,5 @@
--- Which fragments of a table the entries of lists name: a mark for each byte of the table, not 0 where a stream class or an event class opens
--- that is named.
+-- Which fragments of a table the entries of lists name: a mark for each byte of the table, not 0 where a stream class or an event class
+-- opens that is named.
 use Prim.Native.Nat.{ℕ, zero, suc, _<_}
 use mathlib.Core.List.{List, [], _∷_}
 use mathlib.Core.Bool.{true, false}
@@ -47,8 +47,8 @@ markAt Nothing m = m
 -- An entry of the kind k and the value v, with the stream class i in front
 
 -- which is in front behind it
-unfoldable pub inFront : ℕ → ℕ → ℕ → ℕ
-inFront i k v = elim (eqb k streamClassFound) [ true ↦ v | false ↦ i ]
+unfoldable pub nextFront : ℕ → ℕ → ℕ → ℕ
+nextFront i k v = elim (eqb k streamClassFound) [ true ↦ v | false ↦ i ]
 
 -- entry 2 names a stream class; entry 5 an event class of the one in front, and that one
 unfoldable pub markOne : List ℕ → ℕ → ℕ → ℕ → List ℕ → List ℕ

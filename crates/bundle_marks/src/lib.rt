@@ -1,6 +1,6 @@
-// Which stream and event classes a list names: a mark by the byte of the table where each fragment opens. Entry 2 names a stream class. Entry 5
-// names an event class of the stream class in front, that of the latest entry 2, and the stream class with it, so that no law about
-// lists is needed to say that an event class never stays without its stream class.
+// Which stream and event classes a list names: a mark by the byte of the table where each fragment opens. Entry 2 names a stream class.
+// Entry 5 names an event class of the stream class in front, that of the latest entry 2, and the stream class with it, so that no law
+// about lists is needed to say that an event class never stays without its stream class.
 use class_layout::TablePlace;
 use class_lookup::find_event_class;
 use class_lookup::find_stream_class;
@@ -12,7 +12,7 @@ ghost use lib.ListN.{length};
 ghost use Rattle.rules.specs.Limits.{tableLimit, wordsPerEntry};
 ghost use Rattle.class_layout.specs.Sizes.{Sized};
 ghost use Rattle.class_lookup.specs.Index.{Hints};
-ghost use Rattle.bundle_marks.specs.Marked.{entriesOf, streamPlace, frontOf, Below, markAt, inFront, markOne, markList};
+ghost use Rattle.bundle_marks.specs.Marked.{entriesOf, streamPlace, frontOf, Below, markAt, nextFront, markOne, markList};
 
 // The stream class in front: its id, and where it stands.
 struct Front {
@@ -67,7 +67,7 @@ fn mark_entry(
     requires { ⌜ (Sized (now table) (now sizes)) × (Hints (now table) (now index)) ⌝ }
     requires { ⌜ (front .place ≡ streamPlace (now table) (front .id)) × (tableLimit ≤ length (now marks)) ⌝ }
     ensures { λ r. ⌜
-        (r ≡ frontOf (now (table .entry)) (inFront (front .id) kind value))
+        (r ≡ frontOf (now (table .entry)) (nextFront (front .id) kind value))
         × (now (marks .exit) ≡ markOne (now (table .entry)) (front .id) kind value (now (marks .entry)))
         ⌝ }
 {

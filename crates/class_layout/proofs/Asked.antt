@@ -12,6 +12,7 @@ use lib.Dec.{ltb, eqb}
 use borrow.Author.Tests.{ltb-true, ltb-false}
 use Rattle.rules.specs.declared.ByteLength.{ByteLength}
 use Rattle.rules.specs.declared.Checked.the-variants.{Accepted}
+use Rattle.rules.specs.Place.{byteLength}
 use Rattle.rules.specs.Class.{Class}
 use Rattle.rules.specs.Record.{Fragment as Opening, preamble, traceClass, clockClass, streamClass, eventClass, Record, unknown, fragment}
 use Rattle.rules.specs.Record.{root, class, range, option, u8, u64, size, recordOf, behind}
@@ -351,3 +352,12 @@ checked-accepts t n h = by (parse t) refl h
       streams = λ i. each-stream-first t T y e i;
       firsts = λ i j. each-event-first t T y e i j;
     }
+
+-- a table that is accepted is so to its end
+pub checked-whole : (t : List ℕ) (n : ByteLength) → checked t ≡ Accepted n → checked t ≡ Accepted (byteLength (length t))
+unfolding checked
+checked-whole t n h = by (parse t) h
+  where
+    by : (o : Parsed Table) → checkedOf t o ≡ Accepted n → checkedOf t o ≡ Accepted (byteLength (length t))
+    by (bad m y) h = let z : _≡_ {A = ℕ} 0 1 = unfold checkedOf in cc in absurd (omega arith)
+    by (good T y) h = unfold checkedOf in refl

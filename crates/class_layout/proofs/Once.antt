@@ -1,5 +1,5 @@
--- No two stream classes of an accepted table have the same id, and no two event classes the same ids (7): the class at a fragment's place is
--- the first of its ids. One fragment, under the ids seen before it; the walk over the fragments is in Asked.
+-- No two stream classes of an accepted table have the same id, and no two event classes the same ids (7): the class at a fragment's place
+-- is the first of its ids. One fragment, under the ids seen before it; the walk over the fragments is in Asked.
 use mathlib.Core.Path.{_≡_, refl, sym, _∙_}
 use Prim.Native.Nat.{ℕ, _+_}
 use native.Mathlib.Omega.{arith}
@@ -116,7 +116,8 @@ module _ (t : List ℕ) where
   fresh-stream q (preamble v) m at e z i = absurd (omega arith)
   fresh-stream q (traceClass u x) m at e z i =
       record { kept = λ h. h; own = λ b. absurd (no-stream i 2 at (trace-at t at u x e .kind) refl b) }
-  fresh-stream q (clockClass c x) m at e z i = record { kept = λ h. h; own = λ b. absurd (no-stream i 3 at (clock-at t at c x e .0) refl b) }
+  fresh-stream q (clockClass c x) m at e z i =
+      record { kept = λ h. h; own = λ b. absurd (no-stream i 3 at (clock-at t at c x e .0) refl b) }
   fresh-stream q (streamClass c x) m at e z i = record { kept = λ h. or-some (eqb i c) _ h; own = λ b. stream-own q c x m at e z i b }
   fresh-stream q (eventClass c x) m at e z i =
       record { kept = λ h. h; own = λ b. absurd (no-stream i 5 at (event-at t at c x e .kind) refl b) }

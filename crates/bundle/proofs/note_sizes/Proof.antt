@@ -12,13 +12,17 @@ slice-aggregate-prepare : tie.Need-slice-aggregate-prepare
 slice-aggregate-prepare c = search needs
 
 prepare-requires : tie.Need-prepare-requires
-prepare-requires c κs = ?
+prepare-requires c κs =
+    let a = c .before .before in
+    let s = a .before .before .before in
+    let k = checked-accepts (s .args .table .now) _ (s .pre .0) .limit in
+    (s .pre .0, (omega (arith, k, s .pre .1), omega (arith, k, a .no-aligns .ensures)))
 
 same-length : tie.Need-same-length
 same-length c = search needs
 
 returns : tie.Need-returns
-returns c = ?
+returns c = c .before .before .before .prepare .ensures .ready .sized
 
 pub note-sizes-spec : {M : Type 1} → statement M
 note-sizes-spec = tie.close (tie.spec no-aligns-requires slice-aggregate-prepare prepare-requires same-length returns)

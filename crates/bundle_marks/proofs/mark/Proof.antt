@@ -18,6 +18,12 @@ abbrev μ-loop : tie.MeasureT-loop
 abbrev AtTurn : Type 0
 AtTurn = tie.In-loop Inv-loop μ-loop
 
+abbrev AtMarked : Type 0
+AtMarked = tie.After-mark-entry Inv-loop μ-loop
+
+abbrev to-turn : AtMarked → AtTurn
+to-turn c = c .before .before .before .before
+
 abbrev start : tie.At-loop Inv-loop μ-loop → tie.Start Inv-loop μ-loop
 start c = c .before .before .before .before .before .before .before
 
@@ -57,7 +63,7 @@ mark-entry-requires c κs =
 
 add-at : tie.Need-add-at Inv-loop μ-loop
 add-at c =
-    let turn = c .before .before .before .before .before .before in
+    let turn = to-turn (c .before .before) in
     omega (arith, there turn, start (turn .before) .good .1 .1 .1 .0)
 
 sub-left : tie.Need-sub-left Inv-loop μ-loop
@@ -69,7 +75,7 @@ loop-less c = search needs
 loop-again : tie.Need-loop-again Inv-loop μ-loop
 loop-again c =
     let d = c .before .before in
-    let turn = d .before .before .before .before in
+    let turn = to-turn d in
     mark-next (turn .before .loop .inv) (turn .loop-test .taken) (d .mark-entry .ensures) (d .mark-entry .kept .1 .1 .1 .1 .1 .1 .0)
 
 same-length : tie.Need-same-length Inv-loop μ-loop

@@ -39,6 +39,12 @@ to-other c = c .before .before .before
 abbrev to-event : AtMarked → AtEvent
 to-event c = c .before .before .before
 
+abbrev to-found : tie.After-slice-known2 → AtFound
+to-found c = c .before .before .before .before
+
+abbrev to-marked : tie.After-slice-known4 → AtMarked
+to-marked c = c .before .before .before .before
+
 -- The needs
 
 in-front-requires : tie.Need-in-front-requires
@@ -48,14 +54,15 @@ mark-place-requires : tie.Need-mark-place-requires
 mark-place-requires c κs =
     let f = c .before in
     let s = from-found f in
-    stream-below (s .pre .0 .0) _ (s .pre .1 .1) (s .args .value) (front-place (s .args .table .now) (s .args .value) (f .in-front .ensures))
+    let v = s .args .value in
+    stream-below (s .pre .0 .0) _ (s .pre .1 .1) v (front-place (s .args .table .now) v (f .in-front .ensures))
 
 same-length : tie.Need-same-length
 same-length c = search needs
 
 returns : tie.Need-returns
 returns c =
-    let f = c .before .before .before .before in
+    let f = to-found c in
     let s = from-found f in
     let a = s .args in
     stream-named (a .table .now) (a .marks .now) (a .kind) (a .value) (a .front .id) (f .before .if1 .taken) (f .in-front .ensures)
@@ -81,7 +88,7 @@ same-length-2 c = search needs
 
 returns-2 : tie.Need-returns-2
 returns-2 c =
-    let m = c .before .before .before .before in
+    let m = to-marked c in
     let e = to-event m in
     let o = to-other e in
     let s = from-other o in
