@@ -19,4 +19,7 @@ pub mod Parts
 pub mod Places
 pub mod Sizes
 pub mod Records
+pub mod BundleFigures
+pub mod Smallest
+pub mod SmallestCalls
 pub mod Promises
