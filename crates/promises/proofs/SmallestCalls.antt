@@ -26,8 +26,8 @@ use Rattle.promises.specs.Missing.{Good}
 use Rattle.promises.specs.Demands.{Call, listedBy, Contract}
 use Rattle.promises.specs.BundleFigures.{numbersOf}
 use Rattle.promises.specs.Smallest.{JustFound, entriesOf, anyStream, anyEvent, butEvent, butStream}
-use Rattle.promises.specs.SmallestCalls.{Reads, listsOf, resultsOf, joined, SmallestCalled, Cut, CutContract}
-use Rattle.promises.specs.SmallestCalls.{Refuses, Cuts, Answers, SmallestCalls}
+use Rattle.promises.specs.SmallestCalls.{Reads, listsOf, resultsOf, joined, SmallestCalled, Cut, cut, CutContract}
+use Rattle.promises.specs.SmallestCalls.{Refuses, Cuts, Answers, SmallestCalls, CutOnce}
 use Rattle.promises.proofs.Calls.{lists-entries}
 use Rattle.promises.proofs.Answers.{demand-1}
 use Rattle.promises.proofs.Found.{just-found}
@@ -260,3 +260,15 @@ smallest-calls x b ns ms cs c h k = record {
   over-sixteen = refuses-many x b ns ms c h;
   cuts = λ good n. cuts-smallest x b ns ms c h good n cs k;
 }
+
+-- what `bundle` ensures of a table, streams with their lengths, rooms, a result, and lists and buffer before and after
+abbrev pub EnsuredCut : List ℕ → List ℕ → List ℕ → List ℕ → Bundled → List ℕ → List ℕ → List ℕ → List ℕ → Type 0
+EnsuredCut x b ns ms r ws ws′ out out′ =
+    (r ≡ bundleAnswer x b ns ms ws (length out)) × (ws′ ≡ listsAfter r (bundleReadings x b ns ms ws) ms ws)
+    × (out′ ≡ bufferAfter r (bundleOf x (bundleReadings x b ns ms ws)) out)
+
+pub cut-once : (x b ns ms : List ℕ) (r : Bundled) (ws ws′ out out′ : List ℕ) → EnsuredCut x b ns ms r ws ws′ out out′
+    → CutOnce x b ns ms (cut r ws ws′ out out′)
+cut-once x b ns ms r ws ws′ out out′ e =
+    let h : CutContract x b ns ms (cut r ws ws′ out out′) = record { result = e .0; list = e .1; buffer = e .2 } in
+    record { contract = h; answers = λ cs k. smallest-calls x b ns ms cs _ h k }

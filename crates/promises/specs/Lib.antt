@@ -5,6 +5,9 @@ pub mod Missing
 pub mod Clocks
 pub mod Demands
 pub mod Apart
+pub mod BundleFigures
+pub mod Smallest
+pub mod SmallestCalls
 pub mod Results
 pub mod Only
 pub mod OnlyRan
@@ -19,7 +22,4 @@ pub mod Parts
 pub mod Places
 pub mod Sizes
 pub mod Records
-pub mod BundleFigures
-pub mod Smallest
-pub mod SmallestCalls
 pub mod Promises

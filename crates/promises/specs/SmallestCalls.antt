@@ -102,3 +102,8 @@ pub record Answers (x b ns ms : List ℕ) (cs : List Call) (c : Cut) : Type 0 wh
 abbrev pub SmallestCalls : Type 0
 SmallestCalls = (x b ns ms : List ℕ) (cs : List Call) (c : Cut)
     → CutContract x b ns ms c → Reads x (parts ns b) (parts ms (c .before)) cs → Answers x b ns ms cs c
+
+-- and of one call, as `promises_calls::cut_once` ensures it
+pub record CutOnce (x b ns ms : List ℕ) (c : Cut) : Type 0 where
+  pub contract : CutContract x b ns ms c
+  pub answers : (cs : List Call) → Reads x (parts ns b) (parts ms (c .before)) cs → Answers x b ns ms cs c
