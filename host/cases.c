@@ -1,10 +1,14 @@
-/* cases CASES ANSWERS: a host of the library. It asks the library each case of a case file, holds every word to the answers and the names
- * of trevoskel.h to what they say, reads streams as long as they may be, and measures the stack that the library takes. The last four
- * lines say what was found. Status 0: all agree, and memory and stack are below their limits; 1: not so; 2: a file could not be read.
+/* cases CASES ANSWERS BUNDLES ANSWERS: a host of the library. It asks the library each case of a case file and each of a file of bundles
+ * (bundles.h), holds every word and byte to the answers and the names of trevoskel.h to what they say, reads streams as long as they may
+ * be, and measures the stack that the library takes. The last five lines say what was found. Status 0: all agree, and memory and stack are
+ * below their limits; 1: not so; 2: a file could not be read.
  *
  * A case is three little-endian numbers of 32 bits, the table's bytes, the stream's bytes and the list's words, and then table and stream.
- * Its answer is a line NUMBER BYTE, a line NUMBER ENTRIES PLACE ID ID, a line KIND PLACE BITS VALUE an entry, and an empty line. */
+ * Its answer is a line NUMBER BYTE, a line NUMBER ENTRIES PLACE ID ID, a line KIND PLACE BITS VALUE RECORD an entry, and an empty line. */
+#include "bundles.h"
 #include "deep.h"
+#include "files.h"
+#include "lent.h"
 #include "long.h"
 #include "names.h"
 #include "stack.h"
@@ -17,9 +21,6 @@
 
 /* Rooms that a result is tried with: from no word to two words more than there are. */
 enum { ROOMS = TREVOSKEL_RESULT_WORDS + 3 };
-
-/* Words behind what is lent, which are to stay. */
-enum { BEHIND = 8 };
 
 enum { STACK_LIMIT = 1024 * 1024 };
 
@@ -48,55 +49,6 @@ struct cases {
     size_t longest_list;
     size_t differing;
 };
-
-static void fail(const char *name, const char *what)
-{
-    fprintf(stderr, "%s: %s\n", name, what);
-    exit(2);
-}
-
-static void *room_for(size_t count, size_t size)
-{
-    void *room = calloc(count, size);
-    if (room == NULL) fail("cases", "no memory");
-    return room;
-}
-
-/* A whole file, with a zero byte behind it. */
-static char *read_file(const char *name, size_t *bytes)
-{
-    FILE *file = fopen(name, "rb");
-    if (file == NULL || fseek(file, 0, SEEK_END) != 0) fail(name, "cannot be read");
-    long end = ftell(file);
-    if (end < 0 || fseek(file, 0, SEEK_SET) != 0) fail(name, "cannot be read");
-    char *text = room_for((size_t)end + 1, 1);
-    if (fread(text, 1, (size_t)end, file) != (size_t)end) fail(name, "cannot be read");
-    fclose(file);
-    *bytes = (size_t)end;
-    return text;
-}
-
-static size_t number_at(const uint8_t *from)
-{
-    return from[0] | (size_t)from[1] << 8 | (size_t)from[2] << 16 | (size_t)from[3] << 24;
-}
-
-/* Bytes in a room of just their length; none at all have no room. */
-static const uint8_t *own_room(const uint8_t *from, size_t bytes)
-{
-    if (bytes == 0) return NULL;
-    return memcpy(room_for(bytes, 1), from, bytes);
-}
-
-static void take_numbers(const char *name, const char **text, uint64_t *into, size_t count)
-{
-    for (size_t i = 0; i < count; i++) {
-        char *end;
-        into[i] = strtoull(*text, &end, 10);
-        if (end == *text || *end != (i + 1 < count ? ' ' : '\n')) fail(name, "is no file of answers");
-        *text = end + 1;
-    }
-}
 
 static void take_answer(const char *name, const char **text, struct answered *answered)
 {
@@ -147,17 +99,6 @@ static struct cases read_cases(const char *name, const char *answers_name)
     return cases;
 }
 
-/* What a word holds before a call. */
-static uint64_t came(size_t i)
-{
-    return UINT64_C(0x9E3779B97F4A7C15) * (i + 1);
-}
-
-static void fill(uint64_t *words, size_t from, size_t count)
-{
-    for (size_t i = from; i < count; i++) words[i] = came(i);
-}
-
 /* Holds words to what is due. Of a case that differs, counted from 0, the first word that does so is shown. */
 static void hold(struct cases *cases, size_t number, const char *what, size_t room, const uint64_t *got, const uint64_t *due, size_t count)
 {
@@ -170,14 +111,6 @@ static void hold(struct cases *cases, size_t number, const char *what, size_t ro
     cases->differing++;
 }
 
-/* What a result of so much room is due to hold, with the words behind it. */
-static void due_result(uint64_t *due, const uint64_t *words, size_t count, size_t room)
-{
-    size_t written = room < count ? room : count;
-    memcpy(due, words, written * sizeof *due);
-    fill(due, written, ROOMS + BEHIND);
-}
-
 static void check_all(void *given)
 {
     struct cases *cases = given;
@@ -187,7 +120,7 @@ static void check_all(void *given)
             const struct answered *one = &cases->of[i];
             fill(result, 0, ROOMS + BEHIND);
             uint64_t number = trevoskel_check(one->table, one->table_bytes, room == 0 ? NULL : result, room);
-            due_result(due, one->checked, TREVOSKEL_CHECKED_WORDS, room);
+            due_words(due, one->checked, TREVOSKEL_CHECKED_WORDS, room, ROOMS + BEHIND);
             hold(cases, i, "the number of a check with a result", room, &number, one->checked, 1);
             hold(cases, i, "a check's result", room, result, due, ROOMS + BEHIND);
         }
@@ -207,7 +140,7 @@ static void read_all(void *given)
             fill(cases->list, 0, one->list_words + BEHIND);
             uint64_t number = trevoskel_read(one->table, one->table_bytes, one->stream, one->stream_bytes,
                                              one->list_words == 0 ? NULL : cases->list, one->list_words, room == 0 ? NULL : result, room);
-            due_result(due, one->result, TREVOSKEL_RESULT_WORDS, room);
+            due_words(due, one->result, TREVOSKEL_RESULT_WORDS, room, ROOMS + BEHIND);
             hold(cases, i, "the number of a reading with a result", room, &number, one->result, 1);
             hold(cases, i, "a reading's result", room, result, due, ROOMS + BEHIND);
             hold(cases, i, "a list", one->list_words, cases->list, cases->due, one->list_words + BEHIND);
@@ -215,48 +148,53 @@ static void read_all(void *given)
     }
 }
 
-/* The deepest tables are checked or read. What they are made for is that they are accepted, so any other answer ends the program. */
-static void ask_deep(struct deep *deep, int reading, uint32_t due)
+/* What the deepest tables are asked for. */
+enum asked { CHECK, READ, BUNDLE };
+
+static uint32_t answer_deep(const struct deep *deep, enum asked asked)
 {
     static uint64_t list[DEEP_LIST], result[TREVOSKEL_RESULT_WORDS];
-    uint32_t number = reading ? trevoskel_read(deep->table, deep->table_bytes, deep->stream, deep->stream_bytes, list, DEEP_LIST,
-                                               result, TREVOSKEL_RESULT_WORDS)
-                              : trevoskel_check(deep->table, deep->table_bytes, result, TREVOSKEL_CHECKED_WORDS);
+    static uint8_t out[sizeof deep->table];
+    const uint64_t length = deep->stream_bytes, room = DEEP_LIST;
+    switch (asked) {
+    case CHECK: return trevoskel_check(deep->table, deep->table_bytes, result, TREVOSKEL_CHECKED_WORDS);
+    case READ:
+        return trevoskel_read(deep->table, deep->table_bytes, deep->stream, deep->stream_bytes, list, DEEP_LIST, result,
+                              TREVOSKEL_RESULT_WORDS);
+    default:
+        return trevoskel_bundle(deep->table, deep->table_bytes, deep->stream, deep->stream_bytes, &length, 1, &room, 1, list, DEEP_LIST, out,
+                                sizeof out, result, TREVOSKEL_BUNDLED_WORDS);
+    }
+}
+
+/* What they are made for is that they are accepted, so any other answer ends the program. */
+static void ask_deep(const struct deep *deep, enum asked asked, uint32_t due)
+{
+    uint32_t number = answer_deep(deep, asked);
     if (number == due) return;
     printf("a table of depth 8 got %" PRIu32 ", and %" PRIu32 " is due\n", number, due);
     exit(1);
 }
 
-static void ask_all_deep(int reading)
+static void ask_all_deep(void *given)
 {
     static struct deep deep;
+    enum asked asked = *(enum asked *)given;
     for (unsigned row = 0; row < DEEP_ROWS; row++) {
         deep_make(&deep, 5, row, DEEP_AROUND, 18, 0);
-        ask_deep(&deep, reading, TREVOSKEL_ACCEPTED);
+        ask_deep(&deep, asked, TREVOSKEL_ACCEPTED);
     }
     for (unsigned root = 0; root < DEEP_ROOTS; root++)
         for (unsigned digit = 0; digit < DEEP_KINDS; digit++) {
             for (unsigned leaf = DEEP_FIRST; leaf <= DEEP_LAST; leaf++) {
                 deep_make(&deep, root, deep_same(digit), DEEP_AROUND, leaf, 0);
-                ask_deep(&deep, reading, TREVOSKEL_ACCEPTED);
+                ask_deep(&deep, asked, TREVOSKEL_ACCEPTED);
             }
             deep_make(&deep, root, deep_same(digit), DEEP_AROUND, 18, 1);
-            ask_deep(&deep, reading, TREVOSKEL_ACCEPTED);
+            ask_deep(&deep, asked, TREVOSKEL_ACCEPTED);
         }
     deep_make(&deep, 5, 0, DEEP_AROUND + 1, 18, 0);
-    ask_deep(&deep, reading, reading ? TREVOSKEL_TABLE_REFUSED : TREVOSKEL_TOO_DEEP);
-}
-
-static void check_deep(void *given)
-{
-    (void)given;
-    ask_all_deep(0);
-}
-
-static void read_deep(void *given)
-{
-    (void)given;
-    ask_all_deep(1);
+    ask_deep(&deep, asked, asked == CHECK ? TREVOSKEL_TOO_DEEP : TREVOSKEL_TABLE_REFUSED);
 }
 
 static size_t larger(size_t a, size_t b)
@@ -264,19 +202,29 @@ static size_t larger(size_t a, size_t b)
     return a < b ? b : a;
 }
 
+/* The stack that a piece of work takes, or the deepest tables where they take more. */
+static size_t stack_of(void (*work)(void *), void *with, enum asked asked)
+{
+    return larger(stack_taken(work, with), stack_taken(ask_all_deep, &asked));
+}
+
 int main(int argc, char **argv)
 {
-    if (argc != 3) fail("usage", "cases CASES ANSWERS");
+    if (argc != 5) fail("usage", "cases CASES ANSWERS BUNDLES ANSWERS");
     struct cases cases = read_cases(argv[1], argv[2]);
+    struct bundles *bundles = bundles_read(argv[3], argv[4]);
     int named = names_hold();
     int lengths = long_hold();
-    size_t check = larger(stack_taken(check_all, &cases), stack_taken(check_deep, NULL));
-    size_t reading = larger(stack_taken(read_all, &cases), stack_taken(read_deep, NULL));
-    int within = larger(check, reading) < STACK_LIMIT;
+    size_t check = stack_of(check_all, &cases, CHECK);
+    size_t reading = stack_of(read_all, &cases, READ);
+    size_t bundle = stack_of(bundles_ask, bundles, BUNDLE);
+    int within = larger(check, larger(reading, bundle)) < STACK_LIMIT;
     printf("%zu of %zu cases agree, each with results of 0 to %d words\n", cases.count - cases.differing, cases.count, ROOMS - 1);
+    int cut = bundles_say(bundles);
     printf("the names of trevoskel.h %s what they say\n", named ? "stand for" : "DO NOT STAND FOR");
     printf("streams of up to 536,870,911 bytes %s their answers, in less than %d MiB of memory\n", lengths ? "get" : "DO NOT GET",
            LONG_MEMORY_MIB);
-    printf("stack: a check takes up to %zu bytes, a reading up to %zu, %s\n", check, reading, within ? "below 1 MiB" : "NOT BELOW 1 MiB");
-    return cases.differing == 0 && named && lengths && within ? 0 : 1;
+    printf("stack: a check takes up to %zu bytes, a reading up to %zu, a bundle up to %zu, %s\n", check, reading, bundle,
+           within ? "below 1 MiB" : "NOT BELOW 1 MiB");
+    return cases.differing == 0 && cut && named && lengths && within ? 0 : 1;
 }

@@ -7,7 +7,8 @@
 #include <stdio.h>
 #include <string.h>
 
-/* A table that is checked, or a stream that is read, for each number but 15, which takes a long table, and 40, which is of the list. */
+/* A table that is checked, or a stream that is read, for each number but 15, which takes a long table, 40, which is of the list, and those of
+ * bundles. */
 static const struct {
     uint32_t number;
     struct bytes table;
@@ -67,8 +68,10 @@ static const struct {
     {TREVOSKEL_NOT_TEXT, BYTES(UNTIMED, CONTEXT(1), STRING), BYTES('a', 0xED, 0xA0, 0x80, 0)},
 };
 
-/* A table whose last record is the event class of a stream with one event and a byte of padding. */
+/* A table whose last record is the event class of a stream with one event and a byte of padding; and what stands in front of its stream and
+ * event class. */
 enum { STREAM = 7, EVENT = 9, EVENT_CLASS_BYTES = 17 };
+static const uint8_t FRONT[] = {PREAMBLE, TRACE_CLASS, HEADER(1), WITH_ROLE(8, STREAM_CLASS_ID), CLOCK_CLASS};
 static const uint8_t TABLE[] = {
     PREAMBLE, TRACE_CLASS, HEADER(1), WITH_ROLE(8, STREAM_CLASS_ID), CLOCK_CLASS, STREAM_CLASS(STREAM, 0),
     CONTEXT(2), WITH_ROLE(8, TOTAL), WITH_ROLE(8, CONTENT), EVENT_HEADER(2), WITH_ROLE(8, EVENT_CLASS_ID), WITH_ROLE(8, STAMP),
@@ -204,7 +207,59 @@ static int readings_hold(void)
            reading_holds(sizeof TABLE, 2 * TREVOSKEL_ENTRY_WORDS - 1, list_full);
 }
 
+/* Cuts a table to that stream, into a buffer of so many bytes: the result that is due, and so many bytes of the table and entries. */
+static int bundle_holds(struct bytes table, size_t streams, size_t buffer, const uint64_t *due, size_t written, size_t listed)
+{
+    enum { STREAMS = 17, HELD = 0xEE };
+    const uint64_t lengths[STREAMS] = {sizeof ONE_EVENT}, rooms[] = {ROOM};
+    uint64_t list[ROOM], result[ROOM];
+    uint8_t out[256], due_out[sizeof out];
+    fill(list);
+    fill(result);
+    memset(out, HELD, sizeof out);
+    memset(due_out, HELD, sizeof due_out);
+    memcpy(due_out, table.from, written);
+    uint32_t number = trevoskel_bundle(table.from, table.count, ONE_EVENT, sizeof ONE_EVENT, lengths, streams, rooms, 1, list, ROOM, out,
+                                       buffer, result, ROOM);
+    if (memcmp(out, due_out, sizeof out) != 0) {
+        printf("a bundle's bytes are not those of the table's that are due\n");
+        return 0;
+    }
+    return same_number("a bundle", number, (uint32_t)due[TREVOSKEL_BUNDLED_NUMBER]) &
+           same_words("a bundle's result", result, due, TREVOSKEL_BUNDLED_WORDS) &
+           same_words("a bundle's list", list, LISTED[0], listed * TREVOSKEL_ENTRY_WORDS);
+}
+
+static int bundles_hold(void)
+{
+    enum { ENTRIES = sizeof LISTED / sizeof *LISTED };
+    const struct bytes table = {TABLE, sizeof TABLE}, unsound = BYTES(UNTIMED, EVENT_CLASS(1, 0));
+    const uint64_t all[TREVOSKEL_BUNDLED_WORDS] = {
+        [TREVOSKEL_BUNDLED_NUMBER] = TREVOSKEL_ACCEPTED,
+        [TREVOSKEL_BUNDLED_LENGTH] = sizeof TABLE,
+    };
+    const uint64_t no_class[TREVOSKEL_BUNDLED_WORDS] = {
+        [TREVOSKEL_BUNDLED_NUMBER] = TREVOSKEL_ACCEPTED,
+        [TREVOSKEL_BUNDLED_LENGTH] = sizeof FRONT,
+    };
+    const uint64_t refused[TREVOSKEL_BUNDLED_WORDS] = {
+        [TREVOSKEL_BUNDLED_NUMBER] = TREVOSKEL_TABLE_REFUSED,
+        [TREVOSKEL_BUNDLED_LENGTH] = 12,
+        [TREVOSKEL_BUNDLED_ID] = TREVOSKEL_ID_UNKNOWN,
+    };
+    const uint64_t too_many[TREVOSKEL_BUNDLED_WORDS] = {[TREVOSKEL_BUNDLED_NUMBER] = TREVOSKEL_TOO_MANY_STREAMS};
+    const uint64_t short_buffer[TREVOSKEL_BUNDLED_WORDS] = {
+        [TREVOSKEL_BUNDLED_NUMBER] = TREVOSKEL_SHORT_BUFFER,
+        [TREVOSKEL_BUNDLED_LENGTH] = sizeof TABLE,
+    };
+    return bundle_holds(table, 1, sizeof TABLE, all, sizeof TABLE, ENTRIES) &
+           bundle_holds(table, 0, sizeof TABLE, no_class, sizeof FRONT, 0) &
+           bundle_holds(unsound, 17, 0, refused, 0, 0) &
+           bundle_holds(table, 17, 0, too_many, 0, 0) &
+           bundle_holds(table, 16, sizeof TABLE - 1, short_buffer, 0, ENTRIES);
+}
+
 int names_hold(void)
 {
-    return tables_hold() & fragments_hold() & streams_hold() & checked_words_hold() & readings_hold();
+    return tables_hold() & fragments_hold() & streams_hold() & checked_words_hold() & readings_hold() & bundles_hold();
 }

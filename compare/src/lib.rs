@@ -3,6 +3,8 @@
 
 pub mod apart;
 pub mod bits;
+pub mod bundle;
+pub mod bundle_trial;
 pub mod case;
 pub mod class;
 pub mod corners;
@@ -13,6 +15,7 @@ pub mod elements;
 pub mod encode;
 pub mod generate;
 pub mod homes;
+pub mod make_bundle;
 pub mod make_table;
 pub mod program;
 pub mod random;

@@ -1,8 +1,11 @@
-//! `compare answers`, `compare apart`, `compare cases`, `compare run` and `compare soak`.
+//! `compare answers`, `compare apart`, `compare cases`, `compare run` and `compare soak`; of bundles the same but `apart`.
 
 use compare::apart::{next_removal, without};
+use compare::bundle::{next_bundling, write_bundlings};
+use compare::bundle_trial::{try_seed, BundleTally};
 use compare::case::{next_case, write_file, Answer, Case};
 use compare::generate::generate;
+use compare::make_bundle::make_bundlings;
 use compare::program::Program;
 use compare::trial::{try_cases, Tally};
 use std::io::{Read, Write};
@@ -14,7 +17,11 @@ const USE: &str = "use:
   compare apart PROGRAM [ARGS...] < file of cases, each with the number of a packet
   compare cases SEED COUNT > case file
   compare run [--each N] [--removed N] [--elements N] [--bounds N] SEED COUNT PROGRAM [ARGS...]
-  compare soak SECONDS PROGRAM [ARGS...]";
+  compare soak SECONDS PROGRAM [ARGS...]
+  compare bundle-answers < file of shared bundle cases
+  compare bundle-cases SEED COUNT > file of whole bundle cases
+  compare bundle-run [--each N] [--apart N] SEED COUNT PROGRAM [ARGS...]
+  compare bundle-soak SECONDS PROGRAM [ARGS...]";
 
 const BATCH: usize = 1000;
 
@@ -27,6 +34,10 @@ fn main() -> ExitCode {
         ["cases", seed, count] => cases(seed, count),
         ["run", ref rest @ ..] => run(rest),
         ["soak", seconds, ref program @ ..] => soak(seconds, program),
+        ["bundle-answers"] => bundle_answers(),
+        ["bundle-cases", seed, count] => bundle_cases(seed, count),
+        ["bundle-run", ref rest @ ..] => bundle_run(rest),
+        ["bundle-soak", seconds, ref program @ ..] => bundle_soak(seconds, program),
         _ => None,
     };
     done.unwrap_or_else(|| {
@@ -40,7 +51,11 @@ fn program(words: &[&str]) -> Option<Program> {
     Some(Program { name: name.to_string(), args: args.iter().map(|arg| arg.to_string()).collect() })
 }
 
-fn answers() -> Option<ExitCode> {
+/// Answers each case that `next` takes from the file on standard input.
+fn answer_each<Case>(
+    next: impl Fn(&mut &[u8]) -> Option<Case>,
+    answer: impl Fn(&Case, &mut String),
+) -> Option<ExitCode> {
     let mut file = Vec::new();
     let mut output = std::io::stdout().lock();
     if let Err(error) = std::io::stdin().lock().read_to_end(&mut file) {
@@ -49,9 +64,9 @@ fn answers() -> Option<ExitCode> {
     }
     let mut rest = &file[..];
     let mut text = String::new();
-    while let Some(case) = next_case(&mut rest) {
+    while let Some(case) = next(&mut rest) {
         text.clear();
-        case.answer().write(&mut text);
+        answer(&case, &mut text);
         if output.write_all(text.as_bytes()).is_err() {
             return Some(ExitCode::FAILURE);
         }
@@ -61,6 +76,14 @@ fn answers() -> Option<ExitCode> {
         return Some(ExitCode::FAILURE);
     }
     Some(ExitCode::SUCCESS)
+}
+
+fn answers() -> Option<ExitCode> {
+    answer_each(next_case, |case, text| case.answer().write(text))
+}
+
+fn bundle_answers() -> Option<ExitCode> {
+    answer_each(next_bundling, |case, text| case.write_readings(text))
 }
 
 /// What the program reads of each stream without a packet, which is cut out by the program's own
@@ -90,8 +113,7 @@ fn apart(words: &[&str]) -> Option<ExitCode> {
     let Some(answers) = answers_of(&program, &shorter) else { return Some(ExitCode::FAILURE) };
     let mut text = String::new();
     answers.iter().for_each(|answer| answer.write_reading(&mut text));
-    let written = std::io::stdout().lock().write_all(text.as_bytes());
-    Some(if written.is_ok() { ExitCode::SUCCESS } else { ExitCode::FAILURE })
+    written(text.as_bytes())
 }
 
 fn answers_of(program: &Program, cases: &[Case]) -> Option<Vec<Answer>> {
@@ -103,10 +125,17 @@ fn answers_of(program: &Program, cases: &[Case]) -> Option<Vec<Answer>> {
     Some(run.answers)
 }
 
-fn cases(seed: &str, count: &str) -> Option<ExitCode> {
-    let file = write_file(&generate(seed.parse().ok()?, count.parse().ok()?));
-    let written = std::io::stdout().lock().write_all(&file);
+fn written(file: &[u8]) -> Option<ExitCode> {
+    let written = std::io::stdout().lock().write_all(file);
     Some(if written.is_ok() { ExitCode::SUCCESS } else { ExitCode::FAILURE })
+}
+
+fn cases(seed: &str, count: &str) -> Option<ExitCode> {
+    written(&write_file(&generate(seed.parse().ok()?, count.parse().ok()?)))
+}
+
+fn bundle_cases(seed: &str, count: &str) -> Option<ExitCode> {
+    written(&write_bundlings(&make_bundlings(seed.parse().ok()?, count.parse().ok()?)))
 }
 
 /// What a run must reach: each number so often, so many packets removed, so many refusals of each
@@ -162,20 +191,69 @@ fn run(mut words: &[&str]) -> Option<ExitCode> {
     Some(ExitCode::SUCCESS)
 }
 
-fn soak(seconds: &str, words: &[&str]) -> Option<ExitCode> {
+/// The bundles agree, each number that a bundle can get came so often, and so many bundles tell
+/// event classes of one id apart.
+fn bundle_run(mut words: &[&str]) -> Option<ExitCode> {
+    let (mut each, mut apart) = (0, 0);
+    while let [option, number, rest @ ..] = words {
+        let wanted = match *option {
+            "--each" => &mut each,
+            "--apart" => &mut apart,
+            _ => break,
+        };
+        *wanted = number.parse().ok()?;
+        words = rest;
+    }
+    let [seed, count, ref words @ ..] = *words else { return None };
     let program = program(words)?;
+    let (seed, count): (u64, usize) = (seed.parse().ok()?, count.parse().ok()?);
+    println!("seed {seed}");
+    let mut tally = BundleTally::default();
+    if !try_seed(&program, seed, count, &mut tally) {
+        return Some(ExitCode::FAILURE);
+    }
+    print!("{tally}");
+    if [0, 20, 44, 45].iter().any(|&number| tally.times(number) < each) || tally.ids_apart() < apart
+    {
+        println!("a number came fewer than {each} times, or an id stood apart fewer than {apart}");
+        return Some(ExitCode::FAILURE);
+    }
+    Some(ExitCode::SUCCESS)
+}
+
+/// Tries one fresh seed after another until the time is over, or one fails and has said so.
+fn soak_by(seconds: &str, mut try_one: impl FnMut(u64) -> bool) -> Option<ExitCode> {
     let limit = Duration::from_secs(seconds.parse().ok()?);
     let start = Instant::now();
     let mut seed =
         SystemTime::now().duration_since(UNIX_EPOCH).map_or(1, |now| now.as_nanos() as u64);
-    let mut tally = Tally::default();
     while start.elapsed() < limit {
-        if !try_cases(&program, &generate(seed, BATCH), &mut tally) {
-            println!("seed {seed}, {BATCH} cases");
+        if !try_one(seed) {
             return Some(ExitCode::FAILURE);
         }
         seed = seed.wrapping_add(1);
     }
-    print!("{tally}");
     Some(ExitCode::SUCCESS)
+}
+
+fn soak(seconds: &str, words: &[&str]) -> Option<ExitCode> {
+    let program = program(words)?;
+    let mut tally = Tally::default();
+    let ended = soak_by(seconds, |seed| {
+        let agree = try_cases(&program, &generate(seed, BATCH), &mut tally);
+        if !agree {
+            println!("seed {seed}, {BATCH} cases");
+        }
+        agree
+    })?;
+    print!("{tally}");
+    Some(ended)
+}
+
+fn bundle_soak(seconds: &str, words: &[&str]) -> Option<ExitCode> {
+    let program = program(words)?;
+    let mut tally = BundleTally::default();
+    let ended = soak_by(seconds, |seed| try_seed(&program, seed, BATCH, &mut tally))?;
+    print!("{tally}");
+    Some(ended)
 }

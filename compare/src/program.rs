@@ -21,6 +21,23 @@ pub struct Run {
 impl Program {
     /// Runs the program once over all cases, ending it after `limit`.
     pub fn run(&self, cases: &[Case], limit: Duration) -> Run {
+        let (text, fault) = self.ask(write_file(cases), limit);
+        let mut lines = text.lines();
+        let answers: Vec<Answer> =
+            std::iter::from_fn(|| next_answer(&mut lines)).take(cases.len()).collect();
+        let fault = match fault {
+            Some(fault) => Some(fault),
+            None if answers.len() < cases.len() => {
+                Some("answers are missing or malformed".to_string())
+            }
+            None => lines.next().map(|_| "there are more answers than cases".to_string()),
+        };
+        Run { answers, fault }
+    }
+
+    /// Runs the program once over a file, ending it after `limit`: what it says, and why the run
+    /// is not as it should be, if it is not.
+    pub fn ask(&self, file: Vec<u8>, limit: Duration) -> (String, Option<String>) {
         let spawned = Command::new(&self.name)
             .args(&self.args)
             .stdin(Stdio::piped())
@@ -30,11 +47,10 @@ impl Program {
         let mut child = match spawned {
             Ok(child) => child,
             Err(error) => {
-                let fault = Some(format!("{} could not be started: {error}", self.name));
-                return Run { answers: Vec::new(), fault };
+                let fault = format!("{} could not be started: {error}", self.name);
+                return (String::new(), Some(fault));
             }
         };
-        let file = write_file(cases);
         let (mut input, mut output) = (child.stdin.take(), child.stdout.take());
         // Writing and reading each have a thread, so that no full pipe blocks.
         let (text, status) = std::thread::scope(|scope| {
@@ -47,20 +63,12 @@ impl Program {
             let status = wait(&mut child, limit);
             (reading.join().unwrap_or_default(), status)
         });
-        let text = String::from_utf8_lossy(&text);
-        let mut lines = text.lines();
-        let answers: Vec<Answer> =
-            std::iter::from_fn(|| next_answer(&mut lines)).take(cases.len()).collect();
         let fault = match status {
             None => Some("the program took too long and was ended".to_string()),
             Some(status) if !status.success() => Some(format!("the program ended with {status}")),
-            _ if answers.len() < cases.len() => {
-                Some("answers are missing or malformed".to_string())
-            }
-            _ if lines.next().is_some() => Some("there are more answers than cases".to_string()),
             _ => None,
         };
-        Run { answers, fault }
+        (String::from_utf8_lossy(&text).into_owned(), fault)
     }
 }
 

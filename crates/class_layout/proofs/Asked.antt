@@ -12,6 +12,7 @@ use lib.Dec.{ltb, eqb}
 use borrow.Author.Tests.{ltb-true, ltb-false}
 use Rattle.rules.specs.declared.ByteLength.{ByteLength}
 use Rattle.rules.specs.declared.Checked.the-variants.{Accepted}
+use Rattle.rules.specs.Place.{byteLength}
 use Rattle.rules.specs.Class.{Class}
 use Rattle.rules.specs.Record.{Fragment as Opening, preamble, traceClass, clockClass, streamClass, eventClass, Record, unknown, fragment}
 use Rattle.rules.specs.Record.{root, class, range, option, u8, u64, size, recordOf, behind}
@@ -30,7 +31,7 @@ use Rattle.class_layout.proofs.Records.{preamble-at, trace-at, clock-at
 use Rattle.facts.proofs.Faults.{pick-false, pick-zero}
 use Rattle.facts.proofs.Parsed.{parse-table}
 use Rattle.class_layout.proofs.Sound.{bad-good, good-value, then-good, one-good}
-use Rattle.class_layout.proofs.Once.{First, Once, none-once, fragment-once}
+use Rattle.class_layout.proofs.Once.{FirstOf, Once, none-once, fragment-once}
 use Rattle.class_layout.proofs.Rooted.{RootsStand, roots-stand, root-class}
 
 module _ (t : List ℕ) where
@@ -197,7 +198,7 @@ module _ (t : List ℕ) where
         begins = begun;
       }
 
-  -- what the table says is had from these fragments, and no two event classes have the same ids
+  -- what the table says is had from these fragments, and no two of their classes have the same ids
   abbrev Asks : Ids → Table → List ℕ → Type 0
   Asks q T os = Tabled os T × Once t q os
 
@@ -315,8 +316,11 @@ module _ (t : List ℕ) (T : Table) (y : List ℕ) (e : parse t ≡ good T y) wh
   pub all-fragments : AllFragments t (fragmentsOf t)
   all-fragments = accepted .says .each
 
-  pub each-first : First t (fragmentsOf t)
-  each-first = accepted .once .first
+  pub each-stream-first : (i : ℕ) → FirstOf (isStream t i) (fragmentsOf t)
+  each-stream-first i = accepted .once .streams i .first
+
+  pub each-event-first : (i j : ℕ) → FirstOf (isEvent t i j) (fragmentsOf t)
+  each-event-first i j = accepted .once .events i j .first
 
   pub asked-at : asked T ≡ askedAt t
   unfolding asked askedAt
@@ -332,7 +336,8 @@ pub record Accepts (t : List ℕ) : Type 0 where
   pub limit : length t ≤ 65536
   pub first : u8 t 0 ≡ 1
   pub fragments : AllFragments t (fragmentsOf t)
-  pub firsts : First t (fragmentsOf t)
+  pub streams : (i : ℕ) → FirstOf (isStream t i) (fragmentsOf t)
+  pub firsts : (i j : ℕ) → FirstOf (isEvent t i j) (fragmentsOf t)
 
 pub checked-accepts : (t : List ℕ) (n : ByteLength) → checked t ≡ Accepted n → Accepts t
 unfolding checked checkedOf
@@ -344,5 +349,15 @@ checked-accepts t n h = by (parse t) refl h
       limit = table-size t T y e;
       first = preamble-first t T y e;
       fragments = all-fragments t T y e;
-      firsts = each-first t T y e;
+      streams = λ i. each-stream-first t T y e i;
+      firsts = λ i j. each-event-first t T y e i j;
     }
+
+-- a table that is accepted is so to its end
+pub checked-whole : (t : List ℕ) (n : ByteLength) → checked t ≡ Accepted n → checked t ≡ Accepted (byteLength (length t))
+unfolding checked
+checked-whole t n h = by (parse t) h
+  where
+    by : (o : Parsed Table) → checkedOf t o ≡ Accepted n → checkedOf t o ≡ Accepted (byteLength (length t))
+    by (bad m y) h = let z : _≡_ {A = ℕ} 0 1 = unfold checkedOf in cc in absurd (omega arith)
+    by (good T y) h = unfold checkedOf in refl

@@ -1,4 +1,4 @@
-mod Records
+pub mod Records
 pub mod Numbers
 pub mod NextRecord
 pub mod Named

@@ -9,7 +9,7 @@
 -- Passed                      n records from a byte up to another, of which none opens a fragment; what follows of such a row
 use mathlib.Core.Path.{_≡_, refl, sym, ap, _∙_}
 use Prim.Native.Nat.{ℕ, zero, suc, _+_, _≤_, _<_}
-use native.Mathlib.Nat.{add-zero, add-suc, zero-add}
+use native.Mathlib.Nat.{add-zero, add-suc, suc-add, zero-add}
 use native.Mathlib.Omega.{arith}
 use mathlib.Core.List.{List}
 use mathlib.Core.Logic.{⊎-elim}
@@ -111,28 +111,44 @@ number-low {t} {p} b = omega (arith, begins-number b, number-by-index t (b .inde
 
 -- Rows of records
 
--- n records from p up to q, of which none opens a fragment: if the one at q does not either, they count on up to it
+-- n records one behind the other, from p up to q, of which none opens a fragment
+unfoldable pub Row : List ℕ → ℕ → ℕ → ℕ → Type 0
+Row t p zero q = p ≡ q
+Row t p (suc n) q = (5 < u8 t p) × Row t (nextRecord t p) n q
+
+row-both : (t : List ℕ) (p m q n r : ℕ) → Row t p m q → Row t q n r → Row t p (m + n) r
+unfolding Row
+row-both t p zero q n r v w = rw (zero-add n, v) w
+row-both t p (suc m) q n r v w = rw (suc-add m n) (v .0, row-both t (nextRecord t p) m q n r (v .1) w)
+
+-- such a row: if the one at q opens none either, they count on up to it
 pub record Passed (t : List ℕ) (p n q : ℕ) : Type 0 where
+  pub row : Row t p n q
   pub first : 5 < u8 t q → 5 < u8 t p
   pub begins : Begins t p → Begins t q
   pub number : Begins t p → 5 < u8 t q → numberAt t q ≡ numberAt t p + n
 
 pub passed-none : (t : List ℕ) (p q : ℕ) → p ≡ q → Passed t p 0 q
+unfolding Row
 passed-none t p q e = record {
+  row = e;
   first = λ h. rw e h;
   begins = λ b. rw (← e) b;
   number = λ b h. rw (← e) (sym (add-zero (numberAt t p)));
 }
 
 pub passed-one : (t : List ℕ) (p q : ℕ) → 5 < u8 t p → nextRecord t p ≡ q → Passed t p 1 q
+unfolding Row
 passed-one t p q k e = record {
+  row = (k, e);
   first = λ h. k;
   begins = λ b. rw (← e) (begins-next b);
   number = λ b h. rw (← e) (next-number b (rw e h));
 }
 
 pub passed-both : {t : List ℕ} {p m q n r : ℕ} → Passed t p m q → Passed t q n r → Passed t p (m + n) r
-passed-both v w = record {
+passed-both {t} {p} {m} {q} {n} {r} v w = record {
+  row = row-both t p m q n r (v .row) (w .row);
   first = λ h. v .first (w .first h);
   begins = λ b. w .begins (v .begins b);
   number = λ b h. omega (arith, v .number b (w .first h), w .number (v .begins b) h);

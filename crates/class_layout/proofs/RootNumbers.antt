@@ -1,6 +1,7 @@
 -- The numbers of a fragment's roots: the record that opens it has 0, the first root's 1 and its structure 2, and the records go on through
 -- the roots, each there or not.
 --
+-- opening-bytes, roots-passed              the record that opens a fragment, and those behind it up to the fragment's end
 -- root-number                              of the ith root's structure, by the records of the roots in front of it
 -- first-number … payload-number            of each root, as the rules number it
 use mathlib.Core.Path.{_≡_, refl, ap, _∙_}
@@ -9,7 +10,7 @@ use native.Mathlib.Omega.{arith}
 use mathlib.Core.List.{List, [], _∷_}
 use mathlib.Core.Bool.{Bool, true, false}
 use mathlib.Core.Option.{Option, none, some}
-use lib.ListN.{getD, drop}
+use lib.ListN.{length, getD, drop}
 use Rattle.rules.specs.Limits.{depthLimit}
 use Rattle.rules.specs.Class.{records}
 use Rattle.rules.specs.Record.{u8, size, no, layouts}
@@ -18,11 +19,11 @@ use Rattle.facts.proofs.Cases.{_▷_, below}
 use Rattle.class_layout.specs.Numbers.{Begins, numberAt}
 use Rattle.class_layout.specs.Trees.{classAt, nextAt, whole}
 use Rattle.class_layout.specs.Fragments.{openingSize, rootsOf, rootHere, rootPlaces, rootPlace, mapOption, rootClass, streamClassAt}
-use Rattle.class_layout.specs.Fragments.{eventClassAt, Fragment}
-use Rattle.class_layout.proofs.Numbers.{begins-behind, next-number, opening-number}
+use Rattle.class_layout.specs.Fragments.{eventClassAt, behindRoots, behindFragment, Fragment}
+use Rattle.class_layout.proofs.Numbers.{begins-behind, next-number, opening-number, Passed, passed-none, passed-both}
 use Rattle.class_layout.proofs.Records.{root-size, size-at}
 use Rattle.class_layout.proofs.Rooted.{root-byte}
-use Rattle.class_layout.proofs.Numbered.{class-opens-none, behind-begins, number-behind, record-passed}
+use Rattle.class_layout.proofs.Numbered.{class-opens-none, class-passed, behind-begins, number-behind, record-passed}
 
 -- the records of the first i of the roots at these places, each there or not; those in front of a fragment's ith root
 
@@ -40,6 +41,30 @@ module _ (t : List ℕ) where
 
   abbrev Wholes : List (Option ℕ) → Type 0
   Wholes ps = (i p : ℕ) → getD ps i none ≡ some p → whole depthLimit t p
+
+  -- the records of some roots, from a byte on
+  roots-row : (ns : List ℕ) (at : ℕ) → Wholes (rootPlaces t at ns)
+      → Passed t at (rootsRecords t (rootPlaces t at ns) (length ns)) (behindRoots t at ns)
+  unfolding rootPlaces behindRoots rootsRecords rootRecords mapOption
+  roots-row [] at w = passed-none t at at refl
+  roots-row (n ∷ ns) at w = by (rootHere t at n) refl (λ at w. roots-row ns at w) w
+    where
+      Rest : Type 0
+      Rest = (at : ℕ) → Wholes (rootPlaces t at ns) → Passed t at (rootsRecords t (rootPlaces t at ns) (length ns)) (behindRoots t at ns)
+
+      by : (b : Bool) → rootHere t at n ≡ b → Rest
+          → Wholes (elim b [ true ↦ some (at + 2) ∷ rootPlaces t (nextAt depthLimit t (at + 2)) ns | false ↦ none ∷ rootPlaces t at ns ])
+          → Passed t at
+          (rootsRecords t
+          (elim b [ true ↦ some (at + 2) ∷ rootPlaces t (nextAt depthLimit t (at + 2)) ns | false ↦ none ∷ rootPlaces t at ns ])
+          (suc (length ns)))
+          (elim b [ true ↦ behindRoots t (nextAt depthLimit t (at + 2)) ns | false ↦ behindRoots t at ns ])
+      by true h rec w =
+          let k = root-byte t at n h in
+          passed-both
+          (passed-both (record-passed t at 2 (omega (arith, k)) (root-size t at k)) (class-passed depthLimit t (at + 2) (w 0 (at + 2) refl)))
+          (rec (nextAt depthLimit t (at + 2)) (λ i p k. w (suc i) p k))
+      by false h rec w = passed-both (passed-none t at at refl) (rec at (λ i p k. w (suc i) p k))
 
   -- m is the number that a record has at the byte `at`, if it opens no fragment
   abbrev Counted : ℕ → ℕ → Type 0
@@ -91,8 +116,12 @@ opening-size k l h =
     (below (λ j. suc ((getD layouts (2 + j) no) .0) ≡ openingSize (2 + j)) 4 (refl ▷ refl ▷ refl ▷ refl ▷ tt) (k - 2) (omega arith))
 
 module _ (t : List ℕ) (o : ℕ) (f : Fragment t o) where
-  opening-bytes : size (drop o t) ≡ openingSize (u8 t o)
+  pub opening-bytes : size (drop o t) ≡ openingSize (u8 t o)
   opening-bytes = size-at t o (u8 t o) refl ∙ opening-size (u8 t o) (f .low) (f .high)
+
+  pub roots-passed : Passed t (o + openingSize (u8 t o)) (recordsBefore t o (length (rootsOf (u8 t o)))) (behindFragment t o)
+  unfolding recordsBefore behindFragment rootPlace
+  roots-passed = roots-row t (rootsOf (u8 t o)) (o + openingSize (u8 t o)) (f .roots)
 
   behind-opening : Counted t (o + openingSize (u8 t o)) 1
   behind-opening h =

@@ -1,21 +1,24 @@
 -- Laws of the index. In order: a place that is put; one fragment, and the fragments ahead of `make_index`; what a search by it finds; that
--- its words are hints.
+-- its words are hints, those of an accepted table's among them.
 use mathlib.Core.Path.{_≡_, refl, sym, ap, _∙_}
 use Prim.Native.Nat.{ℕ, zero, suc, _+_, _-_, _%_, _<_, _≤_}
 use native.Mathlib.Omega.{arith}
 use mathlib.Core.List.{List, [], _∷_}
 use mathlib.Core.Bool.{Bool, true, false}
 use mathlib.Core.Option.{some}
-use lib.ListN.{length, getD, set, length-set}
+use lib.ListN.{length, getD, set, replicate, length-set, length-replicate}
 use lib.Seq.{getD-set-same, getD-set-other}
 use lib.Dec.{eqb}
 use borrow.Author.Tests.{lt-ltb, eq-eqb, ne-eqb, eqb-true, eqb-false}
+use Rattle.rules.specs.declared.Checked.the-variants.{Accepted}
+use Rattle.rules.specs.declared.ByteLength.{ByteLength}
 use Rattle.rules.specs.Record.{u8, u64}
+use Rattle.rules.specs.Parse.{checked}
 use Rattle.class_layout.specs.declared.TablePlace.the-variants.{At}
 use Rattle.class_layout.specs.Fragments.{eventKind, isEvent, findEventAt, behindFragment, fragmentsOf, fragmentsFrom, All, AllFragments}
 use Rattle.class_layout.specs.Sizes.{foundOf, SizedFragment, Sized}
 use Rattle.class_layout.proofs.Ahead.{none-left}
-use Rattle.class_layout.proofs.Asked.{Accepts}
+use Rattle.class_layout.proofs.Asked.{Accepts, checked-accepts}
 use Rattle.class_lookup.specs.Index.{places, homeOf, putFrom, indexOne, indexed, Hint, Hints}
 
 -- Putting
@@ -193,3 +196,17 @@ accepted-hints t l a h = index-hints t (fragmentsOf t) l (hint-all t (fragmentsO
 
 pub empty-hints : (t l : List ℕ) → length l ≡ places → ((k : ℕ) → getD l k 0 ≡ 0) → Hints t l
 empty-hints t l n z = record { room = n; each = λ k p. absurd (omega (arith, z k)) }
+
+-- every place of it is empty at first
+pub empty-places : {l : List ℕ} → l ≡ replicate places 0 → length l ≡ places
+empty-places e = rw e (length-replicate {A = ℕ} places 0)
+
+pub zeros : (n k : ℕ) → getD {A = ℕ} (replicate n 0) k 0 ≡ 0
+zeros zero k = refl
+zeros (suc n) zero = refl
+zeros (suc n) (suc k) = zeros n k
+
+pub made-hints : (t : List ℕ) (n : ByteLength) → checked t ≡ Accepted n → {l l′ : List ℕ} → l ≡ replicate places 0
+    → l′ ≡ indexed t (fragmentsOf t) l → Hints t l′
+made-hints t n h {l} e f =
+    rw f (accepted-hints t l (checked-accepts t n h) (empty-hints t l (empty-places e) (λ k. rw e (zeros places k))))

@@ -1,7 +1,7 @@
 // What is printed: a line an entry, and the verdict's line.
-use crate::words::say_fault;
 use crate::words::say_kind;
 use crate::words::say_refusal;
+use crate::words::tell_fault;
 use libc::STDOUT_FILENO;
 use numbers::entries;
 use numbers::faults;
@@ -35,7 +35,7 @@ pub(crate) fn say_checked(checked: Checked) {
             say(b" at byte ");
             say_length(byte);
             say(b": ");
-            say_fault(number as u64);
+            tell_fault(STDOUT_FILENO, number as u64);
             say(b"\n");
         }
     }
@@ -146,9 +146,18 @@ fn say_length(length: ByteLength) {
 }
 
 pub(crate) fn say_number(n: u64) {
-    io::print_decimal(STDOUT_FILENO, n);
+    tell_number(STDOUT_FILENO, n);
 }
 
 pub(crate) fn say(words: &[u8]) {
-    io::write_all(STDOUT_FILENO, words);
+    tell(STDOUT_FILENO, words);
+}
+
+// The same on standard output or standard error.
+pub(crate) fn tell_number(to: i32, n: u64) {
+    io::print_decimal(to, n);
+}
+
+pub(crate) fn tell(to: i32, words: &[u8]) {
+    io::write_all(to, words);
 }

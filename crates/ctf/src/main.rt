@@ -1,8 +1,9 @@
 // The program. `ctf check TABLE` says in one line whether a class table is sound: `accepted: N bytes`, or `refused N at byte B:` and what
 // is wrong, in words. `ctf read TABLE STREAM` prints a line an entry, then `accepted: N entries, B bits`, or `refused N at bit P:` and why,
-// in words, `; N entries`. What cannot be opened or read, or is too long, gets a line on standard error.
+// in words, `; N entries`. `ctf cut TABLE STREAM...` writes the table's bytes without the classes that no stream needs, and says on standard
+// error what it kept, or why it refuses. What cannot be opened or read, or is too long, gets a line on standard error.
 //
-// In lines: what is printed. In words: the papers' numbers in words.
+// In lines: what is printed. In words: the papers' numbers in words. In cut: the third command.
 use libc::STDERR_FILENO;
 use lines::say_checked;
 use lines::say_entries;
@@ -13,6 +14,7 @@ ghost use Prim.Native.Nat.{_*_, _≤_};
 ghost use lib.ListN.{length};
 ghost use Rattle.rules.specs.Limits.{wordsPerEntry};
 
+mod cut;
 mod lines;
 mod words;
 
@@ -34,13 +36,27 @@ fn main() {
         return;
     }
     if os::arg_count() == 4 && words::same(&command[..got], b"read") {
-        read_named();
+        with_list(false);
+        return;
+    }
+    if os::arg_count() > 3 && words::same(&command[..got], b"cut") {
+        with_list(true);
         return;
     }
     io::write_all(
         STDERR_FILENO,
-        b"usage: ctf check TABLE\n       ctf read TABLE STREAM\n",
+        b"usage: ctf check TABLE\n       ctf read TABLE STREAM\n       ctf cut TABLE STREAM...\n",
     );
+}
+
+// Reads, or cuts. Both share one list: two of them would be more than the usual stack.
+fn with_list(cuts: bool) {
+    let mut list = list_room();
+    if cuts {
+        cut_named(&mut list);
+    } else {
+        read_named(&mut list);
+    }
 }
 
 fn check_named() {
@@ -52,7 +68,7 @@ fn check_named() {
     say_checked(check_table::check(&table[..filled.bytes]));
 }
 
-fn read_named() {
+fn read_named(list: &mut [u64]) {
     let mut table = file_room();
     let by = load(TABLE, &mut table);
     if by.failed {
@@ -70,15 +86,26 @@ fn read_named() {
         );
         return;
     }
-    read_loaded(&table[..by.bytes], &stream[..filled.bytes]);
+    read_loaded(&table[..by.bytes], &stream[..filled.bytes], list);
 }
 
-fn read_loaded(table: &[u8], stream: &[u8]) {
-    let mut list = list_room();
-    let r = reader::read(table, stream, &mut list);
+fn read_loaded(table: &[u8], stream: &[u8], list: &mut [u64]) {
+    let r = reader::read(table, stream, list);
     let entries = r.entries;
-    say_entries(&list, entries);
+    say_entries(list, entries);
     say_result(r);
+}
+
+fn cut_named(list: &mut [u64]) {
+    let mut table = file_room();
+    let by = load(TABLE, &mut table);
+    if by.failed {
+        return;
+    }
+    let arguments = os::arg_count();
+    if cut::FIRST_STREAM <= arguments {
+        cut::cut_loaded(&table[..by.bytes], arguments - cut::FIRST_STREAM, list);
+    }
 }
 
 // What a file put into the room that it was lent.

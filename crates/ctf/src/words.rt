@@ -1,47 +1,70 @@
 // The papers' numbers in words, and words compared.
 use crate::lines::say;
 use crate::lines::say_number;
+use crate::lines::tell;
+use libc::STDOUT_FILENO;
 
 // What is wrong with a table, by the number that refuses it ("Refusing a table"). A match of all numbers is dear to prove: the work grows
 // with the square of its arms.
-pub(crate) fn say_fault(number: u64) {
+pub(crate) fn tell_fault(to: i32, number: u64) {
     if number < 9 {
-        say_fault_to_8(number);
+        tell_fault_to_8(to, number);
     } else {
-        say_fault_from_9(number);
+        tell_fault_from_9(to, number);
     }
 }
 
-fn say_fault_to_8(number: u64) {
+fn tell_fault_to_8(to: i32, number: u64) {
     match number {
-        1 => say(b"the table is empty, or has more than 65,536 bytes"),
-        2 => say(b"this kind of record is unknown"),
-        3 => say(b"the table ends inside this record, or before one that was announced"),
-        4 => say(b"the first record is no preamble, or this is a second one"),
-        5 => say(b"the version is not 2"),
-        6 => say(b"this trace class stands after a stream class, or is a second one"),
-        7 => say(b"this clock id, stream class id or pair of event ids was used before"),
-        8 => say(b"the clock or stream class that is named here does not stand earlier"),
-        _ => say(b"no number of the paper"),
+        1 => tell(to, b"the table is empty, or has more than 65,536 bytes"),
+        2 => tell(to, b"this kind of record is unknown"),
+        3 => tell(
+            to,
+            b"the table ends inside this record, or before one that was announced",
+        ),
+        4 => tell(
+            to,
+            b"the first record is no preamble, or this is a second one",
+        ),
+        5 => tell(to, b"the version is not 2"),
+        6 => tell(
+            to,
+            b"this trace class stands after a stream class, or is a second one",
+        ),
+        7 => tell(
+            to,
+            b"this clock id, stream class id or pair of event ids was used before",
+        ),
+        8 => tell(
+            to,
+            b"the clock or stream class that is named here does not stand earlier",
+        ),
+        _ => tell(to, b"no number of the paper"),
     }
 }
 
-fn say_fault_from_9(number: u64) {
+fn tell_fault_from_9(to: i32, number: u64) {
     match number {
-        9 => say(
+        9 => tell(
+            to,
             b"this kind is not allowed here, or this root is foreign, repeated or out of turn",
         ),
-        10 => say(b"a number is outside its range"),
-        11 => say(
+        10 => tell(to, b"a number is outside its range"),
+        11 => tell(
+            to,
             b"a slot is named that is not allowed here, or is set both inside an array element and outside it",
         ),
-        12 => say(b"a role is given that is not allowed here"),
-        13 => say(
+        12 => tell(to, b"a role is given that is not allowed here"),
+        13 => tell(
+            to,
             b"a range has low above high, signs are mixed, or the ranges of two options meet",
         ),
-        14 => say(b"this class stands at depth 9"),
-        15 => say(b"there are more than 512 clock, stream and event classes"),
-        _ => say(b"no number of the paper"),
+        14 => tell(to, b"this class stands at depth 9"),
+        15 => tell(
+            to,
+            b"there are more than 512 clock, stream and event classes",
+        ),
+        _ => tell(to, b"no number of the paper"),
     }
 }
 
@@ -52,7 +75,7 @@ pub(crate) fn say_refusal(number: u8, place: u64, first: u64, second: u64) {
             say(b"the table is refused by ");
             say_number(first);
             say(b": ");
-            say_fault(first);
+            tell_fault(STDOUT_FILENO, first);
         }
         22 => {
             say(b"the field behind the last entry crosses the bound at bit ");

@@ -49,5 +49,8 @@ pub const LENGTH_LIMIT: u64 = 65_535;
 // "Lent 64-bit words, four an entry" (The list); "Each entry grows to five words" (02, 7)
 pub const WORDS_PER_ENTRY: usize = 5;
 
+// "up to sixteen streams" (02, 14)
+pub const BUNDLE_LIMIT: usize = 16;
+
 // "validate that V is 0xc1fc1fc1" (000 6.1)
 pub const MAGIC_NUMBER: u64 = 0xC1FC_1FC1;

@@ -14,7 +14,7 @@ use Rattle.rules.specs.Entry.{words}
 use Rattle.rules.specs.Verdict.{numberOf, placeOf, firstOf, secondOf}
 use Rattle.rules.specs.Read.{Reading, readAll, resultOf, listAfter}
 use Rattle.facts.proofs.Lists.{length-words, words-append}
-use Rattle.promises.specs.Edition.{leave}
+use Rattle.rules.specs.Edition.{leave}
 use Rattle.promises.specs.Missing.{Lost, missed, MissingClass, Good}
 use Rattle.promises.specs.Demands.{entriesIn, Call, listedBy, wordsOf, cameBehind, Contract, refusedAt, Demand3Calls}
 use Rattle.promises.proofs.Exact.{demand-3}

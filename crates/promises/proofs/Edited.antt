@@ -28,9 +28,10 @@ use Rattle.promises.proofs.Roots.{Stops}
 use Rattle.promises.proofs.Homed.{RootsEnd}
 use Rattle.promises.proofs.Fragments.{nil-of, missing-nil, Clean, RootsOf, Front, front, Start, start, behind-first}
 use Rattle.promises.proofs.Fragments.{walk-step, goes-behind}
-use Rattle.promises.specs.Edition.{keep, keepStreams, keepEvents, both, stays, part, leaveRecords, leave, Editions}
+use Rattle.rules.specs.Edition.{both, stays, part, leaveRecords, leave}
+use Rattle.promises.specs.Edition.{keep, keepStreams, keepEvents, Editions}
 
-keepIf : Bool → List ℕ → List ℕ
+unfoldable pub keepIf : Bool → List ℕ → List ℕ
 keepIf true x = x
 keepIf false x = []
 
@@ -57,7 +58,8 @@ module _ (ks : ℕ → Bool) (ke : ℕ → ℕ → Bool) where
       by rec true e = refl
       by rec false e = ap (λ l. part ks ke (stays ks ke now (recordOf x)) x ++ l) (rec _ (behind-less x n e h) (behind-less x m e k))
 
-  left : Bool → List ℕ → List ℕ
+  -- what is left of x, where a record behind a fragment's first stays as that one
+  unfoldable pub left : Bool → List ℕ → List ℕ
   left now x = leaveRecords ks ke (length x) now x
 
   part-whole : (b : Bool) (w z : List ℕ) → Whole w → part ks ke b (w ++ z) ≡ keepIf b w
@@ -65,7 +67,7 @@ module _ (ks : ℕ → Bool) (ke : ℕ → ℕ → Bool) where
   part-whole true w z h = rw (whole-size w z h) (take-at w z (size w) (h .whole))
   part-whole false w z h = refl
 
-  left-whole : (now : Bool) (w z : List ℕ) → Whole w
+  pub left-whole : (now : Bool) (w z : List ℕ) → Whole w
       → left now (w ++ z) ≡ keepIf (stays ks ke now (recordOf w)) w ++ left (stays ks ke now (recordOf w)) z
   unfolding left leaveRecords missing
   left-whole now [] z h = let x : _≡_ {A = ℕ} 0 1 = cc (h .there) in absurd (omega arith)

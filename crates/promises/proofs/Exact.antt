@@ -37,9 +37,11 @@ use Rattle.laws.specs.All.{All}
 use Rattle.promises.proofs.Each.{Each, _⨾ᵉ_, each-check, each-due, each-change, each-pass}
 use Rattle.promises.proofs.Each.{each-refuse, each-λ, each-listed, FieldEntry, fields-root}
 use Rattle.promises.proofs.Leave.{kept, gone, stream-kept, stream-gone}
-use Rattle.promises.specs.Edition.{keep, keepStreams, keepEvents, both}
+use Rattle.rules.specs.Edition.{both}
+use Rattle.rules.specs.Bundle.{under}
+use Rattle.promises.specs.Edition.{keep, keepStreams, keepEvents}
 use Rattle.promises.proofs.Edited.{editions}
-use Rattle.promises.specs.Missing.{goneStream, goneEvent, Lost, under, lost, later, front}
+use Rattle.promises.specs.Missing.{goneStream, goneEvent, Lost, lost, later, front}
 use Rattle.promises.specs.Missing.{firstLost, missed, Good, Demand3, shortened, Demand3≡}
 
 pub found-id : (cs : List StreamClass) (i : ℕ) (c : StreamClass) → findStream cs i ≡ some c → c .id ≡ i
@@ -68,7 +70,7 @@ module _ (gs : ℕ → Bool) (ge : ℕ → ℕ → Bool) where
   -- the stream class id behind some entries
   unfoldable pub latest : ℕ → List Entry → ℕ
   latest i [] = i
-  latest i (e ∷ es) = latest (under gs ge i e) es
+  latest i (e ∷ es) = latest (under i e) es
 
   frontOut : Option Stop → Entry → Out → Out
   frontOut none e o = onto (e ∷ []) o
@@ -82,16 +84,16 @@ module _ (gs : ℕ → Bool) (ge : ℕ → ℕ → Bool) where
   unfolding cut cutAt firstLost listOf
   cut-stop i v = refl
 
-  cut-cons : (i : ℕ) (e : Entry) (o : Out) → cut i (onto (e ∷ []) o) ≡ frontOut (lost gs ge i e) e (cut (under gs ge i e) o)
+  cut-cons : (i : ℕ) (e : Entry) (o : Out) → cut i (onto (e ∷ []) o) ≡ frontOut (lost gs ge i e) e (cut (under i e) o)
   unfolding cut onto listOf firstLost cutAt frontOut front later
-  cut-cons i e (stop fs v) = by (lost gs ge i e) (firstLost gs ge (under gs ge i e) fs)
+  cut-cons i e (stop fs v) = by (lost gs ge i e) (firstLost gs ge (under i e) fs)
     where
       by : (x : Option Stop) (y : Option Lost) → cutAt (front gs ge x y) (stop (e ∷ fs) v) ≡ frontOut x e (cutAt y (stop fs v))
       by none none = refl
       by none (some l) = refl
       by (some w) none = refl
       by (some w) (some l) = refl
-  cut-cons i e (go fs s) = by (lost gs ge i e) (firstLost gs ge (under gs ge i e) fs)
+  cut-cons i e (go fs s) = by (lost gs ge i e) (firstLost gs ge (under i e) fs)
     where
       by : (x : Option Stop) (y : Option Lost) → cutAt (front gs ge x y) (go (e ∷ fs) s) ≡ frontOut x e (cutAt y (go fs s))
       by none none = refl
@@ -100,7 +102,7 @@ module _ (gs : ℕ → Bool) (ge : ℕ → ℕ → Bool) where
       by (some w) (some l) = refl
 
   cut-go-cons : (i : ℕ) (e : Entry) (es : List Entry) (s : State)
-      → cut i (go (e ∷ es) s) ≡ frontOut (lost gs ge i e) e (cut (under gs ge i e) (go es s))
+      → cut i (go (e ∷ es) s) ≡ frontOut (lost gs ge i e) e (cut (under i e) (go es s))
   unfolding onto
   cut-go-cons i e es s = cut-cons i e (go es s)
 
@@ -125,8 +127,8 @@ module _ (gs : ℕ → Bool) (ge : ℕ → ℕ → Bool) where
   go-after i [] s n n′ h = rw (cut-go i s, onto-nil (n s)) (unfold after in onto-nil (n′ s) ∙ h)
   go-after i (e ∷ es) s n n′ h =
       rw (onto-cons e es (n s), cut-cons i e (onto es (n s)))
-      (ap (λ o. after o n′) (cut-go-cons i e es s) ∙ after-front (lost gs ge i e) e (cut (under gs ge i e) (go es s)) n′
-      ∙ ap (frontOut (lost gs ge i e) e) (go-after (under gs ge i e) es s n n′ h))
+      (ap (λ o. after o n′) (cut-go-cons i e es s) ∙ after-front (lost gs ge i e) e (cut (under i e) (go es s)) n′
+      ∙ ap (frontOut (lost gs ge i e) e) (go-after (under i e) es s n n′ h))
 
   cut-after : (i : ℕ) (o : Out) (n n′ : Step) → ((es : List Entry) (s : State) → o ≡ go es s → n′ s ≡ cut (latest i es) (n s))
       → after (cut i o) n′ ≡ cut i (after o n)
@@ -152,7 +154,7 @@ module _ (gs : ℕ → Bool) (ge : ℕ → ℕ → Bool) where
       by false true p q = absurd (clash (sym q))
       by false false p q = refl
 
-  calm-under : (i : ℕ) (e : Entry) → eqb (e .kind) 2 ≡ false → under gs ge i e ≡ i
+  calm-under : (i : ℕ) (e : Entry) → eqb (e .kind) 2 ≡ false → under i e ≡ i
   unfolding under
   calm-under i e h = simp (h, under)
 
@@ -235,7 +237,7 @@ module _ (gs : ℕ → Bool) (ge : ℕ → ℕ → Bool) where
   event-entry i j p true h = rw (h, lost) refl
   event-entry i j p false h = rw (h, lost) refl
 
-  event-under : (i j : ℕ) (p : BitPlace) → under gs ge i (entry 5 p 0 j 0) ≡ i
+  event-under : (i j : ℕ) (p : BitPlace) → under i (entry 5 p 0 j 0) ≡ i
   unfolding under
   event-under i j p = refl
 
@@ -264,7 +266,7 @@ module _ (gs : ℕ → Bool) (ge : ℕ → ℕ → Bool) where
   stream-entry j i p true h = rw (h, lost) refl
   stream-entry j i p false h = rw (h, lost) refl
 
-  stream-under : (j i : ℕ) (p : BitPlace) → under gs ge j (entry 2 p 0 i 0) ≡ i
+  stream-under : (j i : ℕ) (p : BitPlace) → under j (entry 2 p 0 i 0) ≡ i
   unfolding under
   stream-under j i p = refl
 

@@ -12,10 +12,11 @@ use Rattle.rules.specs.declared.Stop.{Stop}
 use Rattle.rules.specs.Table.{StreamClass, EventClass, Asked}
 use Rattle.rules.specs.Read.{readStream}
 use Rattle.rules.specs.Opened.{opened}
-use Rattle.promises.specs.Missing.{goneStream, goneEvent, Lost, under, lost, later}
+use Rattle.promises.specs.Missing.{goneStream, goneEvent, Lost, lost, later}
 use Rattle.promises.specs.Missing.{front, firstLost, missed, shortened, Demand3Figures}
 use Rattle.promises.proofs.Exact.{KeptOrGone, latest, Less, sim-stream}
-use Rattle.promises.specs.Edition.{both, stays, part, leaveRecords, leave}
+use Rattle.rules.specs.Edition.{both, stays, part, leaveRecords, leave}
+use Rattle.rules.specs.Bundle.{under}
 
 some-some : {A : Type 0} (a b : A) → some a ≡ some b → a ≡ b
 some-some a b h = cc
@@ -24,7 +25,7 @@ pub first-index : (gs : ℕ → Bool) (ge : ℕ → ℕ → Bool) (i : ℕ) (es 
     → l .index < length es
 unfolding firstLost
 first-index gs ge i [] l h = let z : _≡_ {A = ℕ} 0 1 = cc in absurd (omega arith)
-first-index gs ge i (e ∷ es) l h = by (lost gs ge i e) (firstLost gs ge (under gs ge i e) es) h (first-index gs ge (under gs ge i e) es)
+first-index gs ge i (e ∷ es) l h = by (lost gs ge i e) (firstLost gs ge (under i e) es) h (first-index gs ge (under i e) es)
   where
     by : (x : Option Stop) (y : Option Lost) → front gs ge x y ≡ some l → ((m : Lost) → y ≡ some m → m .index < length es)
         → l .index < suc (length es)
@@ -54,10 +55,10 @@ pub first-found : (gs : ℕ → Bool) (ge : ℕ → ℕ → Bool) (i : ℕ) (es 
 unfolding firstLost
 first-found gs ge i [] l h = let z : _≡_ {A = ℕ} 0 1 = cc in absurd (omega arith)
 first-found gs ge i (e ∷ es) l h =
-    by (lost gs ge i e) refl (firstLost gs ge (under gs ge i e) es) h (first-found gs ge (under gs ge i e) es)
+    by (lost gs ge i e) refl (firstLost gs ge (under i e) es) h (first-found gs ge (under i e) es)
   where
     by : (x : Option Stop) → lost gs ge i e ≡ x → (y : Option Lost) → front gs ge x y ≡ some l
-        → ((m : Lost) → y ≡ some m → FoundFirst gs ge (under gs ge i e) es m) → FoundFirst gs ge i (e ∷ es) l
+        → ((m : Lost) → y ≡ some m → FoundFirst gs ge (under i e) es m) → FoundFirst gs ge i (e ∷ es) l
     by none q none h r = unfold front later in let z : _≡_ {A = ℕ} 0 1 = cc in absurd (omega arith)
     by none q (some m) h r =
         unfold front later latest in

@@ -13,7 +13,8 @@ use Rattle.rules.specs.Table.{StreamClass, EventClass, findStream, findEvent}
 use Rattle.facts.proofs.Truth.{clash, and-left, and-right}
 use Rattle.rules.specs.Record.{Record, unknown, fragment, root, class, range, option, preamble, traceClass, clockClass, streamClass, eventClass, layoutOf, recordOf, size, behind}
 use Rattle.rules.specs.Parse.{missing}
-use Rattle.promises.specs.Edition.{keepEvents, keepStreams, both, stays, part, leaveRecords, leave, NothingLeft}
+use Rattle.rules.specs.Edition.{both, stays, part, leaveRecords, leave}
+use Rattle.promises.specs.Edition.{keepEvents, keepStreams, NothingLeft}
 
 module _ (k : ℕ → ℕ → Bool) (i j : ℕ) where
   ids : (c : EventClass) (x : Bool) → k i j ≡ x → (eqb (c .stream) i && eqb (c .id) j) ≡ true → k (c .stream) (c .id) ≡ x

@@ -46,6 +46,11 @@ mod Onwards
 mod Cut
 mod Apart
 pub mod ApartCalls
+mod Found
+mod Further
+mod Smallest
+pub mod SmallestCalls
+mod BundleFigures
 pub mod Promises
 mod NamedRecords
 mod Naming

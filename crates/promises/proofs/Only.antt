@@ -9,6 +9,8 @@ use Rattle.rules.specs.declared.Entry.{Entry}
 use Rattle.rules.specs.declared.Stop.{Stop}
 use Rattle.rules.specs.Limits.{wordsPerEntry}
 use Rattle.rules.specs.Entry.{words}
+use Rattle.rules.specs.declared.Bundled.{Bundled}
+use Rattle.rules.specs.Bundle.{bundleOf, bundleReadings, bufferAfter, listsAfter}
 use Rattle.rules.specs.Slots.{Slots, noSlots}
 use Rattle.rules.specs.Step.{State, Out, stop, go, Step}
 use Rattle.listing.specs.declared.Progress.{Progress}
@@ -20,6 +22,7 @@ use Rattle.field_read.specs.declared.Field.{Field}
 use Rattle.field_read.specs.Reads.{FieldReads}
 use Rattle.class_layout.specs.declared.openings.Opening.{Opening}
 use Rattle.class_layout.specs.Sizes.{numbered, OpeningOf}
+use Rattle.promises.specs.SmallestCalls.{cut, CutContract}
 use Rattle.promises.specs.Only.{NoSlack}
 
 -- What a step did
@@ -111,6 +114,18 @@ role-same m st ws r r′ vs vs′ d d′ =
     let x = did-same (m (full st noSlots (length ws))) st ws _ _ _ _ _ _ _ _ vs vs′ (d .at noSlots) (d′ .at noSlots) in
     ((λ i. record { went = x .went i; used = x .used i; state = x .state i }), x .list)
 
+-- A bundle
+
+cut-same : (x b ns ms ws out : List ℕ) (r r′ : Bundled) (wr wr′ or or′ : List ℕ) → CutContract x b ns ms (cut r ws wr out or)
+    → CutContract x b ns ms (cut r′ ws wr′ out or′) → (r ≡ r′) × (wr ≡ wr′) × (or ≡ or′)
+cut-same x b ns ms ws out r r′ wr wr′ or or′ p q =
+    let e : r ≡ r′ = p .result ∙ sym (q .result) in
+    let rs = bundleReadings x b ns ms ws in (
+      e,
+      p .list ∙ ap (λ z. listsAfter z rs ms ws) e ∙ sym (q .list),
+      p .buffer ∙ ap (λ z. bufferAfter z (bundleOf x rs) out) e ∙ sym (q .buffer),
+    )
+
 -- Openings
 
 cons-head : (a b : ℕ) (l m : List ℕ) → a ∷ l ≡ b ∷ m → a ≡ b
@@ -165,6 +180,7 @@ no-slack = record {
     p .first .list ∙ sym (q .first .list),
     p .second .list ∙ sym (q .second .list),
   );
+  cut-bundle = λ x b ns ms ws out r r′ wr wr′ or or′ p q. cut-same x b ns ms ws out r r′ wr wr′ or or′ (p .contract) (q .contract);
   role = λ m st ws. record { same = role-same m st ws };
   field = λ m st l ws. record { same = field-same m st l ws };
   notes = λ t x. record { same = λ r r′ p q. p .notes ∙ sym (q .notes) };

@@ -21,6 +21,9 @@ use Rattle.promises.proofs.Numbers.{numbers}
 use Rattle.promises.proofs.Parts.{bits-cut, leb-settled, check-tied, table-stands}
 use Rattle.promises.proofs.Apart.{apart, apart-figures}
 use Rattle.promises.proofs.ApartCalls.{apart-calls}
+use Rattle.promises.proofs.Smallest.{smallest-bundle}
+use Rattle.promises.proofs.BundleFigures.{bundle-figures}
+use Rattle.promises.proofs.SmallestCalls.{smallest-calls}
 
 pub all-promises : Promises
 all-promises = record {
@@ -47,6 +50,9 @@ all-promises = record {
   apart = apart;
   apart-figures = apart-figures;
   apart-calls = apart-calls;
+  smallest-bundle = smallest-bundle;
+  bundle-figures = bundle-figures;
+  smallest-calls = smallest-calls;
   check-tied = check-tied;
   table-stands = table-stands;
 }

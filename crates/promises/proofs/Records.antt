@@ -16,7 +16,7 @@ use Rattle.rules.specs.Read.{Reading, readParsed, readAll}
 use Rattle.facts.proofs.Numbers.{lt-or-ge}
 use Rattle.laws.specs.All.{All}
 use Rattle.laws.specs.Owner.{Owner, nobody, ofTrace, ofStream, ofEvent}
-use Rattle.promises.specs.Edition.{leave}
+use Rattle.rules.specs.Edition.{leave}
 use Rattle.promises.specs.Missing.{Lost, missed, shortened, Good}
 use Rattle.promises.specs.Demands.{Call, listedBy, Contract}
 use Rattle.promises.specs.Records.{NamedBy, Names, numberIn, ownerBehind, SameNumbers, Records}

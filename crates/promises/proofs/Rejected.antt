@@ -17,8 +17,10 @@ use Rattle.rules.specs.Read.{readStream, readAll, resultOf, listAfter}
 use Rattle.rules.specs.Opened.{opened}
 use Rattle.promises.specs.Figures.{table40, stream1}
 use Rattle.promises.specs.Cases.{numbered}
-use Rattle.promises.specs.Edition.{keep, both, keepStreams, keepEvents}
-use Rattle.promises.specs.Missing.{missed, shortened, goneStream, goneEvent, firstLost, lost, front, later, under}
+use Rattle.rules.specs.Edition.{both}
+use Rattle.rules.specs.Bundle.{under}
+use Rattle.promises.specs.Edition.{keep, keepStreams, keepEvents}
+use Rattle.promises.specs.Missing.{missed, shortened, goneStream, goneEvent, firstLost, lost, front, later}
 use Rattle.promises.specs.Rejected.{Reader, Meets, Refusing, Fixed, Silent, AtOnce, WholeOrNone}
 use Rattle.promises.specs.Rejected.{shown, MadeUpEntries, Counting, MadeUpEvents, Demand3By, nearestEvent, nearest, Rejected}
 use Rattle.promises.proofs.Exact.{left-out}

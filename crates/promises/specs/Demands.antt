@@ -19,7 +19,7 @@ use Rattle.rules.specs.Read.{readAll, resultOf, listAfter}
 use Rattle.clock.specs.declared.Ticked.the-variants.{TooLarge}
 use Rattle.clock.specs.Ticked.{tickedNumber}
 use Rattle.promises.specs.Clocks.{Ticking, NeedsMore}
-use Rattle.promises.specs.Edition.{leave}
+use Rattle.rules.specs.Edition.{leave}
 use Rattle.promises.specs.Missing.{Lost, missed, Good}
 
 -- the first n entries of a list, five words each

@@ -5,6 +5,9 @@ pub mod Missing
 pub mod Clocks
 pub mod Demands
 pub mod Apart
+pub mod BundleFigures
+pub mod Smallest
+pub mod SmallestCalls
 pub mod Results
 pub mod Only
 pub mod OnlyRan

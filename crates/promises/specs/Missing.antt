@@ -18,7 +18,8 @@ use Rattle.rules.specs.Parse.{checked}
 use Rattle.rules.specs.Read.{Reading, readAll, resultOf}
 use Rattle.promises.specs.Figures.{table40, stream1}
 use Rattle.promises.specs.Cases.{payload, structure, string, eventClass, root}
-use Rattle.promises.specs.Edition.{both, leave}
+use Rattle.rules.specs.Edition.{both, leave}
+use Rattle.rules.specs.Bundle.{under}
 
 -- an entry of a list, by its number from 0, and the refusal that names the class of which it is the finding
 pub record Lost : Type 0 where
@@ -27,10 +28,6 @@ pub record Lost : Type 0 where
 
 -- gs and ge say which stream classes and which event classes were left out, by their ids
 module _ (gs : ℕ → Bool) (ge : ℕ → ℕ → Bool) where
-  -- the stream class id behind an entry, where it was i in front: that of the latest entry 2
-  unfoldable pub under : ℕ → Entry → ℕ
-  under i e = elim (eqb (e .kind) streamClassFound) [ true ↦ e .value | false ↦ i ]
-
   -- where an entry is the finding of a class left out, under a stream class id: the refusal that names it, at the entry's place
   unfoldable pub lost : ℕ → Entry → Option Stop
   lost i e =

@@ -3,6 +3,7 @@
 use mathlib.Core.Path.{_≡_}
 use Prim.Native.Nat.{ℕ, _<_, _≤_}
 use mathlib.Core.List.{List}
+use Rattle.rules.specs.declared.Bundled.{Bundled}
 use Rattle.rules.specs.Slots.{Slots}
 use Rattle.rules.specs.Step.{Step}
 use Rattle.clock.specs.declared.Clock.{Clock}
@@ -14,6 +15,7 @@ use Rattle.class_layout.specs.Notes.{Notes, Made, Reaches}
 use Rattle.promises.specs.declared.Both.{Both}
 use Rattle.promises.specs.Apart.{TwoStreams}
 use Rattle.promises.specs.Demands.{call, Contract, OneCall, TwoCalls}
+use Rattle.promises.specs.SmallestCalls.{cut, CutOnce}
 use Rattle.promises.specs.Results.{Answer, Of}
 
 -- a statement of a result that allows one
@@ -40,6 +42,9 @@ pub record NoSlack : Type 0 where
   pub streams : (x b b′ ws vs : List ℕ) (r r′ : Both) (wr wr′ vr vr′ : List ℕ)
       → TwoStreams x b b′ (call (r .first) ws wr) (call (r .second) vs vr)
       → TwoStreams x b b′ (call (r′ .first) ws wr′) (call (r′ .second) vs vr′) → (r ≡ r′) × (wr ≡ wr′) × (vr ≡ vr′)
+  -- a bundle that is cut: the result, the lists and the buffer
+  pub cut-bundle : (x b ns ms ws out : List ℕ) (r r′ : Bundled) (wr wr′ or or′ : List ℕ)
+      → CutOnce x b ns ms (cut r ws wr out or) → CutOnce x b ns ms (cut r′ ws wr′ out or′) → (r ≡ r′) × (wr ≡ wr′) × (or ≡ or′)
   -- a role, a field
   pub role : (m : Step) (st : Progress) (ws : List ℕ) → OnlyBoth (λ r ws′. RoleDid m st r ws ws′)
   pub field : (m : Step) (st : Progress) (l : Slots) (ws : List ℕ) → OnlyBoth (λ r ws′. FieldReads m st l r ws ws′)

@@ -19,6 +19,9 @@ use Rattle.promises.specs.Sizes.{StreamSizes}
 use Rattle.promises.specs.Records.{Records}
 use Rattle.promises.specs.Parts.{BitsCut, LebSettled, CheckTied, TableStands}
 use Rattle.promises.specs.Apart.{Apart, ApartFigures, ApartOfCalls}
+use Rattle.promises.specs.Smallest.{SmallestBundle}
+use Rattle.promises.specs.SmallestCalls.{SmallestCalls}
+use Rattle.promises.specs.BundleFigures.{BundleFigures}
 
 pub record Promises : Type 0 where
   -- the three demands, of every call that meets the contract of `read`
@@ -48,6 +51,10 @@ pub record Promises : Type 0 where
   pub apart : Apart
   pub apart-figures : ApartFigures
   pub apart-calls : ApartOfCalls
+  -- the smallest bundle: of the rules alone, and of every call that meets the contract of `bundle`
+  pub smallest-bundle : SmallestBundle
+  pub bundle-figures : BundleFigures
+  pub smallest-calls : SmallestCalls
   -- of the code
   pub bits-cut : BitsCut
   pub leb-settled : LebSettled

@@ -16,7 +16,7 @@ use Rattle.rules.specs.Record.{Fragment, fragment, u8, size, recordOf}
 use Rattle.rules.specs.Read.{readAll}
 use Rattle.laws.specs.All.{All}
 use Rattle.laws.specs.Owner.{Owner, nobody, ofTrace, ofStream, ofEvent, ownerOf}
-use Rattle.promises.specs.Edition.{leave}
+use Rattle.rules.specs.Edition.{leave}
 use Rattle.promises.specs.Missing.{Good}
 use Rattle.promises.specs.Demands.{Call, listedBy, Contract}
 

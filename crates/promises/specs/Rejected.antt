@@ -15,7 +15,8 @@ use Rattle.rules.specs.Entry.{packetStarts, eventStarts, packetEnds}
 use Rattle.rules.specs.Table.{Table, EventClass, Asked, asked, findStream}
 use Rattle.rules.specs.Parse.{good, parse}
 use Rattle.rules.specs.Read.{readStream, readAll, resultOf, listAfter}
-use Rattle.promises.specs.Edition.{keep, both}
+use Rattle.rules.specs.Edition.{both}
+use Rattle.promises.specs.Edition.{keep}
 use Rattle.promises.specs.Missing.{missed, shortened}
 use Rattle.promises.specs.Demands.{call, listedBy, Contract}
 

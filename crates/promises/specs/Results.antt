@@ -10,6 +10,7 @@ use Rattle.rules.specs.declared.Said.{Said}
 use Rattle.rules.specs.declared.Content.{Content}
 use Rattle.rules.specs.declared.Checked.{Checked}
 use Rattle.rules.specs.declared.Result.{Result}
+use Rattle.rules.specs.declared.Bundled.{Bundled}
 use Rattle.clock.specs.declared.Ticked.{Ticked}
 use Rattle.text.specs.declared.Text.{Text}
 use Rattle.slots.specs.declared.Length.{Length}
@@ -34,7 +35,7 @@ use Rattle.event_turns.specs.declared.Turn.{Turn}
 
 pub data Answer : Type 0 where
   number test list : Answer
-  bitPlace byteLength leb text content said checked result : Answer
+  bitPlace byteLength leb text content said checked result bundled : Answer
   ticked length slotNumber state advanced : Answer
   body walk says tablePlace : Answer
   frame found seen leaves choice inside opened entered run ran turn : Answer
@@ -51,6 +52,7 @@ Of content = Content
 Of said = Said
 Of checked = Checked
 Of result = Result
+Of bundled = Bundled
 Of ticked = Ticked
 Of length = Length
 Of slotNumber = Number

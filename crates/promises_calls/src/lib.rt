@@ -1,11 +1,14 @@
-// The reader called as a host would, and what is promised as the contract of the calls: the demands, of the call itself; and beside them
-// all the promises, so that none is without its proof. The functions add nothing to the reader.
+// The reader and the bundle called as a host would, and what is promised as the contract of the calls: the demands and the smallest bundle,
+// of the call itself; and beside them all the promises, so that none is without its proof. The functions add nothing to what they call.
+use bundle::bundle;
 use promises::Both;
 use reader::read;
+use rules::Bundled;
 use rules::Result;
 ghost use Rattle.promises.specs.Apart.{TwoStreams};
 ghost use Rattle.promises.specs.Demands.{call, OneCall, TwoCalls};
 ghost use Rattle.promises.specs.Promises.{Promises};
+ghost use Rattle.promises.specs.SmallestCalls.{cut, CutOnce};
 
 // Reads a stream by a table. Demands 1 and 2, and whatever else is promised.
 pub fn read_once(table: &[u8], stream: &[u8], list: &mut [u64]) -> Result
@@ -55,4 +58,21 @@ pub fn read_without(
         first: whole,
         second: rest,
     }
+}
+
+// Cuts a table to what some streams need. What the smallest bundle is, said of calls of `read` with the same streams and lists.
+pub fn cut_once(
+    table: &[u8],
+    streams: &[u8],
+    lengths: &[u64],
+    rooms: &[u64],
+    list: &mut [u64],
+    out: &mut [u8],
+) -> Bundled
+    ensures { λ r. ⌜
+        CutOnce (now (table .entry)) (now (streams .entry)) (now (lengths .entry)) (now (rooms .entry))
+        (cut r (now (list .entry)) (now (list .exit)) (now (out .entry)) (now (out .exit)))
+        ⌝ }
+{
+    bundle(table, streams, lengths, rooms, list, out)
 }

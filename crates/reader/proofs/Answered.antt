@@ -1,12 +1,11 @@
--- From the packets to the result: what the trace class lends, that no more is asked than 20 and 21, the result's numbers, and that the
--- index holds hints.
+-- From the packets to the result: what the trace class lends, that no more is asked than 20 and 21, and the result's numbers.
 use mathlib.Core.Path.{_≡_, refl, sym, ap, _∙_, subst}
 use mathlib.Core.List.{List, [], _++_}
 use mathlib.Core.Bool.{Bool, true, false, _||_}
 use mathlib.Core.Option.{Option, none, some}
-use Prim.Native.Nat.{ℕ, zero, suc, _+_, _-_, _*_, _/_, _≤_, _<_}
+use Prim.Native.Nat.{ℕ, _+_, _-_, _*_, _/_, _≤_, _<_}
 use native.Mathlib.Omega.{arith}
-use lib.ListN.{length, take, drop, getD, replicate, length-replicate}
+use lib.ListN.{length, take, drop}
 use lib.Dec.{ltb, eqb}
 use borrow.Author.Tests.{eqb-true, eq-eqb, ne-eqb, lt-ltb, le-ltb}
 use Rattle.rules.specs.declared.Checked.the-variants.{Accepted, Refused}
@@ -18,7 +17,7 @@ use Rattle.rules.specs.Slots.{Slots}
 use Rattle.rules.specs.declared.Stated.the-variants.{Missing}
 use Rattle.rules.specs.declared.Refusal.the-variants.{StreamSize}
 use Rattle.rules.specs.Limits.{streamLimit, wordsPerEntry}
-use Rattle.rules.specs.Place.{byteLength, bitPlace}
+use Rattle.rules.specs.Place.{bitPlace}
 use Rattle.rules.specs.Verdict.{stopAt, numberOf, placeOf, firstOf, secondOf}
 use Rattle.rules.specs.Entry.{words}
 use Rattle.rules.specs.Record.{u8}
@@ -38,9 +37,7 @@ use Rattle.class_layout.specs.Sizes.{foundOf, SizedFragment, uuidPlace}
 use Rattle.class_layout.specs.Notes.{Notes}
 use Rattle.class_layout.proofs.Lookups.{found-some, found-none, first-holds, sixteen, uuid-bytes}
 use Rattle.class_layout.proofs.RootNumbers.{first-number}
-use Rattle.class_layout.proofs.Asked.{checked-accepts, asked-at}
-use Rattle.class_lookup.specs.Index.{places, indexed, Hints}
-use Rattle.class_lookup.proofs.Index.{accepted-hints, empty-hints}
+use Rattle.class_layout.proofs.Asked.{asked-at}
 use Rattle.laws.specs.Kept.{KeepsSlots}
 use Rattle.laws.proofs.Kept.{accepted-keeps}
 use Rattle.outcome.specs.declared.Ran.{Ran}
@@ -202,14 +199,6 @@ module _ (t b ws : List ℕ) where
           rw (← p, ← q) (refused-answers m y)
       by (good T y) h = let z : _≡_ {A = ℕ} 0 1 = cc in absurd (omega arith)
 
-  pub accepted-whole : (n : ByteLength) → checked t ≡ Accepted n → checked t ≡ Accepted (byteLength (length t))
-  unfolding checked
-  accepted-whole n h = by (parse t) h
-    where
-      by : (o : Parsed Table) → checkedOf t o ≡ Accepted n → checkedOf t o ≡ Accepted (byteLength (length t))
-      by (bad m y) h = let z : _≡_ {A = ℕ} 0 1 = unfold checkedOf in cc in absurd (omega arith)
-      by (good T y) h = unfold checkedOf in refl
-
   pub accepted-reads : (n : ByteLength) → checked t ≡ Accepted n → readAll t b (length ws) ≡ readStream (askedAt t) b (length ws)
   unfolding readAll checked
   accepted-reads n h = by (parse t) refl h
@@ -227,19 +216,3 @@ checked-keeps t n h = by (parse t) refl h
     by : (o : Parsed Table) → parse t ≡ o → checkedOf t o ≡ Accepted n → KeepsSlots (askedAt t)
     by (bad m y) e h = let z : _≡_ {A = ℕ} 0 1 = unfold checkedOf in cc in absurd (omega arith)
     by (good T y) e h = subst KeepsSlots (asked-at t T y e) (accepted-keeps t T y e)
-
--- The index
-
--- every place of it is empty at first
-pub empty-places : {l : List ℕ} → l ≡ replicate places 0 → length l ≡ places
-empty-places e = rw e (length-replicate {A = ℕ} places 0)
-
-zeros : (n k : ℕ) → getD {A = ℕ} (replicate n 0) k 0 ≡ 0
-zeros zero k = refl
-zeros (suc n) zero = refl
-zeros (suc n) (suc k) = zeros n k
-
-pub made-hints : (t : List ℕ) (n : ByteLength) → checked t ≡ Accepted n → {l l′ : List ℕ} → l ≡ replicate places 0
-    → l′ ≡ indexed t (fragmentsOf t) l → Hints t l′
-made-hints t n h {l} e f =
-    rw f (accepted-hints t l (checked-accepts t n h) (empty-hints t l (empty-places e) (λ k. rw e (zeros places k))))

@@ -20,3 +20,6 @@ pub mod Field
 pub mod Packet
 pub mod Read
 pub mod Opened
+pub mod Edition
+pub mod Lists
+pub mod Bundle

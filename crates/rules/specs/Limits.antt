@@ -25,6 +25,10 @@ lengthLimit = 65_535
 abbrev pub wordsPerEntry : ℕ
 wordsPerEntry = 5
 
+-- "up to sixteen streams" (02, 14)
+abbrev pub bundleLimit : ℕ
+bundleLimit = 16
+
 -- "LEB128 takes at most 10 bytes" (Reading)
 abbrev pub lebLimit : ℕ
 lebLimit = 10

@@ -123,3 +123,11 @@ pub enum Checked {
     Accepted(ByteLength),
     Refused(u8, ByteLength),
 }
+
+// How cutting a bundle ends: the table's length; why the table that it is cut from is refused; over sixteen streams; how many bytes are needed.
+pub enum Bundled {
+    Written(ByteLength),
+    TableRefused(u8, ByteLength),
+    TooManyStreams,
+    ShortBuffer(ByteLength),
+}

@@ -1,7 +1,10 @@
-// The static library for hosts in C: a table's check and a stream's reading, each for every input the rules' own answer. Nothing is kept
-// between calls. What a caller lends, and what it must see to, is in include/trevoskel.h.
+// The static library for hosts in C: a table's check, a stream's reading and the smallest bundle of streams, each for every input the rules'
+// own answer. Nothing is kept between calls. What a caller lends, and what it must see to, is in include/trevoskel.h.
+use bundle::bundle;
 use check_table::check;
+use numbers::faults;
 use reader::read;
+use rules::Bundled;
 use rules::ByteLength;
 use rules::Checked;
 use trevoskel_words::write;
@@ -10,8 +13,9 @@ ghost use mathlib.Core.List.{[], _∷_};
 ghost use lib.ListN.{length};
 ghost use Rattle.rules.specs.Parse.{checked, checkedNumber};
 ghost use Rattle.rules.specs.Read.{readAll, resultOf, listAfter};
+ghost use Rattle.rules.specs.Bundle.{bundleOf, bundleReadings, bundleAnswer, bufferAfter, listsAfter, bundledNumber};
 ghost use Rattle.trevoskel_words.specs.Written.{written};
-ghost use Rattle.trevoskel.specs.Words.{checkedWords, resultWords};
+ghost use Rattle.trevoskel.specs.Words.{checkedWords, resultWords, bundledWords};
 
 // Whether a class table is sound: 0 accepted, or the number that refuses it. The result gets the number and a byte: the table's length, or
 // where the record at fault begins.
@@ -56,11 +60,78 @@ pub extern "C" fn trevoskel_read(
     r.number as u32
 }
 
+// Cuts a table to what some streams need: 0 written, or the number that refuses it. The streams stand one behind another, as long as
+// `lengths` says, and so do their lists, by `rooms`. The lists get the readings' entries, the buffer the table, and the result number, length
+// and id.
+#[no_mangle]
+pub extern "C" fn trevoskel_bundle(
+    table: &[u8],
+    streams: &[u8],
+    lengths: &[u64],
+    rooms: &[u64],
+    list: &mut [u64],
+    out: &mut [u8],
+    result: &mut [u64],
+) -> u32
+    ensures number { λ r. ⌜
+        r ≡ bundledNumber
+        (bundleAnswer (now (table .entry)) (now (streams .entry)) (now (lengths .entry)) (now (rooms .entry)) (now (list .entry))
+        (length (now (out .entry))))
+        ⌝ }
+    ensures list { λ _. ⌜
+        now (list .exit) ≡ listsAfter
+        (bundleAnswer (now (table .entry)) (now (streams .entry)) (now (lengths .entry)) (now (rooms .entry)) (now (list .entry))
+        (length (now (out .entry))))
+        (bundleReadings (now (table .entry)) (now (streams .entry)) (now (lengths .entry)) (now (rooms .entry)) (now (list .entry)))
+        (now (rooms .entry)) (now (list .entry))
+        ⌝ }
+    ensures out { λ _. ⌜
+        now (out .exit) ≡ bufferAfter
+        (bundleAnswer (now (table .entry)) (now (streams .entry)) (now (lengths .entry)) (now (rooms .entry)) (now (list .entry))
+        (length (now (out .entry))))
+        (bundleOf (now (table .entry))
+        (bundleReadings (now (table .entry)) (now (streams .entry)) (now (lengths .entry)) (now (rooms .entry)) (now (list .entry))))
+        (now (out .entry))
+        ⌝ }
+    ensures result { λ _. ⌜
+        now (result .exit) ≡ written
+        (bundledWords (bundleAnswer (now (table .entry)) (now (streams .entry)) (now (lengths .entry)) (now (rooms .entry)) (now (list .entry))
+        (length (now (out .entry)))))
+        (now (result .entry))
+        ⌝ }
+{
+    match bundle(table, streams, lengths, rooms, list, out) {
+        Bundled::Written(length) => answer_bundle(0, length, 0, result),
+        Bundled::TableRefused(number, byte) => answer_bundle(
+            faults::TABLE_REFUSED,
+            byte,
+            number,
+            result,
+        ),
+        Bundled::TooManyStreams => answer_bundle(
+            faults::TOO_MANY_STREAMS,
+            ByteLength(0),
+            0,
+            result,
+        ),
+        Bundled::ShortBuffer(length) => answer_bundle(faults::SHORT_BUFFER, length, 0, result),
+    }
+}
+
 fn answer_check(number: u8, byte: ByteLength, result: &mut [u64]) -> u32
     ensures number { λ r. ⌜ r ≡ number ⌝ }
     ensures result { λ _. ⌜ now (result .exit) ≡ written (number ∷ byte .0 ∷ []) (now (result .entry)) ⌝ }
 {
     let words = [number as u64, byte.0 as u64];
+    write(&words, result);
+    number as u32
+}
+
+fn answer_bundle(number: u8, bytes: ByteLength, id: u8, result: &mut [u64]) -> u32
+    ensures number { λ r. ⌜ r ≡ number ⌝ }
+    ensures result { λ _. ⌜ now (result .exit) ≡ written (number ∷ bytes .0 ∷ id ∷ []) (now (result .entry)) ⌝ }
+{
+    let words = [number as u64, bytes.0 as u64, id as u64];
     write(&words, result);
     number as u32
 }

@@ -1,9 +1,8 @@
 -- What was loaded is a part of its room.
 use borrow.Author.Needs.{needs}
-use borrow.Author.Needs.{needs}
+use lib.Seq.{length-take-le}
 use Rattle.ctf.proofs.read_named.Statement.{statement}
 use Rattle.ctf.proofs.read_named.Tie as tie
-use lib.Seq.{length-take-le}
 
 file-room-requires : tie.Need-file-room-requires
 file-room-requires c κs = search needs
@@ -53,6 +52,9 @@ slice-aggregate-read-loaded-2 c = search (needs, length-take-le)
 read-loaded-requires : tie.Need-read-loaded-requires
 read-loaded-requires c κs = search needs
 
+same-length : tie.Need-same-length
+same-length c = search needs
+
 returns-4 : tie.Need-returns-4
 returns-4 c = search needs
 
@@ -76,4 +78,5 @@ read-named-spec =
     array-share-prefix-stream
     slice-aggregate-read-loaded-2
     read-loaded-requires
+    same-length
     returns-4)

@@ -13,7 +13,8 @@ use Rattle.rules.specs.Place.{byteLength}
 use Rattle.rules.specs.Parse.{checked}
 use Rattle.rules.specs.Read.{readStream, readAll}
 use Rattle.class_layout.specs.Fragments.{askedAt}
-use Rattle.reader.proofs.Answered.{table-answers, accepted-whole, accepted-reads}
+use Rattle.class_layout.proofs.Asked.{checked-whole}
+use Rattle.reader.proofs.Answered.{table-answers, accepted-reads}
 
 -- Places of the code, in its order: all is given; the table was checked; it is refused; it is accepted; the stream was read
 
@@ -53,7 +54,7 @@ accepted : (c : AtAccepted) →
     checked t ≡ Accepted (byteLength (length t))
 accepted c =
     let a = to-start (to-checked c) .args in
-    accepted-whole (a .table .now) (a .stream .now) (a .list .now) _ (sym (to-checked c .check .ensures) ∙ c .length .given .1)
+    checked-whole (a .table .now) _ (sym (to-checked c .check .ensures) ∙ c .length .given .1)
 
 stream-left : (c : AtAccepted) →
     let a = to-start (to-checked c) .args in

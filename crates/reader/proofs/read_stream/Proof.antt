@@ -3,7 +3,8 @@ use borrow.Author.Needs.{needs}
 use native.Mathlib.Omega.{arith}
 use Rattle.class_layout.specs.Fragments.{askedAt}
 use Rattle.class_layout.proofs.Asked.{checked-accepts}
-use Rattle.reader.proofs.Answered.{empty-answers, large-answers, checked-keeps, empty-places, made-hints}
+use Rattle.class_lookup.proofs.Index.{empty-places, made-hints}
+use Rattle.reader.proofs.Answered.{empty-answers, large-answers, checked-keeps}
 use Rattle.reader.proofs.read_stream.Statement.{statement}
 use Rattle.reader.proofs.read_stream.Tie as tie
 

@@ -1,0 +1,3 @@
+mod Marking
+pub mod Entries
+pub mod Named
