@@ -1,4 +1,4 @@
--- whole, a point, six digits.
+-- Whole, a point, six digits.
 use native.Mathlib.Omega.{arith}
 use borrow.Author.Rules.{rules}
 use Prim.Native.Nat.{◌/◌, ◌%◌}
