@@ -4,6 +4,8 @@
 // part               other bits that lie in eight bytes which are there: that load, and two shifts
 // walk               all the rest, both orders and every width: each byte gives a piece of at most eight bits, which is joined to the
 //                    number so far
+#![tactic(auto)]
+
 ghost use Rattle.std.specs.Prelude.{◌≡◌, ◌+◌, ◌*◌, ◌%◌, ◌^◌, ◌<◌, ◌≤◌, min, length};
 ghost use Rattle.rules.specs.Bits.{bits, signed, word};
 ghost use Rattle.bits.specs.Joined.{joined, part as part_of};

@@ -1,6 +1,8 @@
 // The smallest bundle: what stays of a table so that streams read by it as they did, and no class more. The streams are read, each into a
 // list of its own; what their lists name is marked; and the fragments that stay are copied. Each reading is `read` itself, so that the
 // table is checked and noted once more for each stream: up to seventeen times in a call.
+#![tactic(auto)]
+
 ghost use Rattle.std.specs.Prelude.{◌≡◌, ◌≤◌, min, length, get_or, replicate};
 ghost use Rattle.rules.specs.declared.Checked.TheVariants.{Accepted};
 ghost use Rattle.rules.specs.Limits.{table_limit};

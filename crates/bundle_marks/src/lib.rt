@@ -1,6 +1,8 @@
 // Which stream and event classes a list names: a mark by the byte of the table where each fragment opens. Entry 2 names a stream class.
 // Entry 5 names an event class of the stream class in front, that of the latest entry 2, and the stream class with it, so that no law
 // about lists is needed to say that an event class never stays without its stream class.
+#![tactic(auto)]
+
 ghost use Rattle.std.specs.Prelude.{◌≡◌, ◌*◌, ◌≤◌, length};
 ghost use Rattle.rules.specs.Limits.{table_limit, words_per_entry};
 ghost use Rattle.class_layout.specs.Sizes.{Sized};
@@ -13,7 +15,7 @@ use numbers::entries;
 use numbers::limits::WORDS_PER_ENTRY;
 
 // The stream class in front: its id, and where it stands.
-#[derive(Drop)]
+#[derive(Clone, Copy)]
 struct Front {
     id: u64,
     place: TablePlace,

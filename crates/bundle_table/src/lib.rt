@@ -2,6 +2,8 @@
 // neither a stream class nor an event class (specs/Kept). How many bytes that is, and a copy of them: a caller asks first, and lends a
 // buffer only where it is large enough. A mark is a byte that is not 0, at the byte of the table where its fragment opens, so that nothing
 // is searched for; `leave` of the rules goes by ids, and proofs/Leave says that it is the same.
+#![tactic(auto)]
+
 ghost use Rattle.std.specs.Prelude.{◌≡◌, ◌+◌, ◌≤◌, ◌<◌, length, take, drop};
 ghost use Rattle.std.proofs.Math.Seq.{paste};
 ghost use Rattle.class_layout.specs.Sizes.{Sized, SizedFragment};

@@ -1,5 +1,7 @@
 // What a class may say where it stands ("The class table"; numbers 9 to 12 and 14 of "Refusing a table"): each record is tested by itself,
 // the lowest number first. In roles: which role may stand where.
+#![tactic(auto)]
+
 ghost use Rattle.std.specs.Prelude.{◌≡◌};
 ghost use Rattle.table_offsets.specs.Check.{length_ok, count_ok, number_fault, slot_fault, kind_fault, class_fault};
 

@@ -1,5 +1,7 @@
 // A record where a fragment is due, tested by itself, the lowest number first: the preamble, and then numbers 4 to 10 and 15 ("Refusing a
 // table"). The order of fragments and their ids have a crate of their own, `check_order`.
+#![tactic(auto)]
+
 ghost use Rattle.std.specs.Prelude.{◌≡◌, ◌≤◌, ◌<◌, ◌+◌, ◌^◌, ltb, length, get_or};
 ghost use Rattle.rules.specs.Limits.{table_limit};
 ghost use Rattle.table_offsets.specs.Check.{pick_n, latest, open_fault, fragment_fault, lowest as lowestOf, first_fault};

@@ -1,5 +1,7 @@
 // The order of fragments and their ids: numbers 4 to 8 ("Refusing a table"). The fragments before one are kept by their places alone; an id used
 // before is found by comparing its bytes with theirs.
+#![tactic(auto)]
+
 ghost use Rattle.std.specs.Prelude.{◌≡◌, ◌≤◌, ◌<◌, ◌+◌, ◌^◌, get_or};
 ghost use Rattle.table_offsets.specs.Check.{same as same_bytes, is_named, named as named_in, latest, order_fault};
 

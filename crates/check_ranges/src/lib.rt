@@ -1,5 +1,7 @@
 // Ranges and options. A range may meet those of its own option, and none of an earlier one ("Refusing a table"); the earlier options are
 // kept by their places alone, and their ranges are read again.
+#![tactic(auto)]
+
 ghost use Rattle.std.specs.Prelude.{◌≡◌, ◌+◌, ◌*◌, ◌^◌, ◌<◌, ◌≤◌};
 ghost use Rattle.table_offsets.specs.Check.{key as key_of, meets_here, meets_one, meets_option, meets_any, bounds_fault, range_fault, option_fault, ranges_at, latest};
 

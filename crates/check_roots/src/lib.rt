@@ -1,6 +1,8 @@
 // Roots: they follow their fragment, "each once, in rising number, each followed by a structure" (The class table).
 //
 // In cycle: the classes under a root.
+#![tactic(auto)]
+
 ghost use Rattle.std.specs.Prelude.{◌≡◌, ◌≤◌, ◌<◌, ◌+◌, ◌^◌, length, get_or};
 ghost use Rattle.rules.specs.Limits.{table_limit};
 ghost use Rattle.table_offsets.specs.Check.{root_here, root_at, stray as strayAt, roots_at, roots_of};

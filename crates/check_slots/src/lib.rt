@@ -9,6 +9,8 @@
 // it a fault, 1 more than the length and the byte of the class. Nothing goes on from the length or from above it, so that no step asks how
 // the one before it went. An event class begins with what its stream class's roots set. The homes of 128 such fragments are kept; if
 // they are not among these, the roots are walked anew. With more stream classes than that, each has few bytes: it is not worth the room.
+#![tactic(auto)]
+
 ghost use Rattle.std.specs.Prelude.{◌≡◌, ◌≤◌, ◌<◌, ◌+◌, ◌^◌, eqb, length};
 ghost use Rattle.rules.specs.Limits.{table_limit};
 ghost use Rattle.table_offsets.specs.Check.{pick_n, latest};

@@ -3,6 +3,8 @@
 // A walk goes from record to record by offsets and stops at the first with a fault, at its lowest number. What a record is, by itself, is
 // in the crates below: table_records, check_class, check_ranges, check_fragment; the walk under a root is in check_roots. Homes of slots
 // have a walk of their own, in check_slots, and the earlier of both answers is the table's.
+#![tactic(auto)]
+
 ghost use Rattle.std.specs.Prelude.{◌≡◌, false, [], ◌≤◌, ◌-◌, length};
 ghost use Rattle.rules.specs.Limits.{table_limit};
 ghost use Rattle.rules.specs.Parse.{checked};

@@ -2,6 +2,8 @@
 // (specs/Fragments), what is noted of them once (specs/Notes), and that these are the rules' own (proofs). Here are the types that code
 // shares with these definitions, and the bytes of a class record. In openings: where a fragment's roots stand. In words: the word that is
 // noted of a class.
+#![tactic(auto)]
+
 ghost use Rattle.std.specs.Prelude.{◌≡◌, ◌≤◌};
 ghost use Rattle.class_layout.specs.Trees.{shape_of, record_size};
 
@@ -12,14 +14,14 @@ pub mod openings;
 pub mod words;
 
 // Where something stands in the table; or there is none.
-#[derive(Drop)]
+#[derive(Clone, Copy)]
 pub enum TablePlace {
     At(usize),
     Nothing,
 }
 
 // Where a class ends, its alignment's exponent, and what it sets (words).
-#[derive(Drop)]
+#[derive(Clone, Copy)]
 pub struct Reach {
     pub next: usize,
     pub align: u64,

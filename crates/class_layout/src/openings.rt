@@ -26,7 +26,7 @@ pub fn behind_fragment(table: &[u8], sizes: &[u16], fragment: usize) -> usize
 }
 
 // How a fragment opens: the bytes of its first record, its kind among them, and the numbers of the roots that it may have.
-#[derive(Drop)]
+#[derive(Clone, Copy)]
 pub struct Opening {
     pub size: usize,
     pub first: u8,

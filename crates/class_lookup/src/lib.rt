@@ -1,5 +1,7 @@
 // The lookups: which fragment is the trace class, a stream class or an event class. The first two go over the fragments from the front, by
 // the sizes that `prepare` noted; an event class is looked up in an index that `make_index` fills once per reading.
+#![tactic(auto)]
+
 ghost use Rattle.std.specs.Prelude.{◌≡◌, ◌+◌, ◌≤◌, ◌<◌, ◌^◌, length};
 ghost use Rattle.class_layout.specs.Fragments.{is_trace, is_stream, is_event, find_trace_at, find_stream_at, find_event_at, fragments_of, Fragment};
 ghost use Rattle.class_layout.specs.Sizes.{Sized, found_of};

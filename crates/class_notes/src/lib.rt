@@ -2,6 +2,8 @@
 // numbers of its records. From the back, byte by byte: what a class holds stands behind its record, so that its notes are there when the
 // record is met. No recursion is needed, and every class at any depth is noted; bytes that only look like one are noted too, and nobody
 // asks of them. Numbers are counted from the front, record by record.
+#![tactic(auto)]
+
 ghost use Rattle.std.specs.Prelude.{◌≡◌, ◌+◌, ◌≤◌, ◌<◌, length};
 ghost use Rattle.rules.specs.Record.{u8};
 ghost use Rattle.rules.specs.declared.Checked.TheVariants.{Accepted};

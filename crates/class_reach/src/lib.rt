@@ -1,4 +1,6 @@
 // How far a class reaches: where it ends, its alignment, and what it sets, by what is noted of the classes behind its record.
+#![tactic(auto)]
+
 ghost use Rattle.std.specs.Prelude.{◌≡◌, ◌+◌, ◌≤◌, ◌<◌, max, length, get_or};
 ghost use Rattle.rules.specs.Record.{u8};
 ghost use Rattle.class_layout.specs.Notes.{notes, align_noted, sets_noted, Reaches, ReachesMembers, ReachesOptions};

@@ -1,4 +1,6 @@
 // Where a fragment's roots and its UUID stand.
+#![tactic(auto)]
+
 ghost use Rattle.std.specs.Prelude.{◌≡◌, ◌+◌, ◌≤◌, length};
 ghost use Rattle.class_layout.specs.Fragments.{root_place};
 ghost use Rattle.class_layout.specs.Sizes.{SizedFragment, uuid_place, found_of};

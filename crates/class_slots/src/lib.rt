@@ -1,6 +1,8 @@
 // The slots that a class and all that it holds can set: "at the start and the end of each array element, the slots that any class inside
 // that element can set become unset" (02, 3). The records of a class stand one behind the other, so that one pass over its bytes meets them
 // all: no recursion, and no step over the sixty-four slots.
+#![tactic(auto)]
+
 ghost use Rattle.std.specs.Prelude.{◌≡◌, ◌+◌, ◌<◌, ◌^◌, get_or};
 ghost use Rattle.rules.specs.Slots.{unset};
 ghost use Rattle.class_slots.specs.Named.{behind_record, slots_of};

@@ -1,16 +1,18 @@
 // The packet's clock: a value with one method, that takes a stamp and its bits and hands back the new clock. (000 6.2.1)
+#![tactic(auto)]
+
 ghost use Rattle.std.specs.Prelude.{◌≡◌, ◌%◌, ◌^◌, ◌<◌};
 ghost use Rattle.rules.specs.Clock.{clock_after};
 ghost use Rattle.clock.specs.Ticked.{ticked_of};
 
 // "Clock, from 0 at each packet" (Reading)
-#[derive(Drop)]
+#[derive(Clone, Copy)]
 pub struct Clock {
     pub value: u64,
 }
 
 // What a stamp leads to: the new clock, or one above 64 bits.
-#[derive(Drop)]
+#[derive(Clone, Copy)]
 pub enum Ticked {
     To(Clock),
     TooLarge,

@@ -1,5 +1,7 @@
 // What a stream says of itself and cannot be, told from numbers alone: its stream class (32), a packet's lengths (34) and clocks (35), an
 // event's clock (39); and which lengths hold where one is missing. In the order of their numbers.
+#![tactic(auto)]
+
 ghost use Rattle.std.specs.Prelude.{◌≡◌, ◌&&◌, ltb};
 ghost use Rattle.rules.specs.Packet.{differs as differsFrom, above as aboveEnding, or_else};
 ghost use Rattle.contradictions.specs.Lengths.{contradicts};

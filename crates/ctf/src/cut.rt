@@ -100,7 +100,7 @@ fn load_streams(
 }
 
 // What a stream takes: bytes, and words of a list.
-#[derive(Drop)]
+#[derive(Clone, Copy)]
 struct Taken {
     bytes: usize,
     words: usize,

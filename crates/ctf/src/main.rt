@@ -4,6 +4,8 @@
 // error what it kept, or why it refuses. What cannot be opened or read, or is too long, gets a line on standard error.
 //
 // In lines: what is printed. In words: the papers' numbers in words. In cut: the third command.
+#![tactic(auto)]
+
 ghost use Rattle.std.specs.Prelude.{◌≡◌, ◌*◌, ◌≤◌, length};
 ghost use Rattle.rules.specs.Limits.{words_per_entry};
 
@@ -106,7 +108,7 @@ fn cut_named(list: &mut [u64]) {
 }
 
 // What a file put into the room that it was lent.
-#[derive(Drop)]
+#[derive(Clone, Copy)]
 struct Filled {
     bytes: usize,
     failed: bool,

@@ -1,4 +1,6 @@
 // What an optional or a variant selects: 26 and 27 come from taking the slot's content apart, 29 from a search that finds nothing.
+#![tactic(auto)]
+
 ghost use Rattle.std.specs.Prelude.{◌≡◌, ◌+◌, ◌*◌, ◌<◌, ◌≤◌, length};
 ghost use Rattle.rules.specs.Record.{u8};
 ghost use Rattle.rules.specs.Class.{key, holds, any_holds};
@@ -14,7 +16,7 @@ use table_bytes::{count_at, size_at, u64_at};
 use table_records::bodies::{OPTION_SIZE, OPTIONAL_SIZE, RANGE_SIZE, VARIANT_SIZE};
 
 // What is selected: the class at a byte, as the ith option; nothing; or why it cannot be told.
-#[derive(Drop)]
+#[derive(Clone, Copy)]
 pub enum Choice {
     Class { at: usize, option: u64 },
     Nothing,

@@ -16,7 +16,7 @@ use table_records::bodies;
 
 // Members: the field's place and value, and `count` classes one behind the other from the byte `from` on. Elements: the same, and the class
 // at `from`, `count` times.
-#[derive(Drop)]
+#[derive(Clone, Copy)]
 pub enum Inside {
     Members {
         place: BitPlace,

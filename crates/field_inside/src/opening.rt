@@ -17,7 +17,7 @@ use table_bytes::wide64;
 
 // A field that was opened: its place, and what it holds, as `Inside` has it, with what is forgotten around each element (02, 3); or why it
 // was not, and at which place.
-#[derive(Drop)]
+#[derive(Clone, Copy)]
 pub struct Opened {
     pub on: bool,
     pub why: Refusal,
@@ -113,7 +113,7 @@ fn forgotten_around(aligns: &[u32], at: usize, count: usize) -> usize
 }
 
 // Whether a structure was entered, and its place; or the bound, past which that lies.
-#[derive(Drop)]
+#[derive(Clone, Copy)]
 pub struct Entered {
     pub on: bool,
     pub place: BitPlace,

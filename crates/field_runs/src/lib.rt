@@ -2,6 +2,8 @@
 // and end where it ends, so that they take its turn among the classes. The class of a variant's option, and an array's elements, stand in
 // front of what was left, which is put off. Where something is put off already, or an element is open, a run cannot take such a field: it
 // stands in a run of its own, or is read by itself.
+#![tactic(auto)]
+
 ghost use Rattle.std.specs.Prelude.{◌≡◌, false, ◌+◌, ◌<◌, ◌^◌, length};
 ghost use Rattle.field_runs.specs.Run.{members_run, elements_run, alone_run, free, over, element, first_at, count_of};
 ghost use Rattle.field_runs.specs.Run.{border, can_open, forward_run, behind_run, taken_run, opened_run, put_off_run, into_run};
@@ -12,7 +14,7 @@ use table_bytes::size_at;
 // `todo` classes one behind the other from the byte `next` on; then the class at `again`, `more` times; then `rest` classes from `later`
 // on. `forgets`, where it is not 0: each time that class is an element of an array, what comes before it is too, and the slots that it can
 // set are forgotten at the element's start and end (02, 3); the number says which, as it is noted (class_layout, words).
-#[derive(Drop)]
+#[derive(Clone, Copy)]
 pub struct Run {
     pub next: usize,
     pub todo: usize,

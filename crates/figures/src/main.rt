@@ -1,4 +1,6 @@
 // Document 01's figures ("Figures to check against"): what is read, and what comes out. In readings: those that are whole readings.
+#![tactic(auto)]
+
 use clock::{Clock, Ticked};
 use libc::STDOUT_FILENO;
 use readings::say_readings;

@@ -1,11 +1,13 @@
 // Leaves, fields that hold no other: kinds 16 to 27. Here: what is seen of a leaf and what is due of it, entry, slot and role; and the law
 // that seeing it and doing that is the rules' reading. What is seen of each kind is in the crates above: leaf_see_number, kinds 16 to 22;
 // leaf_see_bytes, 23 to 27; and leaf_read does it, of leaves one after another.
+#![tactic(auto)]
+
 use rules::{BitPlace, Content, Entry, LastOrder, Refusal, Stop};
 
 // What is due of a leaf: its entry; the order that is the packet's last behind it; which slot becomes what, 255 is none; and the role of
 // its value, which has `width` bits as a timestamp.
-#[derive(Drop)]
+#[derive(Clone, Copy)]
 pub struct Due {
     pub entry: Entry,
     pub order: LastOrder,
@@ -17,7 +19,7 @@ pub struct Due {
 
 // What is seen of a leaf before anything of it is listed: what is due; a BLOB with other bytes than the UUID that it must be; or why it is
 // refused, and at which place.
-#[derive(Drop)]
+#[derive(Clone, Copy)]
 pub enum Seen {
     Field(Due),
     OtherUuid(Entry),
@@ -28,7 +30,7 @@ pub enum Seen {
 // it where it stopped; the place and the order behind the last one, or the place at which it is refused and the order before it; the words
 // that they listed; and what is still due of the last one, its slot and its role. No enum is joined here that holds a stop: numbers alone
 // are cheap to hand back.
-#[derive(Drop)]
+#[derive(Clone, Copy)]
 pub struct Leaves {
     pub on: bool,
     pub why: Refusal,

@@ -1,5 +1,7 @@
 // Where a leaf counted in whole bytes, kinds 23 to 27, stands and what it says, or why it is refused: alignment, then its bytes. Nothing is
 // listed here.
+#![tactic(auto)]
+
 ghost use Rattle.std.specs.Prelude.{◌≡◌, ◌≤◌};
 ghost use Rattle.frame.specs.Framed.{Framed};
 ghost use Rattle.leaf_find_bytes.specs.Found.{found_string, found_blob, found_text};

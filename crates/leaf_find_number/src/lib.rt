@@ -1,5 +1,7 @@
 // Where a leaf that is a number, kinds 16 to 22, stands and what it says, or why it is refused: alignment, order, then its bits or bytes.
 // Nothing of it is listed here. Kinds 23 to 27 are in the crate above, leaf_find_bytes.
+#![tactic(auto)]
+
 ghost use Rattle.std.specs.Prelude.{◌≡◌, not, ◌&&◌, ◌+◌, ◌%◌, ◌^◌, ◌≤◌, eqb};
 ghost use Rattle.rules.specs.Field.{other_order};
 ghost use Rattle.frame.specs.Framed.{Framed};
@@ -11,7 +13,7 @@ use rules::{BitPlace, LastOrder, Leb, Order, Refusal};
 
 // A leaf that stands at its aligned place with so many bits and says a value; or at which place it is refused, and why. The fields stand in
 // the order that is quick: where a refusal's last word lies on a number's, both are stored through memory.
-#[derive(Drop)]
+#[derive(Clone, Copy)]
 pub enum Found {
     At {
         bits: u64,

@@ -1,5 +1,7 @@
 // Leaves of the classes at bytes of the table: each is found by the numbers of its record, and what is seen of it is told by its kind. Each
 // number is read where it is needed; what the check of the table has shown of it is not tested again. Its entry's fifth word is noted.
+#![tactic(auto)]
+
 ghost use Rattle.std.specs.Prelude.{◌≡◌, ◌+◌, ◌≤◌, ◌<◌, length, get_or};
 ghost use Rattle.rules.specs.Limits.{words_per_entry};
 ghost use Rattle.rules.specs.Record.{u8};

@@ -1,4 +1,6 @@
 // What is seen of a leaf that is bytes, kinds 23 to 27, once it is found or refused: none sets a slot, and a static BLOB alone has a role.
+#![tactic(auto)]
+
 ghost use Rattle.std.specs.Prelude.{◌≡◌, ◌+◌, ◌≤◌, length, take, drop};
 ghost use Rattle.rules.specs.Field.{same_bytes};
 ghost use Rattle.leaf_after.specs.Seeing.{seen, plain_seen, uuid_seen, blob_seen};

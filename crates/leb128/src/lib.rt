@@ -1,5 +1,7 @@
 // LEB128 numbers of at most ten bytes. Nine bytes hold 63 bits, so that a number which ends within them fits 64 bits; the tenth byte
 // alone decides whether a longer one does.
+#![tactic(auto)]
+
 ghost use Rattle.std.specs.Prelude.{◌≡◌, ◌-◌, ◌≤◌, length, take, drop};
 ghost use Rattle.rules.specs.Leb128.{leb_unsigned, leb_signed};
 ghost use Rattle.leb128.specs.FirstNine.{NineSay};
@@ -74,7 +76,7 @@ pub fn signed(stream: &[u8], at: ByteLength, bound: ByteLength) -> Leb
 }
 
 // What the first nine bytes of a number say.
-#[derive(Drop)]
+#[derive(Clone, Copy)]
 enum Nine {
     // It ends after so many of them.
     Ended { value: u64, count: usize },

@@ -1,5 +1,7 @@
 // What a step of a reading lists, and the state that it hands on. In order: entry, the one place where room is asked for and the list is
 // written; role, what a role does with a number; the state, which may move to a place.
+#![tactic(auto)]
+
 ghost use Rattle.std.specs.Prelude.{◌≡◌};
 ghost use Rattle.listing.specs.Did.{at_place};
 
@@ -10,7 +12,7 @@ pub mod entry;
 pub mod role;
 
 // What a reading of fields hands on from step to step, beside the slots and the list.
-#[derive(Drop)]
+#[derive(Clone, Copy)]
 pub struct Progress {
     pub place: BitPlace,
     pub order: LastOrder,
@@ -20,7 +22,7 @@ pub struct Progress {
 }
 
 // How a step went.
-#[derive(Drop)]
+#[derive(Clone, Copy)]
 pub enum Went {
     On,
     Stopped(Stop),

@@ -13,7 +13,7 @@ use numbers::{entries, limits, roles};
 use rules::{BitPlace, Entry, Refusal, Said, Stated, Stop};
 
 // What a role did: how it went, the words that it listed, and the state behind it.
-#[derive(Drop)]
+#[derive(Clone, Copy)]
 pub struct Roled {
     pub went: Went,
     pub used: usize,
@@ -21,7 +21,7 @@ pub struct Roled {
 }
 
 // A clock that a stamp advances: whether it does, if not why not, and the clock behind it.
-#[derive(Drop)]
+#[derive(Clone, Copy)]
 pub struct Advanced {
     pub on: bool,
     pub why: Refusal,

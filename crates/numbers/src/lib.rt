@@ -8,6 +8,8 @@
 // entries    the kinds of entries
 // faults     what refuses a table, and the number of a reading that it refuses
 // limits     what a table or a stream may have at most, and what stands for none
+#![tactic(auto)]
+
 pub mod entries;
 pub mod faults;
 pub mod kinds;

@@ -1,4 +1,6 @@
 // Parts of a reading that hand no slots on: what each did.
+#![tactic(auto)]
+
 ghost use Rattle.std.specs.Prelude.{◌≡◌, ◌+◌, ◌^◌, ◌<◌};
 ghost use Rattle.rules.specs.Verdict.{stop_at};
 ghost use Rattle.outcome.specs.Ran.{stopped_ran, last_ran};
@@ -7,7 +9,7 @@ use listing::{Progress, Went};
 use rules::{BitPlace, Refusal, Stop};
 
 // What a part of a reading did that hands no slots on: how it went, the words that it listed, and the state behind it.
-#[derive(Drop)]
+#[derive(Clone, Copy)]
 pub struct Ran {
     pub went: Went,
     pub used: usize,

@@ -1,4 +1,6 @@
 // A root that is there is read; the packet has its roots read so, an event opens its own.
+#![tactic(auto)]
+
 ghost use Rattle.rules.specs.Packet.{read_root};
 ghost use Rattle.frame.specs.Framed.{Framed, env_of};
 ghost use Rattle.class_layout.specs.Notes.{notes, Prepared};

@@ -1,5 +1,7 @@
 // Places in bits and lengths in bytes: aligning, going on, and the only functions that go from one of the two types to the other.
 // A stream of 536,870,911 bytes has no place above 2 to the 32, so that all of its places are far below what the functions ask.
+#![tactic(auto)]
+
 ghost use Rattle.std.specs.Prelude.{◌≡◌, ◌+◌, ◌*◌, ◌/◌, ◌^◌, ◌<◌, ◌≤◌};
 ghost use Rattle.rules.specs.Place.{bit_place, byte_length, further, align_from};
 

@@ -1,5 +1,7 @@
 // The reader and the bundle called as a host would, and what is promised as the contract of the calls: the demands and the smallest bundle,
 // of the call itself; and beside them all the promises, so that none is without its proof. The functions add nothing to what they call.
+#![tactic(auto)]
+
 ghost use Rattle.promises.specs.Apart.{TwoStreams};
 ghost use Rattle.promises.specs.Demands.{call, OneCall, TwoCalls};
 ghost use Rattle.promises.specs.Promises.{Promises};

@@ -1,5 +1,7 @@
 // Reading a stream by a table: the table's check (20), the stream's size (21), the table's notes and the index of its event classes, and
 // the packets.
+#![tactic(auto)]
+
 ghost use Rattle.std.specs.Prelude.{◌≡◌, ◌≤◌, length, replicate};
 ghost use Rattle.rules.specs.declared.Checked.TheVariants.{Accepted};
 ghost use Rattle.rules.specs.declared.Refusal.TheVariants.{StreamSize};

@@ -1,4 +1,6 @@
 // What a reading answers: "Result: number (0 accepted), entries, place, two ids."
+#![tactic(auto)]
+
 ghost use Rattle.std.specs.Prelude.{◌≡◌};
 ghost use Rattle.reader_result.specs.Answer.{answer_of, refused_with, result_with};
 

@@ -1,4 +1,6 @@
 // How often the clock of a stream class turns in a second, from the class table.
+#![tactic(auto)]
+
 ghost use Rattle.std.specs.Prelude.{◌≡◌, ◌+◌, ◌<◌, length};
 ghost use Rattle.table_offsets.specs.Check.{number_at};
 ghost use Rattle.screen_clock.specs.Frequency.{behind as Frequency·behind, is_stream, is_clock, clock_from, frequency_from, frequency_of};

@@ -1,6 +1,8 @@
 // The head of an entry's line: its five words in their columns, laid into room that the caller lends. A head takes 112 bytes at most.
 //
 // In kinds: the word of each kind.
+#![tactic(auto)]
+
 ghost use Rattle.std.specs.Prelude.{◌≡◌, ◌∷◌, ◌+◌, ◌-◌, ◌≤◌, length};
 ghost use Rattle.std.proofs.lemmas.List.Edits.{sets};
 ghost use Rattle.screen_number.specs.Number.{decimal, left};

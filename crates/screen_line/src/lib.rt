@@ -2,6 +2,8 @@
 // is written. A line that shows no text is one piece; a text has its own, so that its length does not matter.
 //
 // In meant: what is shown of a kind, and the meaning of what is no text. In shown: a text's pieces.
+#![tactic(auto)]
+
 ghost use Rattle.std.specs.Prelude.{◌≡◌, true, false, ◌+◌, ◌-◌, ◌≤◌, ◌<◌, length};
 ghost use Rattle.std.proofs.lemmas.List.Edits.{sets};
 ghost use Rattle.screen_head.specs.Head.{five};

@@ -1,5 +1,7 @@
 // All lines of a list, laid one behind another into room that the caller lends, as many pieces as fit. A mark says how far they are
 // written: the next call goes on from there, until the end. An entry's words are read once a call, and the table at entry 2 alone.
+#![tactic(auto)]
+
 ghost use Rattle.std.specs.Prelude.{◌≡◌, ◌+◌, ◌-◌, ◌/◌, ◌≤◌, ◌<◌, length};
 ghost use Rattle.std.proofs.lemmas.List.Edits.{sets};
 ghost use Rattle.rules.specs.Limits.{words_per_entry};
@@ -18,7 +20,7 @@ use screen_line::{pieces, put_piece};
 const PIECE_ROOM: usize = 256;
 
 // The piece that comes next: its entry, its number among the entry's pieces, and the clock's frequency as it was in front of the entry.
-#[derive(Drop)]
+#[derive(Clone, Copy)]
 pub struct Mark {
     pub entry: usize,
     pub piece: usize,
@@ -26,7 +28,7 @@ pub struct Mark {
 }
 
 // How far a call came, how many bytes it wrote, and whether nothing is left. Where something is, less than a piece's room was left.
-#[derive(Drop)]
+#[derive(Clone, Copy)]
 pub struct Filled {
     pub mark: Mark,
     pub used: usize,
@@ -106,7 +108,7 @@ fn entries_in(list: &[u64], entries: usize) -> usize
 
 // What was put of an entry's line: the piece that it came to, the end of what is used, the frequency behind the entry, and whether it was
 // the whole line.
-#[derive(Drop)]
+#[derive(Clone, Copy)]
 struct Put {
     piece: usize,
     used: usize,
@@ -161,7 +163,7 @@ fn settle(table: &[u8], frequency: u64, kind: u64, id: u64) -> u64
     frequency
 }
 
-#[derive(Drop)]
+#[derive(Clone, Copy)]
 struct Reached {
     piece: usize,
     used: usize,

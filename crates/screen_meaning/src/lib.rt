@@ -3,6 +3,8 @@
 //
 // In blob: a bit array and a BLOB in hexadecimal. In seconds: a clock. In float: a float, exact and in decimals. In millionths: its six
 // decimals.
+#![tactic(auto)]
+
 mod blob;
 mod float;
 mod millionths;

@@ -40,7 +40,7 @@ fn nanos(frequency: u64, part: u64) -> u64
 
 // How often the frequency goes into ten times a part, and what is left. Ten times the part may need more than 64 bits; added up turn by
 // turn it is kept below the frequency.
-#[derive(Drop)]
+#[derive(Clone, Copy)]
 struct Digit {
     whole: u64,
     left: u64,

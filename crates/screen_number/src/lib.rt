@@ -4,6 +4,8 @@
 //
 // In given: bytes as they are, and so many equal ones. In number: decimal numbers, with and without a sign. In hex: the last digits in
 // base 16. In column: columns of a line.
+#![tactic(auto)]
+
 mod column;
 mod given;
 mod hex;

@@ -2,6 +2,8 @@
 // how a byte is shown goes by the two before it and the two behind it.
 //
 // In hidden: which bytes are not shown as they are.
+#![tactic(auto)]
+
 ghost use Rattle.std.specs.Prelude.{◌≡◌, ◌+◌, ◌*◌, ◌<◌, ◌≤◌, length, take, drop, get_or};
 ghost use Rattle.std.proofs.lemmas.List.Edits.{sets};
 ghost use Rattle.screen_text.specs.Escape.{escaped, marked as Escape·marked, before, shown_at, part};

@@ -2,6 +2,8 @@
 // on: every one has less than 256 bytes, and in less room than that nothing is written.
 //
 // In faults and reasons: the papers' numbers in words.
+#![tactic(auto)]
+
 ghost use Rattle.std.specs.Prelude.{◌≡◌, ◌+◌, ◌≤◌, length};
 ghost use Rattle.std.proofs.lemmas.List.Edits.{sets};
 ghost use Rattle.screen_verdict.specs.Verdict.{verdict, checked_line, cut_refused, laid_line, laid_length};

@@ -1,4 +1,6 @@
 // What a slot's content is taken as, a length or a number of a sign: 26, 27 and 28 come from taking it apart.
+#![tactic(auto)]
+
 ghost use Rattle.std.specs.Prelude.{◌≡◌};
 ghost use Rattle.rules.specs.Faults.{sign_of};
 ghost use Rattle.slots.specs.Taken.{length_of, number_of};
@@ -7,14 +9,14 @@ use numbers::{limits, signs};
 use rules::{Content, Refusal};
 
 // The length that a slot gives; or why it gives none.
-#[derive(Drop)]
+#[derive(Clone, Copy)]
 pub enum Length {
     Of(usize),
     NotOf(Refusal),
 }
 
 // The number that a slot holds; or why it holds none of the sign asked for.
-#[derive(Drop)]
+#[derive(Clone, Copy)]
 pub enum Number {
     Of(u64),
     NotOf(Refusal),

@@ -4,6 +4,8 @@
 //                                            a checker asks once, of a record's head, whether it is whole
 // count_at, u16_at, u64_at, size_at          for those who know that what they read is there
 // wide, wide32, wide64, within               small numbers as larger ones, and whether one lies between two
+#![tactic(auto)]
+
 ghost use Rattle.std.specs.Prelude.{◌≡◌, ◌+◌, ◌≤◌, ◌<◌, ◌^◌, length, get_or};
 ghost use Rattle.rules.specs.Record.{u8, u16 as wholeU16, u64};
 ghost use Rattle.table_offsets.specs.Check.{number_at, u16, inside};

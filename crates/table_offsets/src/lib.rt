@@ -1,23 +1,24 @@
 // The check of a class table by offsets, as the code walks: its definition (specs/Check) and its law, that it is the rules' own answer but
 // for the homes of slots (proofs/TieCheck), and beside the walk over these the whole answer (proofs/Earlier). Here are the types that the
 // definition shares with the code.
+#![tactic(auto)]
 
 // A kind's body: so many bytes; or there is no such kind.
-#[derive(Drop)]
+#[derive(Clone, Copy)]
 pub enum Body {
     Bytes(usize),
     Unknown,
 }
 
 // What a walk over a part of a table finds: the byte behind it, or the number and the byte of the first record with a fault.
-#[derive(Drop)]
+#[derive(Clone, Copy)]
 pub enum Walk {
     Fine(usize),
     Bad(u8, usize),
 }
 
 // Under what a class stands: its root, whether its stream class has a clock and its trace class a UUID, and the root structure's byte.
-#[derive(Drop)]
+#[derive(Clone, Copy)]
 pub struct Under {
     pub root: u8,
     pub timed: bool,
@@ -26,7 +27,7 @@ pub struct Under {
 }
 
 // What a class record says. What its kind leaves out is as it does no harm.
-#[derive(Drop)]
+#[derive(Clone, Copy)]
 pub struct Says {
     pub kind: u8,
     pub length: u8,

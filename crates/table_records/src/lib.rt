@@ -4,6 +4,8 @@
 // head_fault    whether a record is one and all there
 // record_says   what a class record says, all kinds in one form
 // slot_named    the slot that a record names to be set, and nothing else of it
+#![tactic(auto)]
+
 ghost use Rattle.std.specs.Prelude.{◌≡◌, ◌≤◌, ◌<◌, ◌+◌, ◌^◌, get_or};
 ghost use Rattle.table_offsets.specs.Check.{head_fault, bits_say, say, says_at};
 ghost use Rattle.table_records.specs.Named.{slot_place, named_at};

@@ -1,5 +1,7 @@
 // The bytes of strings as text: how many stand before the first zero byte, and whether these are well-formed UTF-8 (RFC 3629). Both kinds
 // of strings use it. What is plain ASCII, and most text is, is passed over once, one test for eight bytes where eight are there.
+#![tactic(auto)]
+
 ghost use Rattle.std.specs.Prelude.{◌≡◌, ◌+◌, ◌-◌, ◌*◌, ◌/◌, ◌<◌, ◌≤◌, leb, length, take, drop};
 ghost use Rattle.rules.specs.Text.{text_length, utf8};
 ghost use Rattle.text.specs.Reading.{text_of, told_of, text_told, plain_length, bytes_due, none_due, first_due, due_behind};
@@ -10,7 +12,7 @@ use rules::{ByteLength, Order};
 const HIGH: u64 = 0x8080_8080_8080_8080;
 
 // Of so many bytes, "the count before the first zero byte, or of all" (Reading); and whether these are text.
-#[derive(Drop)]
+#[derive(Clone, Copy)]
 pub struct Text {
     pub count: ByteLength,
     pub formed: bool,
@@ -18,7 +20,7 @@ pub struct Text {
 
 // Of a character that has begun: how many of its bytes are still to come, and the range of the next one. A range of no byte lets nothing
 // through.
-#[derive(Drop)]
+#[derive(Clone, Copy)]
 struct Due {
     more: u8,
     low: u8,

@@ -1,5 +1,7 @@
 // The static library for hosts in C: a table's check, a stream's reading and the smallest bundle of streams, each for every input the rules'
 // own answer. Nothing is kept between calls. What a caller lends, and what it must see to, is in include/trevoskel.h.
+#![tactic(auto)]
+
 ghost use Rattle.std.specs.Prelude.{◌≡◌, [], ◌∷◌, length};
 ghost use Rattle.rules.specs.Parse.{checked, checked_number};
 ghost use Rattle.rules.specs.Read.{read_all, result_of, list_after};

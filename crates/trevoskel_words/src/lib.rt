@@ -1,4 +1,6 @@
 // Words for a caller that lends room for them, and may lend less.
+#![tactic(auto)]
+
 ghost use Rattle.std.specs.Prelude.{◌≡◌};
 ghost use Rattle.trevoskel_words.specs.Written.{written};
 

@@ -1,6 +1,8 @@
 // Reads a case file on standard input to its end, and prints the answers to each case: the line `NUMBER BYTE` of the table's check, the
 // line `NUMBER ENTRIES PLACE ID ID` of the reading, a line `KIND PLACE BITS VALUE` an entry, and an empty line. A case is a head of three
 // numbers of 32 bits, little-endian (the table's bytes, the stream's bytes, the list's words), then the table and the stream.
+#![tactic(auto)]
+
 ghost use Rattle.std.specs.Prelude.{◌≡◌, length};
 
 use libc::{STDIN_FILENO, STDOUT_FILENO};

@@ -3,7 +3,7 @@ use crate::lines::{cut_short, too_long};
 use libc::STDIN_FILENO;
 
 // A number, if the input has one more.
-#[derive(Drop)]
+#[derive(Clone, Copy)]
 pub(crate) enum Next {
     Number(usize),
     Nothing,

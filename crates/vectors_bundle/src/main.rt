@@ -8,6 +8,8 @@
 // stand in one line. Before, these words count down from 2 ^ 64 - 1.
 //
 // In input: the numbers and bytes of a case. In lines: what is printed.
+#![tactic(auto)]
+
 ghost use Rattle.std.specs.Prelude.{◌≡◌, length};
 
 use input::{Next, fill, next_number, number, read_parts};
