@@ -50,7 +50,7 @@ pub fn read_field(
     slots: [Slot; 64],
     list: &mut [u64],
 ) -> Field
-    requires Whole { Whole left table.now at }
+    requires whole { Whole left table.now at }
     requires bound { (28 ≤ u8 table.now at) × (words_per_entry ≤ length list.old) }
     requires prepared { Prepared table.now (notes sizes.now aligns.now) }
     requires framed { Framed stream.now frame st.place }
@@ -183,7 +183,7 @@ fn walk_elements(
     given: [Slot; 64],
     list: &mut [u64],
 ) -> Field
-    requires Whole { Whole left table.now at }
+    requires whole { Whole left table.now at }
     requires forgets { Forgets count forgets (sets (class_at left table.now at)) }
     requires prepared { Prepared table.now (notes sizes.now aligns.now) }
     requires framed { Framed stream.now frame st.place }

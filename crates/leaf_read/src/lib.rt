@@ -32,7 +32,7 @@ use table_bytes::{size_at, u16_at, wide, wide64};
 
 // The slot that the leaf at a byte reads; 255 where it reads none.
 pub fn leaf_slot(table: &[u8], at: usize) -> usize
-    requires Whole { Whole 1 table.now at }
+    requires whole { Whole 1 table.now at }
     requires at_bound { u8 table.now at < 28 }
     ensures { result ≡ leaf_slot table.now at }
 {
@@ -206,7 +206,7 @@ fn see_leaf(
     last: LastOrder,
     content: Content,
 ) -> Seen
-    requires Whole { Whole 1 table.now at }
+    requires whole { Whole 1 table.now at }
     requires at_bound { u8 table.now at < 28 }
     requires framed { Framed stream.now frame from }
     ensures { result ≡ seen_at number table.now stream.now uuid.now frame at from last content }
@@ -302,7 +302,7 @@ fn see_bits(
     from: BitPlace,
     last: LastOrder,
 ) -> Seen
-    requires Whole { Whole 1 table.now at }
+    requires whole { Whole 1 table.now at }
     requires at_bound { u8 table.now at < 21 }
     requires framed { Framed stream.now frame from }
     ensures { BitsSeen number table.now stream.now frame at from last result }
