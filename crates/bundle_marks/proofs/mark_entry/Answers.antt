@@ -1,0 +1,90 @@
+-- By the entry's kind: a stream class that is then in front, an event class and the stream class in front, or nothing.
+use native.Mathlib.Omega.{arith}
+use Rattle.bundle_marks.proofs.Marking.{stream-below, event-below, front-place, stream-named, event-named, none_named}
+use Rattle.bundle_marks.proofs.mark_entry.Goals as goal
+use Rattle.bundle_marks.proofs.mark_entry.Lts as lts
+use Rattle.bundle_marks.proofs.mark_entry.Tie as tie
+use Rattle.bundle_marks.proofs.mark_entry.Reads as reads
+
+-- Places of the code
+
+abbrev AtFound : Type 0
+AtFound = lts.After-in_front tie.the-claims reads.Pre reads.Post
+
+-- no entry 2
+abbrev AtOther : Type 0
+AtOther = lts.Else1 tie.the-claims reads.Pre reads.Post
+
+abbrev AtEvent : Type 0
+AtEvent = lts.After-find_event_class tie.the-claims reads.Pre reads.Post
+
+abbrev AtMarked : Type 0
+AtMarked = lts.After-slice_known3 tie.the-claims reads.Pre reads.Post
+
+-- The way back
+
+abbrev start : lts.After-slice_known tie.the-claims reads.Pre reads.Post → lts.Start tie.the-claims reads.Pre reads.Post
+start c = c.before.before.before.before
+
+abbrev from_found : AtFound → lts.Start tie.the-claims reads.Pre reads.Post
+from_found c = c.before.before.before.before.before.before
+
+abbrev from-other : AtOther → lts.Start tie.the-claims reads.Pre reads.Post
+from-other c = c.before.before.before.before.before
+
+abbrev to-other : AtEvent → AtOther
+to-other c = c.before.before.before
+
+abbrev to-event : AtMarked → AtEvent
+to-event c = c.before.before.before
+
+abbrev to-found : lts.After-slice_known2 tie.the-claims reads.Pre reads.Post → AtFound
+to-found c = c.before.before.before.before
+
+abbrev to-marked : lts.After-slice_known4 tie.the-claims reads.Pre reads.Post → AtMarked
+to-marked c = c.before.before.before.before
+
+-- The needs
+
+pub mark_place-requires : goal.mark_place-requires
+mark_place-requires c =
+    let f = c.before.before in
+    let s = from_found f in
+    let v = s.args.value in
+    stream-below s.pre.0.0 _ s.pre.1.1 v (front-place s.args.table.now v f.in_front-found.ensures)
+
+pub returns-then-kind-eq-STREAM_CLASS_FOUND : goal.returns-then-kind-eq-STREAM_CLASS_FOUND
+returns-then-kind-eq-STREAM_CLASS_FOUND c =
+    let f = to-found c.before in
+    let s = from_found f in
+    let a = s.args in
+    stream-named a.table.now a.marks.now a.kind a.value a.front.id f.before.if1.taken f.in-front.ensures
+    c.mark_place.ensures
+
+pub mark_place-requires-then-kind-eq-EVENT_CLASS_FOUND : goal.mark_place-requires-then-kind-eq-EVENT_CLASS_FOUND
+mark_place-requires-then-kind-eq-EVENT_CLASS_FOUND c =
+    let s = from-other (to-other c.before) in
+    event-below s.pre.0.0 _ s.pre.1.1 s.args.front.id s.args.value c.find_event_class.ensures
+
+pub mark_place-requires-then-kind-eq-EVENT_CLASS_FOUND-2 : goal.mark_place-requires-then-kind-eq-EVENT_CLASS_FOUND-2
+mark_place-requires-then-kind-eq-EVENT_CLASS_FOUND-2 c =
+    let e = to-event c.before.before in
+    let s = from-other (to-other e) in
+    let same = c.mark_place-then-kind-eq-EVENT_CLASS_FOUND.auto.marks in
+    stream-below s.pre.0.0 _ (omega (arith, same, s.pre.1.1)) s.args.front.id s.pre.1.0
+
+pub returns-then-kind-eq-EVENT_CLASS_FOUND : goal.returns-then-kind-eq-EVENT_CLASS_FOUND
+returns-then-kind-eq-EVENT_CLASS_FOUND c =
+    let m = to-marked c.before in
+    let e = to-event m in
+    let o = to-other e in
+    let s = from-other o in
+    let a = s.args in
+    event-named a.table.now a.marks.now a.kind a.value o.if1.left s.pre.1.0 e.before.before.if2.taken
+    e.find-event-class.ensures m.before.before.mark-place2.ensures c.mark_place-then-kind-eq-EVENT_CLASS_FOUND-2.ensures
+
+pub returns : goal.returns
+returns c =
+    let s = from-other c.before.before in
+    let a = s.args in
+    none_named a.table.now a.marks.now a.kind a.value c.if-kind-eq-STREAM_CLASS_FOUND.false s.pre.1.0 c.if-kind-eq-EVENT_CLASS_FOUND.false

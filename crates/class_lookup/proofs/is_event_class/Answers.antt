@@ -1,0 +1,33 @@
+-- By the kind, and then by the two ids, which are there.
+use native.Mathlib.Omega.{arith}
+use borrow.Author.Tests.{eq-eqb, ne_eqb}
+use Rattle.rules.specs.Record.{u8}
+use Rattle.class_layout.specs.Fragments.{is_event, opening_size}
+use Rattle.class_layout.proofs.Ahead.{opening-there}
+use Rattle.class_lookup.proofs.is_event_class.Goals as goal
+
+pub u64_at-requires : goal.u64_at-requires
+unfolding opening_size u8
+u64_at-requires c = omega (arith, opening-there 5 c.requires.0 c.if-table-at-eq-EVENT_CLASS.true)
+
+pub u64_at-requires-then-u64_at-stream : goal.u64_at-requires-then-u64_at-stream
+unfolding opening_size u8
+u64_at-requires-then-u64_at-stream c = omega (arith, opening-there 5 c.requires.0 c.if-table-at-eq-EVENT_CLASS.true)
+
+pub returns-then-u64_at-stream : goal.returns-then-u64_at-stream
+unfolding is_event u8
+returns-then-u64_at-stream c =
+    rw (
+      eq-eqb _ _ c.if-table-at-eq-EVENT_CLASS.true,
+      ← c.u64_at.ensures,
+      ← c.u64_at-then-u64_at-stream.ensures,
+      eq-eqb _ _ c.if-u64_at-stream.true,
+    )
+
+pub returns-then-table-at-eq-EVENT_CLASS : goal.returns-then-table-at-eq-EVENT_CLASS
+unfolding is_event u8
+returns-then-table-at-eq-EVENT_CLASS c = rw (eq-eqb _ _ c.if-table-at-eq-EVENT_CLASS.true, ← c.u64_at.ensures, ne_eqb _ _ c.if-u64_at-stream.false)
+
+pub returns : goal.returns
+unfolding is_event u8
+returns c = rw (ne_eqb _ _ c.if-table-at-eq-EVENT_CLASS.false)

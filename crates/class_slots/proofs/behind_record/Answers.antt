@@ -1,0 +1,13 @@
+-- The record's kind and its body.
+use mathlib.Core.Path.{ap, ◌∙◌}
+use Prim.Native.Nat.{◌+◌}
+use Rattle.rules.specs.Record.{u8}
+use Rattle.table_offsets.specs.Bodies.{body_mark}
+use Rattle.class_slots.proofs.behind_record.Goals as goal
+
+pub returns : goal.returns
+unfolding u8
+returns c =
+    let m = c.before.before in
+    let b = m.before in
+    ap (λ n. b.args.at + 1 + n) (c.wide.ensures.0 ∙ m.mark_of.ensures ∙ ap body_mark b.byte.ensures)

@@ -1,0 +1,85 @@
+-- The tests in their turn; where the stream ends is compared without a sum that might not fit.
+use mathlib.Core.Path.{◌≡◌}
+use mathlib.Core.Bool.{true, false}
+use native.Mathlib.Omega.{arith}
+use Prim.Native.Nat.{◌+◌, ◌%◌}
+use lib.Dec.{ltb, eqb}
+use borrow.Author.Tests.{lt-ltb, le-ltb, eq-eqb, ne_eqb}
+use Rattle.contradictions.proofs.contradict.Goals as goal
+use Rattle.contradictions.proofs.contradict.Lts as lts
+use Rattle.contradictions.proofs.contradict.Tie as tie
+use Rattle.contradictions.proofs.contradict.Reads as reads
+
+-- Places of the code, in its order: all is given; the total length is whole bytes; the content is not above it; the packet starts in the
+-- stream, and ends there
+
+abbrev AtStart : Type 0
+AtStart = lts.Start tie.the-claims reads.Pre reads.Post
+
+abbrev AtWhole : Type 0
+AtWhole = lts.Else1 tie.the-claims reads.Pre reads.Post
+
+abbrev AtOrder : Type 0
+AtOrder = lts.Else2 tie.the-claims reads.Pre reads.Post
+
+abbrev AtStarts : Type 0
+AtStarts = lts.Else3 tie.the-claims reads.Pre reads.Post
+
+abbrev AtEnds : Type 0
+AtEnds = lts.Else4 tie.the-claims reads.Pre reads.Post
+
+-- The way back from each to the one before
+
+abbrev to_start : AtWhole → AtStart
+to_start c = c.before
+
+abbrev to_whole : AtOrder → AtWhole
+to_whole c = c.before
+
+abbrev to-order : AtStarts → AtOrder
+to-order c = c.before.before.before
+
+abbrev to-starts : AtEnds → AtStarts
+to-starts c = c.before.before.before
+
+abbrev given : AtOrder → AtStart
+given c = c.before.before
+
+-- What is known at them
+
+whole : (c : AtOrder) → eqb (c.args.total % 8) 0 ≡ true
+whole c = eq-eqb _ _ c.if-total-ne0.false
+
+order : (c : AtOrder) → ltb c.args.total c.args.content ≡ false
+order c = le-ltb _ _ c.if-total-content.false
+
+-- The needs
+
+pub returns-then-total-ne0 : goal.returns-then-total-ne0
+returns-then-total-ne0 c = simp (ne_eqb _ _ c.if-total-ne0.true)
+
+pub returns-then-total-content : goal.returns-then-total-content
+returns-then-total-content c = simp (eq-eqb _ _ c.if-total-ne0.false, lt-ltb _ _ c.if-total-content.true)
+
+pub returns-then-end-start : goal.returns-then-end-start
+returns-then-end-start c =
+    let k = c.before.before.before in
+    let a = k.args in
+    let past = lt-ltb a.end.0 (a.start.0 + a.total) (omega (arith, c.if-end-start.true)) in
+    simp (whole k, order k, past)
+
+pub returns-then-end-start-2 : goal.returns-then-end-start-2
+returns-then-end-start-2 c =
+    let k = to-order c.before.before.before in
+    let a = (given k).args in
+    let past = lt-ltb a.end.0 (a.start.0 + a.total) (omega (arith, c.if-end-start-2.true)) in
+    simp (whole k, order k, past)
+
+pub returns : goal.returns
+returns c =
+    let ends = c.before.before in
+    let starts = to-starts ends in
+    let k = to-order starts in
+    let a = (given k).args in
+    let within = le-ltb a.end.0 (a.start.0 + a.total) (omega (arith, starts.if3.left, ends.if-end-start-2.false)) in
+    simp (whole k, order k, within)

@@ -1,0 +1,42 @@
+-- The lookup in its turn, and then the root that is next: it stands in the class that was found or came.
+use borrow.Author.Tests.{not-true, not-false}
+use Rattle.event_turns.specs.Left.{turn_left}
+use Rattle.event_turns.proofs.Lefts.{turn_stopped, turn-due}
+use Rattle.event_turns.proofs.Bodies.{looked-stands}
+use Rattle.event_turns.proofs.open_turn.Goals as goal
+use Rattle.event_turns.proofs.open_turn.Lts as lts
+use Rattle.event_turns.proofs.open_turn.Tie as tie
+use Rattle.event_turns.proofs.open_turn.Reads as reads
+
+-- Places of the code, and the way back
+
+abbrev AtLooked : Type 0
+AtLooked = lts.After-look_up tie.the-claims reads.Pre reads.Post
+
+abbrev looked : lts.After-struct_known tie.the-claims reads.Pre reads.Post → AtLooked
+looked c = c.before.before.before
+
+abbrev asked : AtLooked → lts.Start tie.the-claims reads.Pre reads.Post
+asked c = c.before.before.before.before.before.before
+
+-- The needs
+
+pub returns-then-not-o : goal.returns-then-not-o
+unfolding turn_left
+returns-then-not-o c =
+    let gave = (c.look_up-o.ensures.value, c.look_up-o.ensures.list_after) in
+    (turn_stopped _ _ _ _ _ gave.0 _ (not-true _ c.if-not-o.true) c.stopped_turn.ensures, gave.1)
+
+pub next_root-due-requires : goal.next_root-due-requires
+next_root-due-requires c =
+    let o = looked c.before.before in
+    let pre = (asked o).pre in
+    let stands = looked-stands _ _ _ _ _ _ _ _ pre.0 _ _ pre.1.0 _ o.look_up.ensures.0 (not-false _ c.if-not-o.false) in
+    (stands, (pre.0.limit, pre.0.room))
+
+pub returns : goal.returns
+unfolding turn_left
+returns c =
+    let due = c.before.before in
+    let gave = (due.look_up-o.ensures.value, due.look_up-o.ensures.list_after) in
+    (turn-due _ _ _ _ _ gave.0 _ (not-false _ due.if-not-o.false) due.next_root-due.ensures, gave.1)

@@ -1,0 +1,55 @@
+-- By the two orders.
+use borrow.Author.Rules.{rules}
+use Rattle.leaf_find_number.proofs.differs.Goals as goal
+use Rattle.leaf_find_number.proofs.differs.Lts as lts
+use Rattle.leaf_find_number.proofs.differs.Tie as tie
+use Rattle.leaf_find_number.proofs.differs.Reads as reads
+
+-- Places of the code: there was an order; it was little; it was big
+
+abbrev AtLast : Type 0
+AtLast = lts.Past-After-last tie.the-claims reads.Pre reads.Post
+
+abbrev AtLittle : Type 0
+AtLittle = lts.Past-After-enum_told2 tie.the-claims reads.Pre reads.Post
+
+abbrev AtBig : Type 0
+AtBig = lts.Past-After-enum_told5 tie.the-claims reads.Pre reads.Post
+
+-- The way back from the two orders
+
+abbrev was-little : AtLittle → AtLast
+was-little c = c
+
+abbrev was-big : AtBig → AtLast
+was-big c = c
+
+-- The needs
+
+pub returns-in-Nothing : goal.returns-in-Nothing
+unfolding Rattle.rules.specs.Field.other_order
+returns-in-Nothing c = simp c.in-Nothing.is
+
+pub returns-in-Little-order : goal.returns-in-Little-order
+unfolding Rattle.rules.specs.Field.other_order
+returns-in-Little-order c =
+    let was = c.before in
+    simp (was.in-Was.is, was.in-Little.is, c.in-Little-order.is)
+
+pub returns-in-Big-order : goal.returns-in-Big-order
+unfolding Rattle.rules.specs.Field.other_order
+returns-in-Big-order c =
+    let was = c.before in
+    simp (was.in-Was.is, was.in-Little.is, c.in-Big-order.is)
+
+pub returns-in-Little-order-2 : goal.returns-in-Little-order-2
+unfolding Rattle.rules.specs.Field.other_order
+returns-in-Little-order-2 c =
+    let was = c.before in
+    simp (was.in-Was.is, was.in-Big.is, c.in-Little-order-2.is)
+
+pub returns-in-Big-order-2 : goal.returns-in-Big-order-2
+unfolding Rattle.rules.specs.Field.other_order
+returns-in-Big-order-2 c =
+    let was = c.before in
+    simp (was.in-Was.is, was.in-Big.is, c.in-Big-order-2.is)

@@ -1,0 +1,76 @@
+-- The tests of the definition, in its order.
+use mathlib.Core.Path.{◌≡◌, refl, sym, ◌∙◌}
+use mathlib.Core.Bool.{true, false}
+use native.Mathlib.Omega.{arith}
+use lib.Dec.{eqb, ltb}
+use borrow.Author.Tests.{lt-ltb, le-ltb, le-leb, lt-leb, eq-eqb, ne_eqb}
+use Rattle.rules.specs.Limits.{words_per_entry}
+use Rattle.rules.specs.Record.{u8}
+use Rattle.leaf_read.specs.Leaves.{leaves_end}
+use Rattle.leaf_read.proofs.ends.Goals as goal
+use Rattle.leaf_read.proofs.ends.Lts as lts
+use Rattle.leaf_read.proofs.ends.Tie as tie
+use Rattle.leaf_read.proofs.ends.Reads as reads
+
+-- Places of the code: some are left to do; the list is full, or it has room
+
+abbrev AtSome : Type 0
+AtSome = lts.Else1 tie.the-claims reads.Pre reads.Post
+
+abbrev AtFull : Type 0
+AtFull = lts.Then2 tie.the-claims reads.Pre reads.Post
+
+abbrev AtRoom : Type 0
+AtRoom = lts.Else2 tie.the-claims reads.Pre reads.Post
+
+-- The way back
+
+abbrev given : AtSome → lts.Start tie.the-claims reads.Pre reads.Post
+given c = c.before.before
+
+abbrev room-some : AtRoom → AtSome
+room-some c = c.before.before
+
+-- What is known at them
+
+some : (c : AtSome) → eqb c.args.todo 0 ≡ false
+some c = ne_eqb _ _ c.if-todo-eq0.false
+
+full : (c : AtFull) → ltb c.args.room words_per_entry ≡ true
+full c = sym c.is_full.ensures ∙ c.if-is_full.true
+
+room : (c : AtRoom) → ltb c.args.room words_per_entry ≡ false
+room c = sym c.is_full.ensures ∙ c.if-is_full.false
+
+-- The needs
+
+pub returns-then-todo-eq0 : goal.returns-then-todo-eq0
+unfolding leaves_end
+returns-then-todo-eq0 c = rw (eq-eqb _ _ c.if-todo-eq0.true, leaves_end) refl
+
+pub returns-then-is_full : goal.returns-then-is_full
+unfolding leaves_end
+returns-then-is_full c = rw (some c.before.before.before, full c.before, leaves_end) refl
+
+pub bounds-table-next : goal.bounds-table-next
+bounds-table-next c =
+    let s = room-some c.before.before in
+    (given s).pre (omega (arith, s.if1.left))
+
+pub returns-then-table-next-ge-DYNAMIC_STRING : goal.returns-then-table-next-ge-DYNAMIC_STRING
+unfolding leaves_end u8
+returns-then-table-next-ge-DYNAMIC_STRING c =
+    let r = c.before.before.before in
+    rw (some (room-some r), room r, le-leb _ _ c.if-table-next-ge-DYNAMIC_STRING.true, leaves_end) refl
+
+pub returns-then-slot-lt64 : goal.returns-then-slot-lt64
+unfolding leaves_end u8
+returns-then-slot-lt64 c =
+    let r = c.before.before.before.before in
+    rw (some (room-some r), room r, lt-leb _ _ c.if-table-next-ge-DYNAMIC_STRING.false, lt-ltb _ _ c.if-slot-lt64.true, leaves_end) refl
+
+pub returns : goal.returns
+unfolding leaves_end u8
+returns c =
+    let r = c.before.before.before.before in
+    rw (some (room-some r), room r, lt-leb _ _ c.if-table-next-ge-DYNAMIC_STRING.false, le-ltb _ _ c.if-slot-lt64.false, leaves_end) refl

@@ -1,0 +1,29 @@
+-- A blank, and the number at the right end.
+use mathlib.Core.Path.{◌∙◌}
+use native.Mathlib.Omega.{arith}
+use lib.ListN.{set, length-set}
+use Prim.Native.Nat.{◌+◌}
+use Rattle.screen_number.specs.Number.{blank, decimal, right}
+use Rattle.screen_number.proofs.Laid.{laid, both, then, shown-as, one_byte}
+use Rattle.screen_head.proofs.Columns.{right-room, column-is}
+use Rattle.screen_head.proofs.put_column.Goals as goal
+
+pub put_right-requires : goal.put_right-requires
+put_right-requires c =
+    let s = c.before.before in
+    omega (arith, s.requires, length-set s.args.out.now s.args.at blank, right-room s.args.width s.args.n s.requires.width_bound)
+
+pub shape_of-out : goal.shape_of-out
+shape_of-out c =
+    let a = c.args in
+    c.put_right.auto.out ∙ length-set a.out.now a.at blank
+
+pub returns : goal.returns
+returns c =
+    let a = c.args in
+    let put = c.put_right in
+    both (shown-as
+    (then
+    (one_byte a.out.now a.at blank)
+    (laid (set a.out.now a.at blank) put.new.out (a.at + 1) put.result (right a.width (decimal a.n)) put.ensures))
+    (column-is a.width (decimal a.n)))

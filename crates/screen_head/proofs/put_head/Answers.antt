@@ -1,0 +1,102 @@
+-- The five columns, one behind the other.
+use native.Mathlib.Omega.{arith}
+use lib.Dec.{lit≤}
+use Rattle.screen_number.specs.Number.{decimal, left}
+use Rattle.screen_head.specs.Kinds.{word}
+use Rattle.screen_head.specs.Head.{head, column, value_of_kind}
+use Rattle.screen_number.proofs.Laid.{laid, both, then}
+use Rattle.screen_head.proofs.Words.{word-length}
+use Rattle.screen_head.proofs.Columns.{left-length, column-length, value-length}
+use Rattle.screen_head.proofs.put_head.Goals as goal
+
+pub put_column-behind_place-requires : goal.put_column-behind_place-requires
+put_column-behind_place-requires c =
+    let a = c.before.before.before.before.before.before in
+    let kind = c.put_kind-behind_kind in
+    (omega (arith, a.requires, kind.ensures.value, kind.auto.out, left-length 15 (word a.args.kind), word-length a.args.kind), lit≤ tt)
+
+pub put_column-behind_bits-requires : goal.put_column-behind_bits-requires
+put_column-behind_bits-requires c =
+    let a = c.before.before.before.before.before.before.before.before.before.before in
+    let kind = c.put_kind-behind_kind in
+    let column = c.put_column-behind_place in (
+      omega (
+        arith,
+        a.requires,
+        kind.ensures.value,
+        kind.auto.out,
+        left-length 15 (word a.args.kind),
+        word-length a.args.kind,
+        column.ensures.value,
+        column.auto.out,
+        column-length 10 a.args.place (lit≤ tt),
+      ),
+      lit≤ tt,
+    )
+
+pub put_value-behind_value-requires : goal.put_value-behind_value-requires
+put_value-behind_value-requires c =
+    let a = c.before.before.before.before.before.before.before.before.before.before.before.before.before.before in
+    let kind = c.put_kind-behind_kind in
+    let column = c.put_column-behind_place in
+    let column2 = c.put_column-behind_bits in
+    omega (
+      arith,
+      a.requires,
+      kind.ensures.value,
+      kind.auto.out,
+      left-length 15 (word a.args.kind),
+      word-length a.args.kind,
+      column.ensures.value,
+      column.auto.out,
+      column-length 10 a.args.place (lit≤ tt),
+      column2.ensures.value,
+      column2.auto.out,
+      column-length
+          9 a.args.bits (lit≤ tt),
+    )
+
+pub put_column-requires : goal.put_column-requires
+put_column-requires c =
+    let a = c.before.before.before.before.before.before.before.before.before.before.before.before.before.before.before.before.before.before in
+    let kind = c.put_kind-behind_kind in
+    let column = c.put_column-behind_place in
+    let column2 = c.put_column-behind_bits in
+    let value = c.put_value-behind_value in (
+      omega (
+        arith,
+        a.requires,
+        kind.ensures.value,
+        kind.auto.out,
+        left-length 15 (word a.args.kind),
+        word-length a.args.kind,
+        column.ensures.value,
+        column.auto.out,
+        column-length 10 a.args.place (lit≤ tt),
+        column2.ensures.value,
+        column2.auto.out,
+        column-length
+            9 a.args.bits (lit≤ tt),
+        value.ensures.value,
+        value.auto.out,
+        value-length a.args.kind a.args.value,
+      ),
+      lit≤ tt,
+    )
+
+pub returns : goal.returns
+unfolding head
+returns c =
+    let a = c.args in
+    let kind = c.put_kind-behind_kind in
+    let place = c.put_column-behind_place in
+    let bits = c.put_column-behind_bits in
+    let value = c.put_value-behind_value in
+    let number = c.put_column in
+    both
+    (then (then (then (then
+    (laid a.out.now kind.new.out a.at kind.result (left 15 (word a.kind)) kind.ensures)
+    (laid kind.new.out place.new.out kind.result place.result (column 10 (decimal a.place)) place.ensures))
+    (laid place.new.out bits.new.out place.result bits.result (column 9 (decimal a.bits)) bits.ensures))
+    (laid bits.new.out value.new.out bits.result value.result (column 21 (value_of_kind a.kind a.value)) value.ensures))
+    (laid value.new.out number.new.out value.result number.result (column 5 (decimal a.number)) number.ensures))

@@ -1,0 +1,42 @@
+-- Each turn lays a piece; the loop ends behind the last, or where the room is full.
+use Prim.Native.Nat.{◌-◌}
+use native.Mathlib.Omega.{arith}
+use Rattle.screen_head.specs.Head.{five}
+use Rattle.screen_list.proofs.Pieces.{lays-start, lays_step, lays-full, lays-end}
+use Rattle.screen_list.proofs.put_pieces.Goals as goal
+
+pub loop-i-init : goal.loop-i-init
+loop-i-init c =
+    let a = c.args in
+    lays-start a.stream.now a.frequency (five a.kind a.place a.bits a.value a.number) a.count a.out.now
+    a.used a.piece c.requires
+
+pub overflow_sub-out : goal.overflow_sub-out
+overflow_sub-out c =
+    let h = c.loop-i.invariant in
+    omega (arith, h.fits, h.same)
+
+pub shape_of-out-then-out-end-lt-PIECE_ROOM : goal.shape_of-out-then-out-end-lt-PIECE_ROOM
+shape_of-out-then-out-end-lt-PIECE_ROOM c = c.loop-i.invariant.same
+
+pub returns-then-out-end-lt-PIECE_ROOM : goal.returns-then-out-end-lt-PIECE_ROOM
+returns-then-out-end-lt-PIECE_ROOM c = lays-full c.loop-i.invariant c.loop-i-test.true c.if-out-end-lt-PIECE_ROOM.true
+
+pub put_at-end-requires : goal.put_at-end-requires
+put_at-end-requires c =
+    let h = c.loop-i.invariant in
+    omega (arith, h.fits, h.same, c.if-out-end-lt-PIECE_ROOM.false)
+
+pub loop-i-preserved : goal.loop-i-preserved
+loop-i-preserved c =
+    let at-put = c.before.before.before in
+    let at-if1 = at-put.before.before in
+    let turn = at-if1.before in
+    lays_step turn.loop-i.invariant turn.loop-i-test.true at-if1.if-out-end-lt-PIECE_ROOM.false at-put.put_at-end.ensures.value
+    at-put.put_at-end.ensures.out_after
+
+pub shape_of-out : goal.shape_of-out
+shape_of-out c = c.loop-i.invariant.same
+
+pub returns : goal.returns
+returns c = lays-end c.loop-i.invariant c.loop-i-test.false

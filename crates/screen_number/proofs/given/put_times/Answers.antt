@@ -1,0 +1,49 @@
+-- The first i of the bytes are laid.
+use mathlib.Core.Path.{◌≡◌, refl, sym, ap, ◌∙◌}
+use Prim.Native.Nat.{◌+◌, ◌-◌}
+use native.Mathlib.Omega.{arith}
+use lib.ListN.{set, length-set}
+use lib.Seq.{sets}
+use Rattle.screen_number.specs.Number.{times}
+use Rattle.screen_number.proofs.Laid.{times-step, length-times}
+use Rattle.screen_number.proofs.given.put_times.Goals as goal
+
+pub loop-i-init : goal.loop-i-init
+unfolding times
+loop-i-init c = (refl, omega arith, refl)
+
+pub overflow_add-out : goal.overflow_add-out
+overflow_add-out c = omega arith
+
+pub bounds-out-at : goal.bounds-out-at
+bounds-out-at c = omega arith
+
+pub overflow_add-i : goal.overflow_add-i
+overflow_add-i c = omega arith
+
+pub loop-i-smaller : goal.loop-i-smaller
+loop-i-smaller c = omega arith
+
+pub loop-i-preserved : goal.loop-i-preserved
+loop-i-preserved c =
+    let at = c.before in
+    let a = at.args in (
+      ap (λ l. set l (a.at + at.loop-i.i) a.b) at.loop-i.invariant.0 ∙ times-step a.out.now a.at at.loop-i.i a.b,
+      omega arith,
+      length-set at.loop-i.out (a.at + at.loop-i.i) a.b ∙ at.loop-i.invariant.2,
+    )
+
+pub overflow_add-result : goal.overflow_add-result
+overflow_add-result c = omega arith
+
+pub shape_of-out : goal.shape_of-out
+shape_of-out c = c.loop-i.invariant.2
+
+pub returns : goal.returns
+returns c =
+    let a = c.args in
+    let all : c.loop-i.i ≡ c.args.n = omega arith in (
+      ap (λ k. a.at + k) (sym (length-times a.n a.b)),
+      c.loop-i.invariant.0 ∙ ap
+          (λ k. sets a.out.now a.at (times k a.b)) all,
+    )

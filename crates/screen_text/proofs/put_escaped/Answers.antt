@@ -1,0 +1,62 @@
+-- By its digits, behind a backslash, or as it is.
+use mathlib.Core.Path.{◌≡◌, sym, ap, ◌∙◌}
+use native.Mathlib.Omega.{arith}
+use mathlib.Core.List.{◌∷◌, ◌++◌}
+use Prim.Native.Nat.{◌+◌}
+use lib.ListN.{set, length-set}
+use Rattle.screen_number.specs.Number.{hex}
+use Rattle.screen_text.specs.Escape.{escaped}
+use Rattle.screen_number.proofs.Laid.{Laid, laid, both, then, shown-as, one_byte}
+use Rattle.screen_text.proofs.Texts.{by_digits, behind-backslash, as-it-is}
+use Rattle.screen_text.proofs.put_escaped.Goals as goal
+
+pub bounds-out-at-then-hidden : goal.bounds-out-at-then-hidden
+bounds-out-at-then-hidden c =
+    let s = c.before.before in
+    omega (arith, s.requires, length-set s.args.out.now s.args.at 92)
+
+pub put_hex-requires : goal.put_hex-requires
+put_hex-requires c =
+    let s = c.before.before.before in
+    let a = s.args in
+    omega (arith, s.requires, length-set a.out.now a.at 92, length-set (set a.out.now a.at 92) (a.at + 1) 120)
+
+pub shape_of-out-then-hidden : goal.shape_of-out-then-hidden
+shape_of-out-then-hidden c =
+    let a = c.args in
+    c.put_hex.auto.out ∙ length-set (set a.out.now a.at 92) (a.at + 1) 120 ∙ length-set a.out.now a.at 92
+
+pub returns-then-hidden : goal.returns-then-hidden
+returns-then-hidden c =
+    let a = c.args in
+    let put = c.put_hex in
+    let two = set (set a.out.now a.at 92) (a.at + 1) 120 in
+    let one_on : a.at + 1 + 1 ≡ a.at + 2 = omega arith in
+    let first : Laid a.out.now two a.at (a.at + 2) ((92 ∷ []) ++ (120 ∷ [])) =
+    rw one_on at (then (one_byte a.out.now a.at 92) (one_byte (set a.out.now a.at 92) (a.at + 1) 120)) in
+    both (shown-as
+    (then first (laid two put.new.out (a.at + 2) put.result (hex 2 a.c) put.ensures))
+    (by_digits a.c ∙ ap (λ h. escaped h a.c) (sym c.if-hidden.true)))
+
+pub bounds-out-at-then-marked-2 : goal.bounds-out-at-then-marked-2
+bounds-out-at-then-marked-2 c =
+    let s = c.before.before.before.before in
+    omega (arith, s.requires, length-set s.args.out.now s.args.at 92)
+
+pub returns-then-marked : goal.returns-then-marked
+returns-then-marked c =
+    let a = c.args in
+    let two = set (set a.out.now a.at 92) (a.at + 1) a.c in
+    let one_on : a.at + 1 + 1 ≡ a.at + 2 = omega arith in
+    let first : Laid a.out.now two a.at (a.at + 2) ((92 ∷ []) ++ (a.c ∷ [])) =
+    rw one_on at (then (one_byte a.out.now a.at 92) (one_byte (set a.out.now a.at 92) (a.at + 1) a.c)) in
+    both (shown-as first
+    (behind-backslash a.c (sym c.marked.ensures ∙ c.if-marked.true) ∙ ap (λ h. escaped h a.c)
+    (sym c.if-hidden.false)))
+
+pub returns : goal.returns
+returns c =
+    let a = c.args in
+    both (shown-as
+    (one_byte a.out.now a.at a.c)
+    (as-it-is a.c (sym c.marked.ensures ∙ c.if-marked.false) ∙ ap (λ h. escaped h a.c) (sym c.if-hidden.false)))

@@ -1,0 +1,8 @@
+-- The words themselves.
+use Rattle.screen_number.specs.Number.{bytes}
+use Rattle.screen_verdict.specs.Sentences.{no_words}
+use Rattle.screen_verdict.proofs.faults.put_no_words.Goals as goal
+
+pub returns : goal.returns
+unfolding no_words bytes
+returns c = (c.put_bytes.ensures.value, c.put_bytes.ensures.out_after)

@@ -1,0 +1,7 @@
+-- A byte is its own count.
+use Rattle.rules.specs.Record.{u8}
+use Rattle.table_bytes.proofs.count_at.Goals as goal
+
+pub returns : goal.returns
+unfolding u8
+returns c = c.wide.ensures
