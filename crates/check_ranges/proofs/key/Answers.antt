@@ -9,4 +9,4 @@ returns-then-sign-eq0 c = simp (eq-eqb _ _ c.if-sign-eq0.true)
 
 pub returns-else-sign-eq0 : goal.returns-else-sign-eq0
 unfolding key pick_n
-returns-else-sign-eq0 c = simp (ne_eqb _ _ c.if-sign-eq0.false, sym c.wrapping_add_u64.ensures)
+returns-else-sign-eq0 c = simp (ne_eqb _ _ c.if-sign-eq0.false, sym c.wrapping_add_u64.ensures.value)

@@ -7,4 +7,4 @@ pub returns-then-sign-eq-UNSIGNED : goal.returns-then-sign-eq-UNSIGNED
 returns-then-sign-eq-UNSIGNED c = key-plain _ _ c.if-sign-eq-UNSIGNED.true
 
 pub returns : goal.returns
-returns c = c.wrapping_add_u64.ensures ∙ key-signed _ _ c.if-sign-eq-UNSIGNED.false
+returns c = c.wrapping_add_u64.ensures.value ∙ key-signed _ _ c.if-sign-eq-UNSIGNED.false

@@ -8,10 +8,10 @@ returns-then-advance-old c =
     let called = c.wrapping_sub_u64 in
     let start = c.before.before.before in
     rw c.cut-advance.ensures
-    (ticked-to _ _ _ called.result (omega arith) (omega arith) start.requires called.ensures (omega arith))
+    (ticked-to _ _ _ called.result (omega arith) (omega arith) start.requires called.ensures.value (omega arith))
 
 pub returns-else-advance-old : goal.returns-else-advance-old
 returns-else-advance-old c =
     let called = c.wrapping_sub_u64 in
     let start = c.before.before.before in
-    ticked-large _ _ _ called.result (omega arith) (omega arith) start.requires called.ensures (omega arith)
+    ticked-large _ _ _ called.result (omega arith) (omega arith) start.requires called.ensures.value (omega arith)
