@@ -52,13 +52,13 @@ pub returns-then-lengths-gt-BUNDLE_LIMIT : goal.returns-then-lengths-gt-BUNDLE_L
 returns-then-lengths-gt-BUNDLE_LIMIT c =
     let s = start c.before.before in
     let a = s.args in
-    many-did a.table.now a.streams.now a.lengths.now a.rooms.now a.list.now a.out.now _ s.pre
+    many-did a.table.now a.streams.now a.lengths.now a.rooms.now a.list.now a.out.now _ s.requires
     c.if-lengths-gt-BUNDLE_LIMIT.true refl
 
 pub note_sizes-requires : goal.note_sizes-requires
 note_sizes-requires c =
     let s = start c.before.before.before.before in
-    (s.pre, omega (arith, c.no_sizes-sizes.ensures))
+    (s.requires, omega (arith, c.no_sizes-sizes.ensures))
 
 pub make_index-requires : goal.make_index-requires
 make_index-requires c =
@@ -70,16 +70,16 @@ read_streams-requires c =
     let i = indexed u in
     let n = noted i in
     let s = start (few n).before in (
-      n.note-sizes.ensures,
-      made-hints s.args.table.now _ s.pre i.before.before.before.empty-index.ensures i.make-index.ensures,
-      omega (arith, none-marked u.no-marks.ensures),
+      n.note_sizes.ensures,
+      made-hints s.args.table.now _ s.requires i.empty_index-index.ensures i.make_index.ensures,
+      omega (arith, none-marked u.no_marks-marks.ensures),
     )
 
 pub write_kept-requires : goal.write_kept-requires
 write_kept-requires c =
     let r = read c.before in
     let u = unmarked r.before in
-    ((noted (indexed u)).note-sizes.ensures, r.read-streams.kept.1.1.1.1.1.1.1.0 ∙ none-marked u.no-marks.ensures)
+    (u.note_sizes.ensures, r.read_streams.auto.marks ∙ none-marked u.no_marks-marks.ensures)
 
 pub returns : goal.returns
 returns c =
@@ -91,6 +91,6 @@ returns c =
     let a = s.args in
     let t = a.table.now in
     let rs = bundle_readings t a.streams.now a.lengths.now a.rooms.now a.list.now in
-    let stays = kept-bundle t _ s.pre rs u.no-marks.ensures r.read-streams.ensures.1 in
-    few-did t a.streams.now a.lengths.now a.rooms.now a.list.now a.out.now _ s.pre f.if1.left
-    r.read-streams.ensures.0 stays w.write_kept.ensures
+    let stays = kept-bundle t _ s.requires rs u.no_marks-marks.ensures r.read_streams.ensures.1 in
+    few-did t a.streams.now a.lengths.now a.rooms.now a.list.now a.out.now _ s.requires f.if-lengths-gt-BUNDLE_LIMIT.false
+    r.read_streams.ensures.0 stays w.write_kept.ensures

@@ -8,7 +8,7 @@ prepare-requires c =
     let a = c.before.before.before in
     let s = a.before.before.before in
     let k = (checked-accepts s.args.table.now _ s.requires.0).limit in
-    (s.requires.0, (omega (arith, k, s.requires.1), omega (arith, k, a.no_aligns-aligns.ensures)))
+    record { table_value = s.requires.0; table_in_bounds = (omega (arith, k, s.requires.1), omega (arith, k, a.no_aligns-aligns.ensures)) }
 
 pub returns : goal.returns
 returns c = c.prepare.ensures.ready.sized

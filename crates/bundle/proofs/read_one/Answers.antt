@@ -9,10 +9,10 @@ use Rattle.bundle.proofs.read_one.Lts as lts
 use Rattle.bundle.proofs.read_one.Tie as tie
 use Rattle.bundle.proofs.read_one.Reads as reads
 
-abbrev start : lts.After-read tie.the-claims reads.Pre reads.Post → lts.Start tie.the-claims reads.Pre reads.Post
+abbrev start : lts.After-read tie.the-claims reads.Pre reads.Post tie.handed_clauses → lts.Start tie.the-claims reads.Pre reads.Post tie.handed_clauses
 start c = c.before.before.before.before.before.before.before.before
 
-abbrev read : tie.After-mark-arg2 → lts.After-read tie.the-claims reads.Pre reads.Post
+abbrev read : tie.After-mark-arg2 → lts.After-read tie.the-claims reads.Pre reads.Post tie.handed_clauses
 read c = c.before.before.before.before
 
 pub mark-requires : goal.mark-requires
@@ -20,10 +20,7 @@ mark-requires c =
     let r = read c.before in
     let s = start r in
     let a = s.args in
-    let x = read_all a.table.now a.stream.now (length a.list.now) in (
-      (s.pre.0, s.pre.1),
-      (read-room x a.list.now r.read.ensures.0 r.read.ensures.1 r.read.kept.1.1.0, s.pre.2),
-    )
+    let x = read_all a.table.now a.stream.now (length a.list.now) in record { sized = (s.pre.0, s.pre.1); entries_in_bounds = (read-room x a.list.now r.read.ensures.0 r.read.ensures.1 r.read.kept.1.1.0, s.pre.2) }
 
 pub returns : goal.returns
 returns c =

@@ -90,12 +90,12 @@ pub read_one-requires : goal.read_one-requires
 read_one-requires c =
     let l = to-loop (to-fitted c.before) in
     let s = start l in
-    (s.pre.0, s.pre.1, omega (arith, s.pre.2, l.loop.inv.marked))
+    (s.requires.0, s.requires.1, omega (arith, s.requires.2, l.loop-i.invariant.marked))
 
 pub overflow_add-i : goal.overflow_add-i
 overflow_add-i c =
     let turn = to-turn (to_read c.before) in
-    omega (arith, turn.loop-test.taken, (start turn.before).good.1.1.1.1.0.0)
+    omega (arith, turn.loop-i-test.true, turn.well_formed.1.1.1.1.0.0)
 
 pub loop-i-smaller : goal.loop-i-smaller
 loop-i-smaller c = omega (arith, c.loop-i-test.true)
@@ -104,8 +104,8 @@ pub loop-i-preserved : goal.loop-i-preserved
 loop-i-preserved c =
     let r = to_read c.before in
     let f = to-fitted r.before in
-    going_next (to-loop f).loop.inv (to-turn r).loop-test.taken f.before.fitting.ensures f.fitting2.ensures
-    r.read_one.ensures r.read_one.kept.1.1.1.1.0 r.read_one.kept.1.1.1.1.1.0
+    going_next f.loop-i.invariant r.loop-i-test.true f.fitting-bytes.ensures f.fitting-words.ensures
+    r.read_one.ensures r.read_one.auto.list r.read_one.auto.marks
 
 pub shape_of-list : goal.shape_of-list
 shape_of-list c = c.loop-i.invariant.kept

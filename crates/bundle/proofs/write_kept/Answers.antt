@@ -22,7 +22,7 @@ pub copy_kept-requires : goal.copy_kept-requires
 copy_kept-requires c =
     let k = c.before.before.before in
     let s = start k in
-    (s.pre.0, s.pre.1, omega (arith, k.kept_length-length.ensures, c.if-out-length.false))
+    (s.requires.0, s.requires.1, omega (arith, k.kept_length-length.ensures, c.if-out-length.false))
 
 pub returns : goal.returns
 returns c =

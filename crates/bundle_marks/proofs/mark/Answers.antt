@@ -11,15 +11,15 @@ use Rattle.bundle_marks.proofs.mark.Reads as reads
 -- Places of the code, and the way back
 
 abbrev AtTurn : Type 0
-AtTurn = lts.In-loop tie.the-claims reads.Pre reads.Post goal.the-invariant-loop-left goal.the-decreases-loop-left
+AtTurn = lts.In-loop tie.the-claims reads.Pre reads.Post tie.handed_clauses goal.the-invariant-loop-left goal.the-decreases-loop-left
 
 abbrev AtMarked : Type 0
-AtMarked = lts.After-mark_entry tie.the-claims reads.Pre reads.Post goal.the-invariant-loop-left goal.the-decreases-loop-left
+AtMarked = lts.After-mark_entry tie.the-claims reads.Pre reads.Post tie.handed_clauses goal.the-invariant-loop-left goal.the-decreases-loop-left
 
 abbrev to-turn : AtMarked → AtTurn
 to-turn c = c.before.before.before.before
 
-abbrev start : lts.At-loop tie.the-claims reads.Pre reads.Post goal.the-invariant-loop-left goal.the-decreases-loop-left → lts.Start tie.the-claims reads.Pre reads.Post goal.the-invariant-loop-left goal.the-decreases-loop-left
+abbrev start : lts.At-loop tie.the-claims reads.Pre reads.Post tie.handed_clauses goal.the-invariant-loop-left goal.the-decreases-loop-left → lts.Start tie.the-claims reads.Pre reads.Post tie.handed_clauses goal.the-invariant-loop-left goal.the-decreases-loop-left
 start c = c.before.before.before.before.before.before.before
 
 -- five words of the list are there in each turn
@@ -51,18 +51,18 @@ pub mark_entry-front-requires : goal.mark_entry-front-requires
 mark_entry-front-requires c =
     let l = c.before.before.before.before.before in
     let s = start l in
-    (s.pre.0, (l.loop-left.invariant.front, omega (arith, s.pre.1.1, l.loop-left.invariant.kept)))
+    record { sized = s.requires.sized; place_value = (l.loop-left.invariant.front, omega (arith, s.requires.entries_in_bounds.1, l.loop-left.invariant.kept)) }
 
 pub overflow_add-at-in-loop-left : goal.overflow_add-at-in-loop-left
 overflow_add-at-in-loop-left c =
     let turn = to-turn c.before.before.before in
-    omega (arith, there turn, (start turn.before).good.1.1.1.0)
+    omega (arith, there turn, turn.well_formed.1.1.1.0)
 
 pub loop-left-preserved : goal.loop-left-preserved
 loop-left-preserved c =
     let d = c.before.before.before in
     let turn = to-turn d in
-    mark-next turn.before.loop.inv turn.loop-test.taken d.mark_entry-front.ensures d.mark_entry-front.auto.marks
+    mark-next turn.loop-left.invariant turn.loop-left-test.true d.mark_entry-front.ensures d.mark_entry-front.auto.marks
 
 pub shape_of-marks : goal.shape_of-marks
 shape_of-marks c = c.loop-left.invariant.kept

@@ -5,14 +5,13 @@ use lib.ListN.{length}
 use Rattle.bundle_table.proofs.Copies.{copies-start, copies-next, copies_length, copies-end}
 use Rattle.bundle_table.proofs.copy.Goals as goal
 use Rattle.bundle_table.proofs.copy.Lts as lts
-use Rattle.bundle_table.proofs.copy.Tie as tie
 use Rattle.bundle_table.proofs.copy.Reads as reads
 
 -- the place that is written is there
-room : (c : lts.In-loop tie.the-claims reads.Pre reads.Post goal.the-invariant-loop-i goal.the-decreases-loop-i → c.before.before.args.to + c.before.loop.i < length c.before.loop.out
+room : (c : lts.In-loop reads.Pre reads.Post goal.the-invariant-loop-i goal.the-decreases-loop-i) → c.args.to + c.loop-i.i < length c.loop-i.out
 room c =
     let s = c.before.before in
-    omega (arith, copies_length _ _ _ _ _ s.requires.0 s.requires.1 c.before.loop.invariant, s.requires.1, c.loop-test.true)
+    omega (arith, copies_length _ _ _ _ _ s.requires.0 s.requires.1 c.loop-i.invariant, s.requires.1, c.loop-i-test.true)
 
 pub loop-i-init : goal.loop-i-init
 loop-i-init c = copies-start _ _ _ _ _ c.requires.0 c.requires.1

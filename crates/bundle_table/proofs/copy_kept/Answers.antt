@@ -62,7 +62,7 @@ copy-requires c = preamble-fits _ _ c.preamble_size-to.ensures c.requires.2
 pub loop-at-init : goal.loop-at-init
 loop-at-init c =
     let p = to-counted c.before in
-    copy_start (to_start p).pre.0 (begun _ _ _ p.preamble-size.ensures c.copy.ensures)
+    copy_start p.requires.0 (begun _ _ _ p.preamble_size-to.ensures c.copy.ensures)
 
 pub kept_size-size-requires : goal.kept_size-size-requires
 kept_size-size-requires c =
@@ -80,8 +80,8 @@ pub overflow_add-to : goal.overflow_add-to
 overflow_add-to c =
     let k = to-kept c.before in
     let f = k.before in
-    let w = f.before.loop.inv.walked in
-    omega (arith, w.small, (walk-fits f.loop-test.taken w k.kept-size.ensures).1, (to-given f).pre.0.limit)
+    let w = f.loop-at.invariant.walked in
+    omega (arith, w.small, (walk-fits f.loop-at-test.true w k.kept_size-size.ensures).1, f.requires.0.limit)
 
 pub size_at-at-requires : goal.size_at-at-requires
 size_at-at-requires c = let f = (to-kept c.before).before in omega (arith, f.requires.0.room, f.loop-at-test.true)
@@ -100,7 +100,7 @@ pub loop-at-preserved : goal.loop-at-preserved
 loop-at-preserved c =
     let k = to-kept c.before.before in
     let f = k.before in
-    copy-next f.loop-test.taken f.before.loop.inv k.kept-size.ensures c.size_at-at.ensures.0
+    copy-next f.loop-at-test.true f.loop-at.invariant k.kept_size-size.ensures c.size_at-at.ensures.0
     c.copy-in-loop-at.ensures
 
 pub shape_of-out : goal.shape_of-out

@@ -75,8 +75,8 @@ no-slot c = sym c.slot_fault-s.ensures ∙ c.if-s-ne-NO_FAULT.false
 
 role-fine : (c : AtRole) →
     let n = numbers (slots c) in
-    let a = (start (whole (kind n))).args in
-    role_ok n.before.before.record-says.result a.under a.at ≡ true
+    let a = n.args in
+    role_ok n.record_says-y.result a.under a.at ≡ true
 role-fine c = sym c.role_ok.ensures ∙ c.if-role_ok.true
 
 -- The record's head

@@ -9,7 +9,7 @@ use Rattle.table_offsets.specs.declared.Says.{Says}
 use Rattle.check_class.proofs.number_fault.Goals as goal
 use Rattle.check_class.proofs.number_fault.Lts as lts
 use Rattle.check_class.proofs.number_fault.Tie as tie
-use Rattle.check_class.proofs.number_fault.Reads as reads
+use Rattle.check_class.proofs.number_fault.Reads as clauses
 
 -- A test that holds, and one that does not
 
@@ -44,22 +44,22 @@ from_order y = pick_n (ltb 1 y.order) 10 (from_align y)
 -- Places of the code: the length, the order, the alignment, the slot it sets, the slot it reads, the role are in their ranges
 
 abbrev AtLength : Type 0
-AtLength = lts.Then1 tie.the-claims reads.Pre reads.Post
+AtLength = lts.Then1 tie.the-claims clauses.Pre clauses.Post
 
 abbrev AtOrder : Type 0
-AtOrder = lts.Else2 tie.the-claims reads.Pre reads.Post
+AtOrder = lts.Else2 tie.the-claims clauses.Pre clauses.Post
 
 abbrev AtAlign : Type 0
-AtAlign = lts.Else3 tie.the-claims reads.Pre reads.Post
+AtAlign = lts.Else3 tie.the-claims clauses.Pre clauses.Post
 
 abbrev AtSets : Type 0
-AtSets = lts.Else4 tie.the-claims reads.Pre reads.Post
+AtSets = lts.Else4 tie.the-claims clauses.Pre clauses.Post
 
 abbrev AtReads : Type 0
-AtReads = lts.Else5 tie.the-claims reads.Pre reads.Post
+AtReads = lts.Else5 tie.the-claims clauses.Pre clauses.Post
 
 abbrev AtRole : Type 0
-AtRole = lts.Else6 tie.the-claims reads.Pre reads.Post
+AtRole = lts.Else6 tie.the-claims clauses.Pre clauses.Post
 
 -- The way back
 

@@ -48,7 +48,7 @@ returns-then-is_named c =
     let p = c.before.before.before in
     let n = turn p in
     let asked = c.is_named.ensures in
-    named-hit _ _ _ _ _ _ _ (loop n).loop.inv.1 n.loop-test.taken _ p.wide32.ensures.0 _ asked c.if-is_named.true
+    named-hit _ _ _ _ _ _ _ n.loop-i.invariant.1 n.loop-i-test.true _ p.wide32.ensures.0 _ asked c.if-is_named.true
 
 pub loop-i-smaller : goal.loop-i-smaller
 loop-i-smaller c = omega (arith, c.requires)
@@ -58,7 +58,7 @@ loop-i-preserved c =
     let p = c.before.before.before in
     let n = turn p in
     let asked = c.is_named.ensures in
-    (omega arith, named-miss _ _ _ _ _ _ _ (loop n).loop.inv.1 n.loop-test.taken _ p.wide32.ensures.0 _ asked c.if-is_named.false)
+    (omega arith, named-miss _ _ _ _ _ _ _ n.loop-i.invariant.1 n.loop-i-test.true _ p.wide32.ensures.0 _ asked c.if-is_named.false)
 
 pub returns : goal.returns
 returns c = named_none _ _ _ _ _ _ _ c.loop-i.invariant.1 c.loop-i-test.false

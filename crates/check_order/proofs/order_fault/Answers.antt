@@ -75,7 +75,7 @@ pub returns-then-named : goal.returns-then-named
 returns-then-named c =
     let r = c.before.before.before in
     let k = kind-of-trace r in
-    trace-late _ _ _ _ _ k.byte.ensures r.in-2.is r.if-trace.false _ c.named.ensures c.if-named.true
+    trace-late _ _ _ _ _ k.byte-k.ensures r.in-2.is r.if-trace.false _ c.named.ensures c.if-named.true
 
 -- A clock class
 
@@ -110,7 +110,7 @@ pub returns-then-byte : goal.returns-then-byte
 returns-then-byte c =
     let n = c.before.before.before in
     let s = stream n in
-    stream-timeless _ _ _ _ _ (kind-of-stream s).byte.ensures s.match.keys4 _ n.named-in-4.ensures n.if-named-3.false
+    stream-timeless _ _ _ _ _ s.byte-k.ensures s.in-4.is _ n.named-in-4.ensures n.if-named-3.false
     _ c.byte.ensures c.if-byte.true
 
 pub overflow_add-at-in-4-3 : goal.overflow_add-at-in-4-3
@@ -124,7 +124,7 @@ returns-then-named-4 c =
     let w = c.before.before.before in
     let n = new-stream w in
     let s = stream n in
-    stream-fine _ _ _ _ _ (kind-of-stream s).byte.ensures s.match.keys4 _ n.before.named3.ensures n.if4.left
+    stream-fine _ _ _ _ _ s.byte-k.ensures s.in-4.is _ n.named-in-4.ensures n.if-named-3.false
     _ w.byte.ensures w.if-byte.false _ c.named-in-4-2.ensures c.if-named-4.true
 
 -- An event class
@@ -150,7 +150,7 @@ pub returns-then-named-6 : goal.returns-then-named-6
 returns-then-named-6 c =
     let n = c.before.before.before in
     let e = event n in
-    event-fine _ _ _ _ _ (kind-of-event e).byte.ensures e.match.keys5 _ n.named-in-5.ensures n.if-named-5.false
+    event-fine _ _ _ _ _ e.byte-k.ensures e.in-5.is _ n.named-in-5.ensures n.if-named-5.false
     _ c.named-in-5-2.ensures c.if-named-6.true
 
 -- By kind again: what each is where its tests are over
@@ -162,7 +162,7 @@ pub returns-else-named : goal.returns-else-named
 returns-else-named c =
     let r = c.before.before.before in
     let k = kind-of-trace r in
-    trace-fine _ _ _ _ _ k.byte.ensures r.in-2.is r.if-trace.false _ c.named.ensures c.if-named.false
+    trace-fine _ _ _ _ _ k.byte-k.ensures r.in-2.is r.if-trace.false _ c.named.ensures c.if-named.false
 
 pub returns-else-named-2 : goal.returns-else-named-2
 returns-else-named-2 c =
@@ -174,14 +174,14 @@ returns-else-named-4 c =
     let w = c.before.before.before in
     let n = new-stream w in
     let s = stream n in
-    stream-without _ _ _ _ _ (kind-of-stream s).byte.ensures s.match.keys4 _ n.before.named3.ensures n.if4.left
+    stream-without _ _ _ _ _ s.byte-k.ensures s.in-4.is _ n.named-in-4.ensures n.if-named-3.false
     _ w.byte.ensures w.if-byte.false _ c.named-in-4-2.ensures c.if-named-4.false
 
 pub returns-else-named-6 : goal.returns-else-named-6
 returns-else-named-6 c =
     let n = c.before.before.before in
     let e = event n in
-    event-without _ _ _ _ _ (kind-of-event e).byte.ensures e.match.keys5 _ n.named-in-5.ensures n.if-named-5.false
+    event-without _ _ _ _ _ e.byte-k.ensures e.in-5.is _ n.named-in-5.ensures n.if-named-5.false
     _ c.named-in-5-2.ensures c.if-named-6.false
 
 pub returns-in_default : goal.returns-in_default

@@ -47,7 +47,7 @@ returns-then-meets_option c =
     let p = c.before.before.before in
     let n = turn p in
     let asked = c.meets_option.ensures in
-    any-hit _ _ _ _ _ _ _ (loop n).loop.inv.1 n.loop-test.taken _ p.wide32.ensures.0 _ asked c.if-meets_option.true
+    any-hit _ _ _ _ _ _ _ n.loop-i.invariant.1 n.loop-i-test.true _ p.wide32.ensures.0 _ asked c.if-meets_option.true
 
 pub loop-i-smaller : goal.loop-i-smaller
 loop-i-smaller c = omega (arith, c.requires)
@@ -57,7 +57,7 @@ loop-i-preserved c =
     let p = c.before.before.before in
     let n = turn p in
     let asked = c.meets_option.ensures in
-    (omega arith, any-miss _ _ _ _ _ _ _ (loop n).loop.inv.1 n.loop-test.taken _ p.wide32.ensures.0 _ asked c.if-meets_option.false)
+    (omega arith, any-miss _ _ _ _ _ _ _ n.loop-i.invariant.1 n.loop-i-test.true _ p.wide32.ensures.0 _ asked c.if-meets_option.false)
 
 pub returns : goal.returns
 returns c = any_none _ _ _ _ _ _ _ c.loop-i.invariant.1 c.loop-i-test.false

@@ -103,8 +103,8 @@ returns c =
     let l = low h in
     let g = sign l in
     let r = range g in
-    let s = g.before.byte in
-    let low_end = l.key.ensures ∙ ap (λ v. key s.result v) l.before.number.ensures.0 in
+    let s = g.byte-sign in
+    let low_end = l.key-low.ensures ∙ ap (λ v. key s.result v) l.number.ensures.0 in
     let high_end = h.key-high.ensures ∙ ap (λ v. key s.result v) h.number-2.ensures.0 in
     c.bounds_fault.ensures
-    ∙ sym (range-on _ _ _ _ _ _ _ (no-head (whole r)) r.if2.left s.ensures g.if3.left low_end high_end)
+    ∙ sym (range-on _ _ _ _ _ _ _ (no-head (whole r)) r.if-table-at-ne-RANGE.false s.ensures g.if-sign-gt1.false low_end high_end)

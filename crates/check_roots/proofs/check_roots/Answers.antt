@@ -47,7 +47,7 @@ returns-in-Bad c =
 pub overflow_add-n : goal.overflow_add-n
 overflow_add-n c =
     let l = loop (turn c.before.before) in
-    omega (arith, (start l).pre, l.loop.inv.0)
+    omega (arith, l.requires, l.loop-todo.invariant.0)
 
 pub overflow_sub-todo : goal.overflow_sub-todo
 overflow_sub-todo c = omega arith

@@ -61,7 +61,7 @@ returns-then-byte-lt-ROOTS c =
     let r = root w in
     let none = first-zero _ (no-head w) in
     let number = sym c.byte.ensures in
-    simp (lt-leb _ _ (more r).if1.left, eq-eqb _ _ r.if2.left, none, number, lt-ltb _ _ c.if-byte-lt-ROOTS.true)
+    simp (lt-leb _ _ r.if-table-at.false, eq-eqb _ _ r.if-table-at-ne-ROOT.false, none, number, lt-ltb _ _ c.if-byte-lt-ROOTS.true)
 
 pub returns : goal.returns
 unfolding stray pick_n
@@ -70,4 +70,4 @@ returns c =
     let r = root w in
     let none = first-zero _ (no-head w) in
     let number = sym c.byte.ensures in
-    simp (lt-leb _ _ (more r).if1.left, eq-eqb _ _ r.if2.left, none, number, le-ltb _ _ c.if-byte-lt-ROOTS.false)
+    simp (lt-leb _ _ r.if-table-at.false, eq-eqb _ _ r.if-table-at-ne-ROOT.false, none, number, le-ltb _ _ c.if-byte-lt-ROOTS.false)

@@ -115,13 +115,13 @@ pub header_with-header-requires : goal.header_with-header-requires
 header_with-header-requires c = omega (arith, low (fragment c.before))
 
 pub overflow_cast-streams : goal.overflow_cast-streams
-overflow_cast-streams c = let f = fragment (before c.before) in omega (arith, low f, room f, (loop f).loop.inv.1.0)
+overflow_cast-streams c = let f = fragment (before c.before) in omega (arith, low f, room f, f.loop-todo.invariant.1.0)
 
 pub offset_bounds-streams-n : goal.offset_bounds-streams-n
-offset_bounds-streams-n c = let f = fragment (before c.before) in omega (arith, low f, room f, (loop f).loop.inv.1.0)
+offset_bounds-streams-n c = let f = fragment (before c.before) in omega (arith, low f, room f, f.loop-todo.invariant.1.0)
 
 pub bounds-streams-n : goal.bounds-streams-n
-bounds-streams-n c = let f = fragment (before c.before) in omega (arith, low f, room f, (loop f).loop.inv.1.0)
+bounds-streams-n c = let f = fragment (before c.before) in omega (arith, low f, room f, f.loop-todo.invariant.1.0)
 
 pub overflow_add-n : goal.overflow_add-n
 overflow_add-n c =
@@ -146,7 +146,7 @@ bounds-places-i c = omega (arith, c.kept_at-i.ensures, c.loop-todo.invariant.1.1
 pub renewed-homes-requires : goal.renewed-homes-requires
 renewed-homes-requires c =
     let f = fragment-of-kept c.before.before in
-    ((start (loop f)).pre, (loop f).loop.inv.1.1.1.1.1.1 _ c.kept_at-i.ensures)
+    (f.requires, f.loop-todo.invariant.1.1.1.1.1.1 _ c.kept_at-i.ensures)
 
 pub offset_bounds-known-i-in-loop-todo : goal.offset_bounds-known-i-in-loop-todo
 offset_bounds-known-i-in-loop-todo c = omega (arith, c.kept_at-i.ensures)
@@ -188,26 +188,26 @@ loop-todo-preserved c =
     let h = header k in
     let b = before h in
     let f = fragment b in
-    let l = (loop f).loop in
-    let v = l.inv.1.1.1 in
+    let l = f.loop-todo in
+    let v = l.invariant.1.1.1 in
     let m = s.wide.ensures.0 ∙ s.mark_of.ensures in
-    let e = fragment-of _ _ _ _ w.renewed.ensures _ c.walk_fragment-next.ensures in
-    let size : length l.streams ≡ 6554 = l.inv.1.0 in
+    let e = fragment-of _ _ _ _ w.renewed-homes.ensures _ c.walk_fragment-next.ensures in
+    let size : length l.streams ≡ 6554 = l.invariant.1.0 in
     let fits : l.n < length l.streams = omega (arith, room f, size) in
     let still =
-    known-set _ l.known l.places v.1.0 v.1.1.0 v.1.1.1 _ i.kept_at.ensures _ _ w.renewed.ensures
+    known-set _ l.known l.places v.1.0 v.1.1.0 v.1.1.1 _ i.kept_at-i.ensures _ _ w.renewed-homes.ensures
     in
     let all =
-    fragments-on _ _ _ _ _ _ _ l.inv.1.1.0 f.before.before.loop-test.taken (there f) fits _ refl _ b.roots-before.ensures _
-    h.header-with.ensures _ k.counted.ensures _ m _ e
+    fragments-on _ _ _ _ _ _ _ l.invariant.1.1.0 f.loop-todo-test.true (there f) fits _ refl _ b.roots_before-before.ensures _
+    h.header_with-header.ensures _ k.counted-n.ensures _ m _ e
     in (
-      counted-room _ _ _ _ _ m l.inv.0 _ k.counted.ensures _ _ e,
+      counted-room _ _ _ _ _ m l.invariant.0 _ k.counted-n.ensures _ _ e,
       (
         simp length-set size,
         (
           all,
           (
-            u.next-turn.ensures,
+            u.next_turn-turn.ensures,
             (
               simp length-set v.1.0,
               (simp length-set v.1.1.0, still),

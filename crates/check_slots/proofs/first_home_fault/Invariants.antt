@@ -1,4 +1,5 @@
 use mathlib.Core.Path.{◌≡◌}
+use mathlib.Core.List.{[]}
 use Prim.Native.Nat.{◌≤◌, ◌<◌, ◌*◌}
 use lib.ListN.{length}
 use Rattle.table_offsets.specs.Check.{latest}

@@ -29,7 +29,7 @@ overflow_add-result c = omega (arith, c.wide32-o.ensures)
 pub returns-then-number-id : goal.returns-then-number-id
 unfolding u64
 returns-then-number-id c =
-    let n = c.before.before.before.before.before in
+    let n = c.before.before.before.before.before.before in
     let place = c.wide32-o.ensures.0 in
     sym (n.loop-i.invariant.1 ∙ stream-hit _ _ _ _ n.loop-i-test.true _ place _ c.number.ensures.0 c.if-number-id.true)
 
@@ -39,7 +39,7 @@ loop-i-smaller c = omega arith
 pub loop-i-preserved : goal.loop-i-preserved
 unfolding u64
 loop-i-preserved c =
-    let n = c.before.before.before.before.before in
+    let n = c.before.before.before.before.before.before in
     let l = n.loop-i in
     let place = c.wide32-o.ensures.0 in (
       omega (arith, l.invariant.0),

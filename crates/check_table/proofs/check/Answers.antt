@@ -53,9 +53,9 @@ pub returns-then-table-le-TABLE_LIMIT : goal.returns-then-table-le-TABLE_LIMIT
 returns-then-table-le-TABLE_LIMIT c =
     let h = c.before.before in
     let a = answer (size h) in
-    let t = (start a).args.table.now in
+    let t = a.args.table.now in
     c.earlier_of.ensures
-    ∙ ap (λ r. earlier (length t) r h.first_home_fault-p.result) a.answer.ensures
+    ∙ ap (λ r. earlier (length t) r h.first_home_fault-p.result) a.answer-a.ensures
     ∙ ap (earlier (length t) (checked_at t)) h.first_home_fault-p.ensures
     ∙ sym (both a)
 

@@ -74,7 +74,7 @@ loop-next-init c = (omega arith, (refl, refl))
 pub fragment_fault-f-requires : goal.fragment_fault-f-requires
 fragment_fault-f-requires c =
     let l = loop c.before.before in
-    omega (arith, l.loop.inv.0, (start l).pre)
+    omega (arith, l.loop-next.invariant.0, l.requires)
 
 pub returns-then-f-ne-NO_FAULT : goal.returns-then-f-ne-NO_FAULT
 returns-then-f-ne-NO_FAULT c =
@@ -102,15 +102,15 @@ overflow_add-n c = omega (arith, (opened (fragment c.before)).few, c.counted-n.e
 pub roots_of-r-requires : goal.roots_of-r-requires
 roots_of-r-requires c =
     let f = fragment c.before.before in
-    let p = (given f).pre in
+    let p = f.requires in
     let o = opened f in
-    (p.0, (omega (arith, p, (turn f).loop-test.taken), (o.low, o.high)))
+    (p.0, (omega (arith, p, f.loop-next-test.true), (o.low, o.high)))
 
 pub lowest-low-requires : goal.lowest-low-requires
 lowest-low-requires c =
     let k = counted c.before.before.before in
     let f = fragment k in
-    omega (arith, (opened f).few, k.counted.ensures, (given f).pre)
+    omega (arith, (opened f).few, k.counted-n.ensures, f.requires)
 
 pub returns-in-Bad : goal.returns-in-Bad
 returns-in-Bad c =
@@ -118,9 +118,9 @@ returns-in-Bad c =
     let k = counted r in
     let f = fragment k in
     let n = turn f in
-    let l = (loop n).loop in
-    turn-bad _ _ _ _ _ _ l.inv.1.1 n.loop-test.taken _ f.before.fragment-fault.ensures f.if1.left
-    l.inv.0 l.inv.1.0 _ _ r.traced-trace.ensures k.counted.ensures _ r.roots_of-r.ensures _ _ _
+    let l = n.loop-next in
+    turn-bad _ _ _ _ _ _ l.invariant.1.1 n.loop-next-test.true _ f.fragment_fault-f.ensures f.if-f-ne-NO_FAULT.false
+    l.invariant.0 l.invariant.1.0 _ _ r.traced-trace.ensures k.counted-n.ensures _ r.roots_of-r.ensures _ _ _
     c.in-Bad.is c.lowest-low.ensures
 
 -- The next turn
@@ -129,8 +129,8 @@ pub loop-next-smaller : goal.loop-next-smaller
 loop-next-smaller c =
     let r = roots c.before in
     let f = fragment (counted r) in
-    let walked = sym r.roots-of.ensures ∙ c.in-Fine.is in
-    omega (arith, (fragment-end _ _ _ _ (opened f) walked).0, (turn f).loop-test.taken)
+    let walked = sym r.roots_of-r.ensures ∙ c.in-Fine.is in
+    omega (arith, (fragment-end _ _ _ _ (opened f) walked).0, f.loop-next-test.true)
 
 pub loop-next-preserved : goal.loop-next-preserved
 loop-next-preserved c =
@@ -138,12 +138,12 @@ loop-next-preserved c =
     let k = counted r in
     let f = fragment k in
     let n = turn f in
-    let l = (loop n).loop in (
-      omega (arith, (opened f).few, k.counted.ensures),
+    let l = n.loop-next in (
+      omega (arith, (opened f).few, k.counted-n.ensures),
       (
-        simp length-set l.inv.1.0,
-        turn-fine _ _ _ _ _ _ l.inv.1.1 n.loop-test.taken _ f.before.fragment-fault.ensures f.if1.left
-            l.inv.0 l.inv.1.0 _ _ r.before.traced.ensures k.counted.ensures _ r.roots-of.ensures _
+        simp length-set l.invariant.1.0,
+        turn-fine _ _ _ _ _ _ l.invariant.1.1 n.loop-next-test.true _ f.fragment_fault-f.ensures f.if-f-ne-NO_FAULT.false
+            l.invariant.0 l.invariant.1.0 _ _ r.traced-trace.ensures k.counted-n.ensures _ r.roots_of-r.ensures _
             c.in-Fine.is,
       ),
     )

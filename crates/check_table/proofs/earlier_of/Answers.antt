@@ -13,16 +13,16 @@ use Rattle.check_table.proofs.earlier_of.Reads as reads
 -- Places of the code: a fault was found; the answer is a refusal; it is no later; it is no earlier
 
 abbrev AtFound : Type 0
-AtFound = lts.Else1 tie.the-claims reads.Pre reads.Post
+AtFound = lts.Else1 reads.Pre reads.Post
 
 abbrev AtRefused : Type 0
-AtRefused = lts.After-struct_known tie.the-claims reads.Pre reads.Post
+AtRefused = lts.After-struct_known reads.Pre reads.Post
 
 abbrev AtNoLater : Type 0
-AtNoLater = lts.Else2 tie.the-claims reads.Pre reads.Post
+AtNoLater = lts.Else2 reads.Pre reads.Post
 
 abbrev AtSame : Type 0
-AtSame = lts.Else3 tie.the-claims reads.Pre reads.Post
+AtSame = lts.Else3 reads.Pre reads.Post
 
 -- The way back
 
@@ -66,16 +66,16 @@ returns-then-p-byte c =
 pub returns-then-byte-p : goal.returns-then-byte-p
 returns-then-byte-p c =
     let r = refused c.before.before in
-    known _ _ _ _ _ r.before.before.a2.given.1 (earlier-behind _ _ _ _ c.if-byte-p.true)
+    known _ _ _ _ _ r.in-Refused.is (earlier-behind _ _ _ _ c.if-byte-p.true)
 
 pub returns-then-number-gt-SLOT_NOT_ALLOWED : goal.returns-then-number-gt-SLOT_NOT_ALLOWED
 returns-then-number-gt-SLOT_NOT_ALLOWED c =
     let n = no-later c.before in
     let r = refused n in
-    let there = equal _ _ c.if-byte-p.false n.if2.left in
-    known _ _ _ _ _ r.before.before.a2.given.1 (earlier-lower _ _ (found r).if1.left _ _ there c.if-number-gt-SLOT_NOT_ALLOWED.true)
+    let there = equal _ _ c.if-byte-p.false n.if-p-byte.false in
+    known _ _ _ _ _ r.in-Refused.is (earlier-lower _ _ r.if-size-p.false _ _ there c.if-number-gt-SLOT_NOT_ALLOWED.true)
 
 pub returns-in-Accepted : goal.returns-in-Accepted
 returns-in-Accepted c =
     let n = no-later c in
-    known _ _ _ _ _ (refused n).before.before.a2.given.1 (earlier-higher _ _ _ _ n.if2.left c.if4.false)
+    known _ _ _ _ _ n.in-Refused.is (earlier-higher _ _ _ _ n.if-p-byte.false c.if4.false)

@@ -61,14 +61,14 @@ overflow_add-at c = omega (arith, c.requires.limit, c.size_at-at.ensures.1)
 pub loop-at-smaller : goal.loop-at-smaller
 loop-at-smaller c =
     let f = fragment (other c.before) in
-    omega (arith, ahead-onward f.loop-test.taken (loop f).loop.inv c.size_at-at.ensures.0)
+    omega (arith, ahead-onward f.loop-at-test.true f.loop-at.invariant c.size_at-at.ensures.0)
 
 pub loop-at-preserved : goal.loop-at-preserved
 loop-at-preserved c =
     let o = other c.before in
     let f = fragment o in
-    let no = sym o.before.is-trace-class.ensures ∙ o.if1.left in
-    ahead-next f.loop-test.taken (loop f).loop.inv no c.size_at-at.ensures.0
+    let no = sym o.is_trace_class.ensures ∙ o.if-is_trace_class.false in
+    ahead-next f.loop-at-test.true f.loop-at.invariant no c.size_at-at.ensures.0
 
 -- None is left
 

@@ -37,15 +37,15 @@ pub size_at-at-requires : goal.size_at-at-requires
 size_at-at-requires c = let f = c.before.before.before.before.before in omega (arith, f.requires.0.room, f.loop-at-test.true)
 
 pub overflow_add-at : goal.overflow_add-at
-overflow_add-at c = let f = fragment c.before in omega (arith, (start f).pre.0.limit, f.loop-test.taken, c.size_at-at.ensures.1)
+overflow_add-at c = let f = fragment c.before in omega (arith, f.requires.0.limit, f.loop-at-test.true, c.size_at-at.ensures.1)
 
 pub loop-at-smaller : goal.loop-at-smaller
-loop-at-smaller c = let f = fragment c.before in omega (arith, index-onward f.loop-test.taken f.before.loop.inv c.size_at-at.ensures.0)
+loop-at-smaller c = let f = fragment c.before in omega (arith, index-onward f.loop-at-test.true f.loop-at.invariant c.size_at-at.ensures.0)
 
 pub loop-at-preserved : goal.loop-at-preserved
 loop-at-preserved c =
     let f = fragment c.before in
-    index-next f.loop-test.taken f.before.loop.inv c.index_one.ensures c.size_at-at.ensures.0
+    index-next f.loop-at-test.true f.loop-at.invariant c.index_one.ensures c.size_at-at.ensures.0
 
 pub shape_of-index : goal.shape_of-index
 shape_of-index c = c.loop-at.invariant.kept

@@ -14,22 +14,22 @@ use Rattle.class_notes.proofs.note_class.Reads as reads
 -- its word
 
 abbrev AtStart : Type 0
-AtStart = lts.Start tie.the-claims reads.Pre reads.Post
+AtStart = lts.Start tie.the-claims reads.Pre reads.Post tie.handed_clauses
 
 abbrev AtKind : Type 0
-AtKind = lts.After-shared_slice_known2 tie.the-claims reads.Pre reads.Post
+AtKind = lts.After-shared_slice_known2 tie.the-claims reads.Pre reads.Post tie.handed_clauses
 
 abbrev AtClass : Type 0
-AtClass = lts.Else2 tie.the-claims reads.Pre reads.Post
+AtClass = lts.Else2 tie.the-claims reads.Pre reads.Post tie.handed_clauses
 
 abbrev AtReach : Type 0
-AtReach = lts.After-reach_of tie.the-claims reads.Pre reads.Post
+AtReach = lts.After-reach_of tie.the-claims reads.Pre reads.Post tie.handed_clauses
 
 abbrev AtSize : Type 0
-AtSize = lts.After-size_to tie.the-claims reads.Pre reads.Post
+AtSize = lts.After-size_to tie.the-claims reads.Pre reads.Post tie.handed_clauses
 
 abbrev AtWord : Type 0
-AtWord = lts.After-word_of tie.the-claims reads.Pre reads.Post
+AtWord = lts.After-word_of tie.the-claims reads.Pre reads.Post tie.handed_clauses
 
 -- The way back
 
@@ -75,17 +75,17 @@ returns-then-kind-gt-LAST_CLASS c =
 pub reach_of-reach-requires : goal.reach_of-reach-requires
 unfolding u8
 reach_of-reach-requires c =
-    let k = c.before.before.before in
+    let k = c.before in
     let p = k.requires in
-    (p.at_in_bounds, p.table_in_bounds.2, k.before.if1.false, k.if2.false)
+    (p.at_in_bounds, p.table_in_bounds.2, k.if-kind-lt-FIRST_CLASS.false, k.if-kind-gt-LAST_CLASS.false)
 
 pub size_to-size-requires : goal.size_to-size-requires
 unfolding u8
 size_to-size-requires c =
     let k = class c.before in
-    let a = (given k).args in
-    let p = (given k).pre in
-    (not_first a.table.now a.at p.0.3 k.before.if1.left, p.0.2, c.reach_of-reach.ensures.onward)
+    let a = k.args in
+    let p = k.requires in
+    (not_first a.table.now a.at p.table_in_bounds.3 k.if-kind-lt-FIRST_CLASS.false, p.table_in_bounds.2, c.reach_of-reach.ensures.onward)
 
 pub word_of-requires : goal.word_of-requires
 word_of-requires c = c.reach_of-reach.ensures.sets.1
@@ -94,9 +94,9 @@ pub returns : goal.returns
 unfolding u8
 returns c =
     let s = size c.before in
-    let r = (reach s).reach_of.ensures in
+    let r = s.reach_of-reach.ensures in
     let k = class (reach s) in
-    let a = (given k).args in
+    let a = k.args in
     let t = a.table.now in
-    note-class t a.at (notes a.sizes.now a.aligns.now) k.before.if1.left k.if2.left
-    (s.size-to.ensures ∙ ap (size_to t a.at) r.end) (c.word_of.ensures ∙ word_same r.align r.sets.0)
+    note-class t a.at (notes a.sizes.now a.aligns.now) k.if-kind-lt-FIRST_CLASS.false k.if-kind-gt-LAST_CLASS.false
+    (s.size_to-size.ensures ∙ ap (size_to t a.at) r.end) (c.word_of.ensures ∙ word_same r.align r.sets.0)

@@ -12,19 +12,19 @@ use Rattle.class_notes.proofs.note_classes.Reads as reads
 -- Places of the code, in its order: all is given; a round begins; a byte is left; the class there is noted; the lists are back
 
 abbrev AtStart : Type 0
-AtStart = lts.Start tie.the-claims reads.Pre reads.Post goal.the-invariant-loop-at goal.the-decreases-loop-at
+AtStart = lts.Start tie.the-claims reads.Pre reads.Post tie.handed_clauses goal.the-invariant-loop-at goal.the-decreases-loop-at
 
 abbrev AtLoop : Type 0
-AtLoop = lts.At-loop tie.the-claims reads.Pre reads.Post goal.the-invariant-loop-at goal.the-decreases-loop-at
+AtLoop = lts.At-loop tie.the-claims reads.Pre reads.Post tie.handed_clauses goal.the-invariant-loop-at goal.the-decreases-loop-at
 
 abbrev AtByte : Type 0
-AtByte = lts.In-loop tie.the-claims reads.Pre reads.Post goal.the-invariant-loop-at goal.the-decreases-loop-at
+AtByte = lts.In-loop tie.the-claims reads.Pre reads.Post tie.handed_clauses goal.the-invariant-loop-at goal.the-decreases-loop-at
 
 abbrev AtNoted : Type 0
-AtNoted = lts.After-note_class tie.the-claims reads.Pre reads.Post goal.the-invariant-loop-at goal.the-decreases-loop-at
+AtNoted = lts.After-note_class tie.the-claims reads.Pre reads.Post tie.handed_clauses goal.the-invariant-loop-at goal.the-decreases-loop-at
 
 abbrev AtBack : Type 0
-AtBack = lts.After-slice_known4 tie.the-claims reads.Pre reads.Post goal.the-invariant-loop-at goal.the-decreases-loop-at
+AtBack = lts.After-slice_known4 tie.the-claims reads.Pre reads.Post tie.handed_clauses goal.the-invariant-loop-at goal.the-decreases-loop-at
 
 -- The way back
 
@@ -51,9 +51,9 @@ overflow_sub-at c = omega arith
 pub note_class-requires : goal.note_class-requires
 note_class-requires c =
     let l = loop c.before.before.before in
-    let w = l.loop.inv.1 in
-    let p = (start l).pre in
-    ((omega (arith, w.0, p.0), omega (arith, w.1, p.1), p.2, p.3), omega (arith, w.2))
+    let w = l.loop-at.invariant.1 in
+    let p = l.requires in
+    record { table_in_bounds = (omega (arith, w.0, p.0), omega (arith, w.1, p.1), p.2, p.3); at_in_bounds = omega (arith, w.2) }
 
 pub loop-at-smaller : goal.loop-at-smaller
 loop-at-smaller c = omega arith
@@ -61,11 +61,11 @@ loop-at-smaller c = omega arith
 pub loop-at-preserved : goal.loop-at-preserved
 loop-at-preserved c =
     let b = byte (noted c.before) in
-    let l = (loop b).loop in
-    let w = l.inv in
-    let t = (start (loop b)).args.table.now in
+    let l = b.loop-at in
+    let w = l.invariant in
+    let t = b.args.table.now in
     let n = c.note_class in (
-      w.0 ∙ below_next t l.at _ b.loop-test.taken ∙ ap (note_below t (l.at - 1)) (sym n.ensures),
+      w.0 ∙ below_next t l.at _ b.loop-at-test.true ∙ ap (note_below t (l.at - 1)) (sym n.ensures),
       (n.auto.sizes ∙ w.1.0, n.auto.aligns ∙ w.1.1, omega (arith, w.1.2)),
     )
 

@@ -42,7 +42,7 @@ here c = fragments-here c.loop-at-test.true c.loop-at.invariant
 
 ends : (c : AtBehind) →
     let l = loop (fragment c) in
-    (l.loop.at < c.behind_fragment-next.result) × (c.behind_fragment-next.result ≤ length (start l).args.table.now)
+    (l.loop-at.at < c.behind_fragment-next.result) × (c.behind_fragment-next.result ≤ length l.args.table.now)
 ends c =
     let f = here (fragment c) in
     (omega (arith, c.behind_fragment-next.ensures, f.onward), omega (arith, c.behind_fragment-next.ensures, f.within))
@@ -57,8 +57,8 @@ loop-at-init c = fragments-start c.requires.0 c.requires.1
 
 pub behind_fragment-next-requires : goal.behind_fragment-next-requires
 behind_fragment-next-requires c =
-    let f = c.before.before in
-    (here f, fragments-roots f.loop-test.true f.loop-at.invariant, f.requires.2, room f)
+    let f = c.before in
+    (here f, fragments-roots f.loop-at-test.true f.loop-at.invariant, f.requires.2, room f)
 
 pub overflow_sub-sizes : goal.overflow_sub-sizes
 overflow_sub-sizes c = omega (arith, ends c.before)
@@ -66,7 +66,7 @@ overflow_sub-sizes c = omega (arith, ends c.before)
 pub overflow_cast-sizes : goal.overflow_cast-sizes
 overflow_cast-sizes c =
     let l = loop (fragment c.before) in
-    omega (arith, ends c.before, l.loop.inv.begun, (start l).pre.2)
+    omega (arith, ends c.before, l.loop-at.invariant.begun, l.requires.2)
 
 pub offset_bounds-sizes-at : goal.offset_bounds-sizes-at
 offset_bounds-sizes-at c = omega (arith, room (fragment c.before), c.requires.2)
@@ -80,7 +80,7 @@ loop-at-smaller c = omega (arith, ends c.before)
 pub loop-at-preserved : goal.loop-at-preserved
 loop-at-preserved c =
     let f = fragment c.before in
-    fragments-next f.loop-test.taken c.behind_fragment-next.ensures refl (loop f).loop.inv
+    fragments-next f.loop-at-test.true c.behind_fragment-next.ensures refl f.loop-at.invariant
 
 -- None is left
 

@@ -97,7 +97,7 @@ pub loop-at-smaller : goal.loop-at-smaller
 loop-at-smaller c =
     let n = next (kind c.before) in
     let r = here (word n) in
-    omega (arith, r.loop-test.taken, n.next-record.ensures.0, next-onward (start (loop r)).args.table.now (loop r).loop.at)
+    omega (arith, r.loop-at-test.true, n.next_record-at.ensures.0, next-onward r.args.table.now r.loop-at.at)
 
 pub loop-at-preserved : goal.loop-at-preserved
 unfolding u8
@@ -105,9 +105,9 @@ loop-at-preserved c =
     let k = kind c.before in
     let n = next k in
     let w = word n in
-    let l = (loop (here w)).loop in
-    records-next (here w).loop-test.taken w.with-number.ensures n.next-record.ensures.0
-    (c.number_behind-number.ensures ∙ ap (λ i. number_behind i l.number) k.byte.ensures) l.inv
+    let l = w.loop-at in
+    records-next w.loop-at-test.true w.with_number.ensures n.next_record-at.ensures.0
+    (c.number_behind-number.ensures ∙ ap (λ i. number_behind i l.number) k.byte.ensures) l.invariant
 
 -- None is left
 

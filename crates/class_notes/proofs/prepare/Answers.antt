@@ -13,28 +13,28 @@ use Rattle.class_notes.proofs.prepare.Reads as reads
 -- lent; the fragments are noted; the words are lent; the numbers are noted
 
 abbrev AtStart : Type 0
-AtStart = lts.Start tie.the-claims reads.Pre reads.Post
+AtStart = lts.Start tie.the-claims reads.Pre reads.Post tie.handed_clauses
 
 abbrev AtTable : Type 0
-AtTable = lts.After-shared_slice_known tie.the-claims reads.Pre reads.Post
+AtTable = lts.After-shared_slice_known tie.the-claims reads.Pre reads.Post tie.handed_clauses
 
 abbrev AtLent : Type 0
-AtLent = lts.After-note_classes-arg2 tie.the-claims reads.Pre reads.Post
+AtLent = lts.After-note_classes-arg2 tie.the-claims reads.Pre reads.Post tie.handed_clauses
 
 abbrev AtClasses : Type 0
-AtClasses = lts.After-note_classes tie.the-claims reads.Pre reads.Post
+AtClasses = lts.After-note_classes tie.the-claims reads.Pre reads.Post tie.handed_clauses
 
 abbrev AtLentSizes : Type 0
-AtLentSizes = lts.After-note_fragments-arg tie.the-claims reads.Pre reads.Post
+AtLentSizes = lts.After-note_fragments-arg tie.the-claims reads.Pre reads.Post tie.handed_clauses
 
 abbrev AtFragments : Type 0
-AtFragments = lts.After-note_fragments tie.the-claims reads.Pre reads.Post
+AtFragments = lts.After-note_fragments tie.the-claims reads.Pre reads.Post tie.handed_clauses
 
 abbrev AtLentWords : Type 0
-AtLentWords = lts.After-note_numbers-arg tie.the-claims reads.Pre reads.Post
+AtLentWords = lts.After-note_numbers-arg tie.the-claims reads.Pre reads.Post tie.handed_clauses
 
 abbrev AtNumbers : Type 0
-AtNumbers = lts.After-note_numbers tie.the-claims reads.Pre reads.Post
+AtNumbers = lts.After-note_numbers tie.the-claims reads.Pre reads.Post tie.handed_clauses
 
 -- The way back
 
@@ -81,7 +81,7 @@ came c = notes c.args.sizes.now c.args.aligns.now
 pub note_classes-requires : goal.note_classes-requires
 note_classes-requires c =
     let s = start (table c.before) in
-    (s.pre.1.0, s.pre.1.1, (accepts s).limit, omega (arith, (accepts s).first))
+    (s.requires.table_in_bounds, s.requires.table_in_bounds.1, (accepts s).limit, omega (arith, (accepts s).first))
 
 -- The fragments
 
@@ -89,7 +89,7 @@ pub note_fragments-requires : goal.note_fragments-requires
 note_fragments-requires c =
     let k = classes c.before in
     let s = given k in
-    let n = first-pass s.args.table.now (came s) (bytes (table (lent k))) s.pre.1.0 s.pre.1.1 k.note-classes.ensures in
+    let n = first-pass s.args.table.now (came s) (bytes (table (lent k))) s.requires.table_in_bounds s.requires.table_in_bounds.1 k.note_classes.ensures in
     ((accepts s).fragments, n.0, (accepts s).limit, n.1)
 
 -- The numbers
@@ -98,7 +98,7 @@ pub note_numbers-requires : goal.note_numbers-requires
 note_numbers-requires c =
     let k = noted c.before in
     let s = given k in
-    let n = first-pass s.args.table.now (came s) (bytes (table (lent k))) s.pre.1.0 s.pre.1.1 k.note-classes.ensures in
+    let n = first-pass s.args.table.now (came s) (bytes (table (lent k))) s.requires.table_in_bounds s.requires.table_in_bounds.1 k.note_classes.ensures in
     (n.2, (accepts s).limit)
 
 pub returns : goal.returns
@@ -107,5 +107,5 @@ returns c =
     let l = lent-words n in
     let k = noted l in
     let s = given k in
-    all-passes s.args.table.now (came s) (bytes (table (lent k))) s.pre.1.0 s.pre.1.1 k.note-classes.ensures (accepts s)
-    (fragments l).note-fragments.ensures n.note_numbers.ensures
+    all-passes s.args.table.now (came s) (bytes (table (lent k))) s.requires.table_in_bounds s.requires.table_in_bounds.1 k.note_classes.ensures (accepts s)
+    l.note_fragments.ensures n.note_numbers.ensures

@@ -45,7 +45,7 @@ sets_both-sets-requires c = (c.loop-left.invariant.small, c.sets_noted.ensures.1
 pub end_noted-next-requires : goal.end_noted-next-requires
 end_noted-next-requires c =
     let l = loop (align c.before) in
-    omega (arith, (start l).pre, l.loop.inv.near)
+    omega (arith, l.requires, l.loop-left.invariant.near)
 
 pub overflow_sub-left : goal.overflow_sub-left
 overflow_sub-left c = omega arith
@@ -57,12 +57,12 @@ pub loop-left-preserved : goal.loop-left-preserved
 loop-left-preserved c =
     let s = c.before.before in
     let a = align s in
-    let l = (loop a).loop in
+    let l = a.loop-left in
     let e = c.end_noted-next.ensures in
     let b = s.sets_both-sets.ensures in
-    let most = a.larger.ensures ∙ ap (max l.align) a.before.align-noted.ensures.0 in
+    let most = a.larger-align.ensures ∙ ap (max l.align) a.align_noted.ensures.0 in
     let set = b.0 ∙ ap (sets_both l.sets) s.sets_noted.ensures.0 in
-    members-next _ a.before.before.loop-test.taken most (set, b.1) e.0 e.1 l.inv
+    members-next _ a.loop-left-test.true most (set, b.1) e.0 e.1 l.invariant
 
 pub returns : goal.returns
 returns c = members-done _ c.loop-left-test.false c.loop-left.invariant

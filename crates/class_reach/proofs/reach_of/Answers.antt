@@ -119,12 +119,12 @@ returns-then-kind-lt-FIRST_OF_BYTES c =
     let read = named.before in
     let size = bits-size read in
     let b = size.before in
-    let a = (bits-start b).args in
+    let a = b.args in
     let x = notes a.sizes.now a.aligns.now in
-    let r = bits-reach a.table.now x a.at _ refl (bits-start b).pre.2 b.if1.taken in
+    let r = bits-reach a.table.now x a.at _ refl b.requires.2 b.if-kind-lt-FIRST_OF_BYTES.true in
     let set = c.sets_one.ensures in
     record {
-      end = ap (λ n. a.at + n) size.record-size.ensures.0 ∙ sym r.0;
+      end = ap (λ n. a.at + n) size.record_size.ensures.0 ∙ sym r.0;
       align = read.wide64.ensures.0 ∙ read.byte.ensures ∙ sym r.1;
       sets = (set.0 ∙ ap sets_one named.slot_named.ensures ∙ sym r.2, set.1);
       onward = omega arith;
@@ -176,15 +176,15 @@ returns-in-29 c =
     let inner = g.before in
     let own = inner.before in
     let b = array g in
-    let a = (array-start b).args in
-    let r = array-reach a.table.now (notes a.sizes.now a.aligns.now) a.at b.before.match.keys2 in
+    let a = b.args in
+    let r = array-reach a.table.now (notes a.sizes.now a.aligns.now) a.at b.in-29.is in
     let set = c.sets_noted.ensures in
     record {
-      end = b.end-noted.ensures.0 ∙ r.0;
+      end = b.end_noted.ensures.0 ∙ r.0;
       align =
           rw (g.larger-in-29.ensures, own.wide64-in-29.ensures.0, own.byte-in-29.ensures, inner.align_noted.ensures.0) r.1;
       sets = (set.0 ∙ r.2, set.1);
-      onward = omega (arith, b.end-noted.ensures.0);
+      onward = omega (arith, b.end_noted.ensures.0);
     }
 
 pub returns-in-30 : goal.returns-in-30
@@ -194,15 +194,15 @@ returns-in-30 c =
     let inner = g.before in
     let own = inner.before in
     let b = dynamic g in
-    let a = (dynamic-start b).args in
-    let r = dynamic-reach a.table.now (notes a.sizes.now a.aligns.now) a.at b.before.match.keys3 in
+    let a = b.args in
+    let r = dynamic-reach a.table.now (notes a.sizes.now a.aligns.now) a.at b.in-30.is in
     let set = c.sets_noted-in-30.ensures in
     record {
-      end = b.end-noted2.ensures.0 ∙ r.0;
+      end = b.end_noted-in-30.ensures.0 ∙ r.0;
       align =
           rw (g.larger-in-30.ensures, own.wide64-in-30.ensures.0, own.byte-in-30.ensures, inner.align_noted-in-30.ensures.0) r.1;
       sets = (set.0 ∙ r.2, set.1);
-      onward = omega (arith, b.end-noted2.ensures.0);
+      onward = omega (arith, b.end_noted-in-30.ensures.0);
     }
 
 pub returns-in-31 : goal.returns-in-31

@@ -78,12 +78,12 @@ pub loop-left-preserved : goal.loop-left-preserved
 loop-left-preserved c =
     let s = c.before.before in
     let r = ranges s in
-    let l = (loop (option r)).loop in
-    let w = r.wide-byte.ensures in
+    let l = r.loop-left in
+    let w = r.wide_byte.ensures in
     let e = c.end_noted-next.ensures in
     let b = s.sets_both-sets.ensures in
     let set = b.0 ∙ ap (sets_both l.sets) s.sets_noted.ensures.0 in
-    options-next _ (option r).loop-test.taken w.0 w.1 (set, b.1) e.0 e.1 l.inv
+    options-next _ r.loop-left-test.true w.0 w.1 (set, b.1) e.0 e.1 l.invariant
 
 pub returns : goal.returns
 returns c = options-done _ c.loop-left-test.false c.loop-left.invariant

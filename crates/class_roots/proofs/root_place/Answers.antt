@@ -77,8 +77,8 @@ returns-then-opens-turn c =
 pub overflow_add-at : goal.overflow_add-at
 overflow_add-at c =
     let o = opening c.before in
-    let f = (start o).pre.0.stands in
-    omega (arith, f.onward, f.within, o.before.Opening-of.ensures.small.0)
+    let f = o.requires.0.stands in
+    omega (arith, f.onward, f.within, o.opening_of-opens.ensures.small.0)
 
 pub loop-left-init : goal.loop-left-init
 unfolding u8
@@ -86,11 +86,11 @@ loop-left-init c =
     let s = start (opening c.before) in
     let a = s.args in
     let o = c.opening_of-opens.ensures in (
-      turn-start a.table.now a.fragment a.turn o s.pre.0 c.if-opens-turn.false,
+      turn-start a.table.now a.fragment a.turn o s.requires.0 c.if-opens-turn.false,
       (
         omega (arith, o.small.2),
         omega (arith, o.small.1, o.small.2),
-        omega (arith, o.size, s.pre.0.stands.there, o.small.2),
+        omega (arith, o.size, s.requires.0.stands.there, o.small.2),
       ),
     )
 

@@ -17,10 +17,10 @@ pub overflow_add-result : goal.overflow_add-result
 overflow_add-result c =
     let s = start c.before in
     let e = c.noted_size.ensures in
-    record { fits = end_fits s.args.sizes.now s.args.at (omega (arith, s.good.0)) e.0 e.1 s.fits.at.fits }
+    record { fits = end_fits s.args.sizes.now s.args.at (omega (arith, s.well_formed.0)) e.0 e.1 s.fits.at.fits }
 
 pub returns : goal.returns
 returns c =
     let s = start c.before in
     let e = c.noted_size.ensures in
-    (ap (λ n. s.args.at + n) e.0, end_low s.args.sizes.now s.args.at (omega (arith, s.good.0)) e.0 e.1)
+    (ap (λ n. s.args.at + n) e.0, end_low s.args.sizes.now s.args.at (omega (arith, s.well_formed.0)) e.0 e.1)

@@ -60,9 +60,9 @@ loop-next-smaller c = omega (arith, c.behind_record-next.ensures)
 pub loop-next-preserved : goal.loop-next-preserved
 loop-next-preserved c =
     let n = named c.before in
-    let so_far = (turn n).before.loop.inv.1 in
-    let on = (turn n).loop-test.taken in
-    let i = n.slot-named.ensures in
+    let so_far = n.loop-next.invariant.1 in
+    let on = n.loop-next-test.true in
+    let i = n.slot_named-i.ensures in
     let next = c.behind_record-next.ensures in (
       λ _. low (turn n),
       ⊎_elim

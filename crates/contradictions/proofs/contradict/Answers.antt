@@ -7,26 +7,25 @@ use lib.Dec.{ltb, eqb}
 use borrow.Author.Tests.{lt-ltb, le-ltb, eq-eqb, ne_eqb}
 use Rattle.contradictions.proofs.contradict.Goals as goal
 use Rattle.contradictions.proofs.contradict.Lts as lts
-use Rattle.contradictions.proofs.contradict.Tie as tie
 use Rattle.contradictions.proofs.contradict.Reads as reads
 
 -- Places of the code, in its order: all is given; the total length is whole bytes; the content is not above it; the packet starts in the
 -- stream, and ends there
 
 abbrev AtStart : Type 0
-AtStart = lts.Start tie.the-claims reads.Pre reads.Post
+AtStart = lts.Start reads.Pre reads.Post
 
 abbrev AtWhole : Type 0
-AtWhole = lts.Else1 tie.the-claims reads.Pre reads.Post
+AtWhole = lts.Else1 reads.Pre reads.Post
 
 abbrev AtOrder : Type 0
-AtOrder = lts.Else2 tie.the-claims reads.Pre reads.Post
+AtOrder = lts.Else2 reads.Pre reads.Post
 
 abbrev AtStarts : Type 0
-AtStarts = lts.Else3 tie.the-claims reads.Pre reads.Post
+AtStarts = lts.Else3 reads.Pre reads.Post
 
 abbrev AtEnds : Type 0
-AtEnds = lts.Else4 tie.the-claims reads.Pre reads.Post
+AtEnds = lts.Else4 reads.Pre reads.Post
 
 -- The way back from each to the one before
 
@@ -71,7 +70,7 @@ returns-then-end-start c =
 pub returns-then-end-start-2 : goal.returns-then-end-start-2
 returns-then-end-start-2 c =
     let k = to-order c.before.before.before in
-    let a = (given k).args in
+    let a = k.args in
     let past = lt-ltb a.end.0 (a.start.0 + a.total) (omega (arith, c.if-end-start-2.true)) in
     simp (whole k, order k, past)
 
@@ -80,6 +79,6 @@ returns c =
     let ends = c.before.before in
     let starts = to-starts ends in
     let k = to-order starts in
-    let a = (given k).args in
-    let within = le-ltb a.end.0 (a.start.0 + a.total) (omega (arith, starts.if3.left, ends.if-end-start-2.false)) in
+    let a = k.args in
+    let within = le-ltb a.end.0 (a.start.0 + a.total) (omega (arith, starts.if-end-start.false, ends.if-end-start-2.false)) in
     simp (whole k, order k, within)

@@ -58,97 +58,97 @@ use Rattle.event_read.proofs.read_event.Reads as reads
 -- place taken, its members the run; opened and its place taken, it goes on, the rest of its run is told; or read by itself
 
 abbrev AtStart : Type 0
-AtStart = lts.Start tie.the-claims reads.Pre reads.Post goal.the-invariant-loop-only goal.the-decreases-loop-only
+AtStart = lts.Start tie.the-claims reads.Pre reads.Post tie.handed_clauses goal.the-invariant-loop-only goal.the-decreases-loop-only
 
 abbrev AtStream : Type 0
-AtStream = lts.After-shared_slice_known6 tie.the-claims reads.Pre reads.Post goal.the-invariant-loop-only goal.the-decreases-loop-only
+AtStream = lts.After-shared_slice_known6 tie.the-claims reads.Pre reads.Post tie.handed_clauses goal.the-invariant-loop-only goal.the-decreases-loop-only
 
 abbrev AtNoEntry : Type 0
-AtNoEntry = lts.Then1 tie.the-claims reads.Pre reads.Post goal.the-invariant-loop-only goal.the-decreases-loop-only
+AtNoEntry = lts.Then1 tie.the-claims reads.Pre reads.Post tie.handed_clauses goal.the-invariant-loop-only goal.the-decreases-loop-only
 
 abbrev AtEntry : Type 0
-AtEntry = lts.Else1 tie.the-claims reads.Pre reads.Post goal.the-invariant-loop-only goal.the-decreases-loop-only
+AtEntry = lts.Else1 tie.the-claims reads.Pre reads.Post tie.handed_clauses goal.the-invariant-loop-only goal.the-decreases-loop-only
 
 abbrev AtListed : Type 0
-AtListed = lts.After-begin tie.the-claims reads.Pre reads.Post goal.the-invariant-loop-only goal.the-decreases-loop-only
+AtListed = lts.After-begin tie.the-claims reads.Pre reads.Post tie.handed_clauses goal.the-invariant-loop-only goal.the-decreases-loop-only
 
 abbrev AtFront : Type 0
-AtFront = lts.After-members tie.the-claims reads.Pre reads.Post goal.the-invariant-loop-only goal.the-decreases-loop-only
+AtFront = lts.After-members tie.the-claims reads.Pre reads.Post tie.handed_clauses goal.the-invariant-loop-only goal.the-decreases-loop-only
 
 abbrev AtLoop : Type 0
-AtLoop = lts.At-loop tie.the-claims reads.Pre reads.Post goal.the-invariant-loop-only goal.the-decreases-loop-only
+AtLoop = lts.At-loop tie.the-claims reads.Pre reads.Post tie.handed_clauses goal.the-invariant-loop-only goal.the-decreases-loop-only
 
 abbrev AtBorder : Type 0
-AtBorder = lts.Joined2 tie.the-claims reads.Pre reads.Post goal.the-invariant-loop-only goal.the-decreases-loop-only
+AtBorder = lts.Joined2 tie.the-claims reads.Pre reads.Post tie.handed_clauses goal.the-invariant-loop-only goal.the-decreases-loop-only
 
 abbrev AtForward : Type 0
-AtForward = lts.After-forward tie.the-claims reads.Pre reads.Post goal.the-invariant-loop-only goal.the-decreases-loop-only
+AtForward = lts.After-forward tie.the-claims reads.Pre reads.Post tie.handed_clauses goal.the-invariant-loop-only goal.the-decreases-loop-only
 
 abbrev AtOver : Type 0
-AtOver = lts.Then4 tie.the-claims reads.Pre reads.Post goal.the-invariant-loop-only goal.the-decreases-loop-only
+AtOver = lts.Then4 tie.the-claims reads.Pre reads.Post tie.handed_clauses goal.the-invariant-loop-only goal.the-decreases-loop-only
 
 abbrev AtTurned : Type 0
-AtTurned = lts.After-open_turn tie.the-claims reads.Pre reads.Post goal.the-invariant-loop-only goal.the-decreases-loop-only
+AtTurned = lts.After-open_turn tie.the-claims reads.Pre reads.Post tie.handed_clauses goal.the-invariant-loop-only goal.the-decreases-loop-only
 
 abbrev AtField : Type 0
-AtField = lts.Else4 tie.the-claims reads.Pre reads.Post goal.the-invariant-loop-only goal.the-decreases-loop-only
+AtField = lts.Else4 tie.the-claims reads.Pre reads.Post tie.handed_clauses goal.the-invariant-loop-only goal.the-decreases-loop-only
 
 abbrev AtFull : Type 0
-AtFull = lts.Then7 tie.the-claims reads.Pre reads.Post goal.the-invariant-loop-only goal.the-decreases-loop-only
+AtFull = lts.Then7 tie.the-claims reads.Pre reads.Post tie.handed_clauses goal.the-invariant-loop-only goal.the-decreases-loop-only
 
 abbrev AtRoom : Type 0
-AtRoom = lts.Else7 tie.the-claims reads.Pre reads.Post goal.the-invariant-loop-only goal.the-decreases-loop-only
+AtRoom = lts.Else7 tie.the-claims reads.Pre reads.Post tie.handed_clauses goal.the-invariant-loop-only goal.the-decreases-loop-only
 
 abbrev AtClass : Type 0
-AtClass = lts.After-first tie.the-claims reads.Pre reads.Post goal.the-invariant-loop-only goal.the-decreases-loop-only
+AtClass = lts.After-first tie.the-claims reads.Pre reads.Post tie.handed_clauses goal.the-invariant-loop-only goal.the-decreases-loop-only
 
 abbrev AtLeaf : Type 0
-AtLeaf = lts.Joined9 tie.the-claims reads.Pre reads.Post goal.the-invariant-loop-only goal.the-decreases-loop-only
+AtLeaf = lts.Joined9 tie.the-claims reads.Pre reads.Post tie.handed_clauses goal.the-invariant-loop-only goal.the-decreases-loop-only
 
 abbrev AtLeaves : Type 0
-AtLeaves = lts.After-read_leaves tie.the-claims reads.Pre reads.Post goal.the-invariant-loop-only goal.the-decreases-loop-only
+AtLeaves = lts.After-read_leaves tie.the-claims reads.Pre reads.Post tie.handed_clauses goal.the-invariant-loop-only goal.the-decreases-loop-only
 
 abbrev AtBehind : Type 0
-AtBehind = lts.After-behind tie.the-claims reads.Pre reads.Post goal.the-invariant-loop-only goal.the-decreases-loop-only
+AtBehind = lts.After-behind tie.the-claims reads.Pre reads.Post tie.handed_clauses goal.the-invariant-loop-only goal.the-decreases-loop-only
 
 abbrev AtDue : Type 0
-AtDue = lts.Joined11 tie.the-claims reads.Pre reads.Post goal.the-invariant-loop-only goal.the-decreases-loop-only
+AtDue = lts.Joined11 tie.the-claims reads.Pre reads.Post tie.handed_clauses goal.the-invariant-loop-only goal.the-decreases-loop-only
 
 abbrev AtAdvanced : Type 0
-AtAdvanced = lts.After-advance tie.the-claims reads.Pre reads.Post goal.the-invariant-loop-only goal.the-decreases-loop-only
+AtAdvanced = lts.After-advance tie.the-claims reads.Pre reads.Post tie.handed_clauses goal.the-invariant-loop-only goal.the-decreases-loop-only
 
 abbrev AtApplied : Type 0
-AtApplied = lts.After-apply tie.the-claims reads.Pre reads.Post goal.the-invariant-loop-only goal.the-decreases-loop-only
+AtApplied = lts.After-apply tie.the-claims reads.Pre reads.Post tie.handed_clauses goal.the-invariant-loop-only goal.the-decreases-loop-only
 
 abbrev AtHolder : Type 0
-AtHolder = lts.After-taken tie.the-claims reads.Pre reads.Post goal.the-invariant-loop-only goal.the-decreases-loop-only
+AtHolder = lts.After-taken tie.the-claims reads.Pre reads.Post tie.handed_clauses goal.the-invariant-loop-only goal.the-decreases-loop-only
 
 abbrev AtEntered : Type 0
-AtEntered = lts.After-enter_structure tie.the-claims reads.Pre reads.Post goal.the-invariant-loop-only goal.the-decreases-loop-only
+AtEntered = lts.After-enter_structure tie.the-claims reads.Pre reads.Post tie.handed_clauses goal.the-invariant-loop-only goal.the-decreases-loop-only
 
 abbrev AtStood : Type 0
-AtStood = lts.After-struct_known9 tie.the-claims reads.Pre reads.Post goal.the-invariant-loop-only goal.the-decreases-loop-only
+AtStood = lts.After-struct_known9 tie.the-claims reads.Pre reads.Post tie.handed_clauses goal.the-invariant-loop-only goal.the-decreases-loop-only
 
 abbrev AtMembers : Type 0
-AtMembers = lts.After-opened tie.the-claims reads.Pre reads.Post goal.the-invariant-loop-only goal.the-decreases-loop-only
+AtMembers = lts.After-opened tie.the-claims reads.Pre reads.Post tie.handed_clauses goal.the-invariant-loop-only goal.the-decreases-loop-only
 
 abbrev AtTold : Type 0
-AtTold = lts.Joined18 tie.the-claims reads.Pre reads.Post goal.the-invariant-loop-only goal.the-decreases-loop-only
+AtTold = lts.Joined18 tie.the-claims reads.Pre reads.Post tie.handed_clauses goal.the-invariant-loop-only goal.the-decreases-loop-only
 
 abbrev AtOpened : Type 0
-AtOpened = lts.After-open_field tie.the-claims reads.Pre reads.Post goal.the-invariant-loop-only goal.the-decreases-loop-only
+AtOpened = lts.After-open_field tie.the-claims reads.Pre reads.Post tie.handed_clauses goal.the-invariant-loop-only goal.the-decreases-loop-only
 
 abbrev AtPlaced : Type 0
-AtPlaced = lts.After-struct_known10 tie.the-claims reads.Pre reads.Post goal.the-invariant-loop-only goal.the-decreases-loop-only
+AtPlaced = lts.After-struct_known10 tie.the-claims reads.Pre reads.Post tie.handed_clauses goal.the-invariant-loop-only goal.the-decreases-loop-only
 
 abbrev AtInside : Type 0
-AtInside = lts.Else20 tie.the-claims reads.Pre reads.Post goal.the-invariant-loop-only goal.the-decreases-loop-only
+AtInside = lts.Else20 tie.the-claims reads.Pre reads.Post tie.handed_clauses goal.the-invariant-loop-only goal.the-decreases-loop-only
 
 abbrev AtRest : Type 0
-AtRest = lts.After-behind2 tie.the-claims reads.Pre reads.Post goal.the-invariant-loop-only goal.the-decreases-loop-only
+AtRest = lts.After-behind2 tie.the-claims reads.Pre reads.Post tie.handed_clauses goal.the-invariant-loop-only goal.the-decreases-loop-only
 
 abbrev AtRead : Type 0
-AtRead = lts.After-read_field tie.the-claims reads.Pre reads.Post goal.the-invariant-loop-only goal.the-decreases-loop-only
+AtRead = lts.After-read_field tie.the-claims reads.Pre reads.Post tie.handed_clauses goal.the-invariant-loop-only goal.the-decreases-loop-only
 
 -- and the ways back
 
@@ -574,7 +574,7 @@ now c =
     c.loop-only.invariant _ _ (begun-round (given c) (event c) a.given a.list.now _ p.of_stream p.ready.noted
     (packet-length a.given (given-many c))
     (started asked class a.stream.now a.uuid.now a.frame a.number a.begun a.given a.list.now _
-    (entry-room (listed-entry b)) (given-many c) p.framed b.begin.ensures.1) b.begin.ensures.0
+    (entry-room (listed-entry b)) (given-many c) p.framed b.begin-state.ensures.list_after) b.begin-state.ensures.value
     c.event_slots-slots.ensures c.header_run-run.ensures _ refl)
 
 within : (c : AtLoop) →
@@ -674,12 +674,12 @@ pub returns-then-turn-eq-TURNS : goal.returns-then-turn-eq-TURNS
 returns-then-turn-eq-TURNS c =
     let o = c.before.before.before.before.before in
     let k = over-loop o in
-    let a = (start k).args in
-    let p = (start k).pre in
-    let none : k.loop.off ≡ 0 = omega (arith, c.if-off-gt0.false) in
+    let a = k.args in
+    let p = k.requires in
+    let none : k.loop-only.off ≡ 0 = omega (arith, c.if-off-gt0.false) in
     rw (c.ended.ensures, c.at.ensures)
     (event-ended (asked_at a.table.now) (stream_class_at a.table.now a.with.class) a.with.id
-    (env_of a.stream.now a.uuid.now a.frame) p.0.keeps p.1.0.found a.number a.begun a.given
+    (env_of a.stream.now a.uuid.now a.frame) p.ready.keeps p.of_stream.found a.number a.begun a.given
     (entry-room (listed-entry (over-listed o))) (given-many k)
     (round-ends (over-now o (now k) none) (is-over o) (omega (arith, c.if-turn-eq-TURNS.true))))
 
@@ -705,7 +705,7 @@ pub open_turn-o-requires : goal.open_turn-o-requires
 open_turn-o-requires c =
     let past = c.before.before.before.before in
     let p = past.requires in
-    (p.ready.noted.sized, ((now (over-loop past)).known, p.hints))
+    record { sized = p.ready.noted.sized; known = (now (over-loop past)).known; hints = p.hints }
 
 -- a turn that was taken
 took : {all : Out} {ws : List ℕ} (c : AtTurned) → Now (turned-loop c) all ws →
@@ -801,7 +801,7 @@ pub leaf_slot-i-requires : goal.leaf_slot-i-requires
 unfolding u8
 leaf_slot-i-requires c =
     let past = c.before.before.before in
-    (leaf-whole _ _ _ (class-there past) c.if-kind-lt-FIRST_THAT_HOLDS.true, c.if-kind-lt-FIRST_THAT_HOLDS.true)
+    record { Whole = leaf-whole _ _ _ (class-there past) c.if-kind-lt-FIRST_THAT_HOLDS.true; at_bound = c.if-kind-lt-FIRST_THAT_HOLDS.true }
 
 pub offset_bounds-slots-i : goal.offset_bounds-slots-i
 offset_bounds-slots-i c = omega arith
@@ -843,23 +843,18 @@ read_leaves-r-requires c =
     let k = leaf-field past in
     let l = past.loop-only in
     let h = here k (now (leaf-loop past)) in
-    let noted = h.noted in (
-      leaves-in-row h (some_left k) c.is_element.ensures past.first-next.ensures c.count.ensures,
-      (
-        (
-          past.if-kind-lt-FIRST_THAT_HOLDS.true,
-          omega (arith, (some_left k).some, c.count.ensures),
-          omega (arith, lent-room l.used l.list, room (leaf_room past)),
-        ),
-        (
-          (noted.sized.room, λ d p v. (noted.classes d p v).size),
-          (
-            (noted.room, noted.numbers),
-            (h.framed, past-unset past.if-is_border.slots _ h.many (leaf-told past)),
-          ),
-        ),
-      ),
-    )
+    let noted = h.noted in record {
+      standing = leaves-in-row h (some_left k) c.is_element.ensures past.first-next.ensures c.count.ensures;
+      from_bound = (
+        past.if-kind-lt-FIRST_THAT_HOLDS.true,
+        omega (arith, (some_left k).some, c.count.ensures),
+        omega (arith, lent-room l.used l.list, room (leaf_room past)),
+      );
+      table_in_bounds = (noted.sized.room, λ d p v. (noted.classes d p v).size);
+      table_in_bounds_2 = (noted.room, noted.numbers);
+      framed = h.framed;
+      held = past-unset past.if-is_border.slots _ h.many (leaf-told past);
+    }
 
 -- what the leaves did
 read-leaves : {all : Out} {ws : List ℕ} (c : AtLeaves) → Now (leaves_loop c) all ws →
@@ -978,26 +973,26 @@ loop-only-preserved-then-role-eq-EVENT_CLASS_ID c =
 
 pub offset_bounds-list-used-then-role-eq-CLOCK : goal.offset_bounds-list-used-then-role-eq-CLOCK
 offset_bounds-list-used-then-role-eq-CLOCK c =
-    let past = c.before.before.before.before in
-    omega (arith, leaves-fall past.before, within (due-loop past.before))
+    let past = c.before.before.before.before.before in
+    omega (arith, leaves-fall past, within (due-loop past))
 
 pub slice_bounds-advance-count : goal.slice_bounds-advance-count
 slice_bounds-advance-count c =
-    let past = c.before.before.before.before in
-    omega (arith, leaves-fall past.before, within (due-loop past.before))
+    let past = c.before.before.before.before.before in
+    omega (arith, leaves-fall past, within (due-loop past))
 
 pub slice_bounds-advance-start : goal.slice_bounds-advance-start
 slice_bounds-advance-start c =
-    let past = c.before.before.before.before in
-    omega (arith, leaves-fall past.before, within (due-loop past.before))
+    let past = c.before.before.before.before.before in
+    omega (arith, leaves-fall past, within (due-loop past))
 
 pub slice_bounds-advance-end : goal.slice_bounds-advance-end
 slice_bounds-advance-end c = omega arith
 
 pub advance-a-requires : goal.advance-a-requires
 advance-a-requires c =
-    let past = c.before.before.before.before.before in
-    (read-leaves (due-leaves past.before) (now (due-loop past.before))).stamp (not-false _ past.if-not-r.false) c.if-role-eq-CLOCK.true
+    let past = c.before.before.before.before.before.before in
+    (read-leaves (due-leaves past) (now (due-loop past))).stamp (not-false _ past.if-not-r.false) c.if-role-eq-CLOCK.true
 
 -- what the clock's role did
 advanced : {all : Out} {ws : List ℕ} (c : AtAdvanced) → Now (advanced-loop c) all ws →
@@ -1148,13 +1143,7 @@ enter_structure-o-requires c =
     let l = k.loop-only in
     let h = holder-round k (now (holder-loop k)) in
     let there = class-there (holder-class k) in
-    let o = opens _ _ h.noted _ _ there k.if-kind-lt-FIRST_THAT_HOLDS.false in (
-      (slot-within _ _ _ there k.if-kind-lt-FIRST_THAT_HOLDS.false, omega (arith, whole-inside _ _ _ there, o.aligns), o.align),
-      (
-        (h.framed.begun, omega (arith, h.framed.within, h.framed.ends, h.framed.small)),
-        omega (arith, lent-room l.used l.list, room (holder-room k)),
-      ),
-    )
+    let o = opens _ _ h.noted _ _ there k.if-kind-lt-FIRST_THAT_HOLDS.false in record { at_in_bounds = (slot-within _ _ _ there k.if-kind-lt-FIRST_THAT_HOLDS.false, omega (arith, whole-inside _ _ _ there, o.aligns), o.align); start_le_from = (h.framed.begun, omega (arith, h.framed.within, h.framed.ends, h.framed.small)); words_per_entry_in_bounds = omega (arith, lent-room l.used l.list, room (holder-room k)) }
 
 -- a structure that was entered
 structure : {all : Out} {ws : List ℕ} (c : AtEntered) → Now (entered-loop c) all ws →
@@ -1183,8 +1172,8 @@ overflow_add-next c =
     let past = stood-entered c.before.before in
     omega (
       arith,
-      slot-within _ _ _ (class-there (entered-class past)) (entered-holder past).before.if8.left,
-      (entered-start past).good.0,
+      slot-within _ _ _ (class-there (entered-class past)) past.if-kind-lt-FIRST_THAT_HOLDS.false,
+      past.well_formed.0,
     )
 
 pub overflow_add-next-then-kind-eq-STRUCTURE : goal.overflow_add-next-then-kind-eq-STRUCTURE
@@ -1193,22 +1182,22 @@ overflow_add-next-then-kind-eq-STRUCTURE c =
     let past = stood-entered c.before.before in
     omega (
       arith,
-      slot-within _ _ _ (class-there (entered-class past)) (entered-holder past).before.if8.left,
-      (entered-start past).good.0,
+      slot-within _ _ _ (class-there (entered-class past)) past.if-kind-lt-FIRST_THAT_HOLDS.false,
+      past.well_formed.0,
     )
 
 pub bounds-table-next-then-kind-eq-STRUCTURE : goal.bounds-table-next-then-kind-eq-STRUCTURE
 unfolding u8
 bounds-table-next-then-kind-eq-STRUCTURE c =
     let past = stood-entered c.before.before.before in
-    omega (arith, slot-within _ _ _ (class-there (entered-class past)) (entered-holder past).before.if8.left)
+    omega (arith, slot-within _ _ _ (class-there (entered-class past)) past.if-kind-lt-FIRST_THAT_HOLDS.false)
 
 pub opened-run-requires : goal.opened-run-requires
 opened-run-requires c =
     let past = stood-entered c.before.before.before.before in
     let k = entered-holder past in
     let h = holder-round k (now (entered-loop past)) in
-    ((holder-next k).0, omega (arith, members-few _ _ _ _ h.stands.members, c.wide.ensures.1, (entered-start past).good.0))
+    ((holder-next k).0, omega (arith, members-few _ _ _ _ h.stands.members, c.wide.ensures.1, past.well_formed.0))
 
 pub overflow_add-used-then-kind-eq-STRUCTURE : goal.overflow_add-used-then-kind-eq-STRUCTURE
 overflow_add-used-then-kind-eq-STRUCTURE c =
@@ -1218,7 +1207,7 @@ overflow_add-used-then-kind-eq-STRUCTURE c =
 pub loop-only-smaller-then-kind-eq-STRUCTURE : goal.loop-only-smaller-then-kind-eq-STRUCTURE
 loop-only-smaller-then-kind-eq-STRUCTURE c =
     let past = members-entered c.before in
-    let l = (entered-loop past).loop in
+    let l = past.loop-only in
     let s = steps_left l.turn l.off in
     round-falls (length l.list) _ l.used (l.used + words_per_entry) s s
     ((structure past (now (entered-loop past))).same ∙ sym (within (entered-loop past)).1) (omega (arith, room (entered-room past)))
@@ -1229,7 +1218,7 @@ unfolding u8
 loop-only-preserved-then-kind-eq-STRUCTURE c =
     let past = members-entered c.before in
     λ all ws held.
-    let k = (entered-loop past).loop.inv all ws held in
+    let k = past.loop-only.invariant all ws held in
     let on = not-false _ c.if-not-o.false in
     gone-on k (entered-run (holder (entered-holder past) k _ refl) (holder-next (entered-holder past)) (structure past k)
     c.opened-run.ensures c.wide.ensures.0 on)
@@ -1286,13 +1275,7 @@ open_field-o-requires c =
     let past = c.before.before.before.before.before in
     let k = told-holder past in
     let l = past.loop-only in
-    let h = holder-round k (now (told-loop past)) in (
-      opens _ _ h.noted _ _ (class-there (told-class past)) k.before.if8.left,
-      (
-        (h.framed.begun, omega (arith, h.framed.within, h.framed.ends, h.framed.small)),
-        omega (arith, lent-room l.used l.list, room (told-room past)),
-      ),
-    )
+    let h = holder-round k (now (told-loop past)) in record { holder_stands = opens _ _ h.noted _ _ (class-there (told-class past)) k.if-kind-lt-FIRST_THAT_HOLDS.false; start_le_place = (h.framed.begun, omega (arith, h.framed.within, h.framed.ends, h.framed.small)); words_per_entry_in_bounds = omega (arith, lent-room l.used l.list, room (told-room past)) }
 
 -- a field that was opened, in a run of its own
 apart : {all : Out} {ws : List ℕ} (c : AtOpened) → Now (opened-loop c) all ws →
@@ -1337,7 +1320,7 @@ into-run-requires c =
     let h = holder-round k (now (opened-loop past)) in
     let next = holder-next k in
     let there = whole-inside _ _ _ (class-there (opened-class past)) in
-    let small = (opened-start past).good.0 in (
+    let small = past.well_formed.0 in (
       next.0,
       (λ off. omega (arith, members-few _ _ _ _ h.stands.members, (apart past (now (opened-loop past))).few off, small)),
       omega (arith, next.1, there, h.noted.sized.room),
@@ -1347,7 +1330,7 @@ into-run-requires c =
 pub loop-only-smaller-then-here : goal.loop-only-smaller-then-here
 loop-only-smaller-then-here c =
     let past = inside-opened c.before.before.before in
-    let l = (opened-loop past).loop in
+    let l = past.loop-only in
     let s = steps_left l.turn l.off in
     round-falls (length l.list) _ l.used (l.used + words_per_entry) s s
     ((apart past (now (opened-loop past))).same ∙ sym (within (opened-loop past)).1) (omega (arith, room (opened-room past)))
@@ -1358,7 +1341,7 @@ unfolding u8
 loop-only-preserved-then-here c =
     let past = inside-opened c.before.before.before in
     λ all ws held.
-    let k = (opened-loop past).loop.inv all ws held in
+    let k = past.loop-only.invariant all ws held in
     let on = not-false _ c.if-not-o-2.false in
     gone-on k (inside-run (holds (opened-told past) k) (holder-next (opened-holder past))
     (inside past k c.if-here.true) c.into-run.ensures on)
@@ -1372,13 +1355,13 @@ pub behind-rest-requires : goal.behind-rest-requires
 behind-rest-requires c =
     let past = inside-opened c.before.before.before in
     let there = whole-inside _ _ _ (class-there (opened-class past)) in
-    (omega (arith, there, (now (opened-loop past)).round.noted.sized.room), omega (arith, there, (opened-start past).good.0))
+    (omega (arith, there, (now (opened-loop past)).round.noted.sized.room), omega (arith, there, past.well_formed.0))
 
 -- there is a place for the run that is put off
 off-few : (c : AtRest) → c.loop-only.off < runs
 off-few c =
     let past = rest-opened c in
-    opens-off _ _ (sym past.before.before.before.opens.ensures ∙ past.before.before.if19.taken) c.if-here.false
+    opens-off _ _ (sym past.opens.ensures ∙ past.if-opens.true) c.if-here.false
 
 pub offset_bounds-pile-off-then-opens : goal.offset_bounds-pile-off-then-opens
 offset_bounds-pile-off-then-opens c = omega (arith, off-few c.before)
@@ -1392,7 +1375,7 @@ overflow_add-off c = omega (arith, off-few c.before)
 pub loop-only-smaller-then-opens : goal.loop-only-smaller-then-opens
 loop-only-smaller-then-opens c =
     let past = rest-opened c.before.before in
-    let l = (opened-loop past).loop in
+    let l = past.loop-only in
     round-falls (length l.list) _ l.used (l.used + words_per_entry) (steps_left l.turn l.off) (steps_left l.turn (l.off + 1))
     ((apart past (now (opened-loop past))).same ∙ sym (within (opened-loop past)).1) (omega (arith, room (opened-room past)))
     (omega arith)
@@ -1401,7 +1384,7 @@ pub loop-only-preserved-then-opens : goal.loop-only-preserved-then-opens
 loop-only-preserved-then-opens c =
     let past = rest-opened c.before.before in
     λ all ws held.
-    let k = (opened-loop past).loop.inv all ws held in
+    let k = past.loop-only.invariant all ws held in
     let on = not-false _ c.if-not-o-2.false in
     let q = apart-run (holds (opened-told past) k) (holder-next (opened-holder past)) (apart past k) c.alone-run.ensures
     c.behind-rest.ensures on in
@@ -1431,13 +1414,7 @@ read_field-r-requires c =
     let past = c.before.before.before.before.before.before in
     let k = told-holder past in
     let l = past.loop-only in
-    let h = holder-round k (now (told-loop past)) in (
-      class-there (told-class past),
-      (
-        (k.before.if8.left, omega (arith, lent-room l.used l.list, room (told-room past))),
-        (h.noted, rw c.at-in-loop-only.ensures h.framed),
-      ),
-    )
+    let h = holder-round k (now (told-loop past)) in record { Whole = class-there (told-class past); bound = (k.if-kind-lt-FIRST_THAT_HOLDS.false, omega (arith, lent-room l.used l.list, room (told-room past))); prepared = h.noted; framed = rw c.at-in-loop-only.ensures h.framed }
 
 -- a field that was read by itself
 field : {all : Out} {ws : List ℕ} (c : AtRead) → Now (read-loop c) all ws →

@@ -16,25 +16,25 @@ use Rattle.event_turns.proofs.look_up.Reads as reads
 -- class was looked for; it was found; entry 5 is written
 
 abbrev AtStart : Type 0
-AtStart = lts.Start tie.the-claims reads.Pre reads.Post
+AtStart = lts.Start tie.the-claims reads.Pre reads.Post tie.handed_clauses
 
 abbrev AtTurn : Type 0
-AtTurn = lts.Else1 tie.the-claims reads.Pre reads.Post
+AtTurn = lts.Else1 tie.the-claims reads.Pre reads.Post tie.handed_clauses
 
 abbrev AtCompared : Type 0
-AtCompared = lts.After-went_back tie.the-claims reads.Pre reads.Post
+AtCompared = lts.After-went_back tie.the-claims reads.Pre reads.Post tie.handed_clauses
 
 abbrev AtRoom : Type 0
-AtRoom = lts.After-is_full tie.the-claims reads.Pre reads.Post
+AtRoom = lts.After-is_full tie.the-claims reads.Pre reads.Post tie.handed_clauses
 
 abbrev AtLooked : Type 0
-AtLooked = lts.After-find_event_class tie.the-claims reads.Pre reads.Post
+AtLooked = lts.After-find_event_class tie.the-claims reads.Pre reads.Post tie.handed_clauses
 
 abbrev AtFound : Type 0
-AtFound = lts.Past-After-found tie.the-claims reads.Pre reads.Post
+AtFound = lts.After-found tie.the-claims reads.Pre reads.Post tie.handed_clauses
 
 abbrev AtListed : Type 0
-AtListed = lts.After-write tie.the-claims reads.Pre reads.Post
+AtListed = lts.After-write tie.the-claims reads.Pre reads.Post tie.handed_clauses
 
 -- The way back from each to the one before
 
@@ -51,9 +51,9 @@ abbrev to_room : AtLooked → AtRoom
 to_room c = c.before.before
 
 abbrev to-looked : AtFound → AtLooked
-to-looked c = c.before
+to-looked c = c.before.before
 
-abbrev to-found : AtListed → AtFound
+abbrev to-found : AtListed → AtListed
 to-found c = c
 
 abbrev room-start : AtRoom → AtStart
@@ -74,7 +74,7 @@ roomy c = sym c.is_full.ensures ∙ c.if-is_full.false
 -- Not its turn
 
 pub returns-then-turn-ne-LOOKUP : goal.returns-then-turn-ne-LOOKUP
-returns-then-turn-ne-LOOKUP c = gives_other _ _ _ _ _ _ (left_other _ _ _ _ _ _ _ _ _ c.if-turn-ne-LOOKUP.true) c.looked_on.ensures
+returns-then-turn-ne-LOOKUP c = let both = gives_other _ _ _ _ _ _ (left_other _ _ _ _ _ _ _ _ _ c.if-turn-ne-LOOKUP.true) c.looked_on.ensures in record { value = both.0; list_after = both.1 }
 
 -- 39
 
@@ -83,7 +83,7 @@ returns-then-went_back c =
     let asked = c.before.before.before in
     let turn = left-lookup _ _ _ _ _ _ _ _ _ asked.if-turn-ne-LOOKUP.false in
     let back = sym asked.went_back.ensures ∙ c.if-went_back.true in
-    gives-refused _ _ _ _ (turn ∙ left_back _ _ _ _ _ _ _ back) c.not_looked.ensures
+    let both = gives-refused _ _ _ _ (turn ∙ left_back _ _ _ _ _ _ _ back) c.not_looked.ensures in record { value = both.0; list_after = both.1 }
 
 -- 40
 
@@ -92,7 +92,7 @@ returns-then-is_full c =
     let asked = c.before.before.before in
     let turn = left-lookup _ _ _ _ _ _ _ _ _ asked.if-turn-ne-LOOKUP.false in
     let full = sym asked.is_full.ensures ∙ c.if-is_full.true in
-    gives-refused _ _ _ _ (turn ∙ left-full _ _ _ _ _ _ _ (on asked) full) c.not_looked-then-is_full.ensures
+    let both = gives-refused _ _ _ _ (turn ∙ left-full _ _ _ _ _ _ _ (on asked) full) c.not_looked-then-is_full.ensures in record { value = both.0; list_after = both.1 }
 
 -- The lookup, and entry 5
 
@@ -103,17 +103,17 @@ pub returns-in-Nothing : goal.returns-in-Nothing
 returns-in-Nothing c =
     let looked = c.before.before.before in
     let asked = to_room looked in
-    let turn = left-lookup _ _ _ _ _ _ _ _ _ (to-turn (to-compared asked)).if1.false in
+    let turn = left-lookup _ _ _ _ _ _ _ _ _ asked.if-turn-ne-LOOKUP.false in
     let is = c.in-Nothing.is in
     let none = left-unknown _ _ _ _ _ _ _ (on asked) (roomy looked) looked.find_event_class.ensures is in
-    gives-refused _ _ _ _ (turn ∙ none) c.not_looked-in-Nothing.ensures
+    let both = gives-refused _ _ _ _ (turn ∙ none) c.not_looked-in-Nothing.ensures in record { value = both.0; list_after = both.1 }
 
 pub returns-in-At : goal.returns-in-At
 returns-in-At c =
     let listed = c.before.before.before.before in
     let looked = to-looked (to-found listed) in
     let asked = to_room looked in
-    let turn = left-lookup _ _ _ _ _ _ _ _ _ (to-turn (to-compared asked)).if1.false in
+    let turn = left-lookup _ _ _ _ _ _ _ _ _ asked.if-turn-ne-LOOKUP.false in
     let is = listed.in-At.is in
-    let found = left-found _ _ _ _ _ _ _ (on asked) (roomy looked) looked.find-event-class.ensures _ is in
-    gives_found _ _ _ _ _ _ _ _ _ (turn ∙ found) c.looked_on-in-At.ensures listed.write.ensures
+    let found = left-found _ _ _ _ _ _ _ (on asked) (roomy looked) looked.find_event_class.ensures _ is in
+    let both = gives_found _ _ _ _ _ _ _ _ _ (turn ∙ found) c.looked_on-in-At.ensures listed.write.ensures in record { value = both.0; list_after = both.1 }

@@ -11,12 +11,12 @@ use Rattle.event_turns.proofs.open_turn.Reads as reads
 -- Places of the code, and the way back
 
 abbrev AtLooked : Type 0
-AtLooked = lts.After-look_up tie.the-claims reads.Pre reads.Post
+AtLooked = lts.After-look_up tie.the-claims reads.Pre reads.Post tie.handed_clauses
 
-abbrev looked : lts.After-struct_known tie.the-claims reads.Pre reads.Post → AtLooked
+abbrev looked : lts.After-struct_known tie.the-claims reads.Pre reads.Post tie.handed_clauses → AtLooked
 looked c = c.before.before.before
 
-abbrev asked : AtLooked → lts.Start tie.the-claims reads.Pre reads.Post
+abbrev asked : AtLooked → lts.Start tie.the-claims reads.Pre reads.Post tie.handed_clauses
 asked c = c.before.before.before.before.before.before
 
 -- The needs
@@ -25,18 +25,18 @@ pub returns-then-not-o : goal.returns-then-not-o
 unfolding turn_left
 returns-then-not-o c =
     let gave = (c.look_up-o.ensures.value, c.look_up-o.ensures.list_after) in
-    (turn_stopped _ _ _ _ _ gave.0 _ (not-true _ c.if-not-o.true) c.stopped_turn.ensures, gave.1)
+    record { value = turn_stopped _ _ _ _ _ gave.0 _ (not-true _ c.if-not-o.true) c.stopped_turn.ensures; list_after = gave.1 }
 
 pub next_root-due-requires : goal.next_root-due-requires
 next_root-due-requires c =
     let o = looked c.before.before in
-    let pre = (asked o).pre in
-    let stands = looked-stands _ _ _ _ _ _ _ _ pre.0 _ _ pre.1.0 _ o.look_up.ensures.0 (not-false _ c.if-not-o.false) in
-    (stands, (pre.0.limit, pre.0.room))
+    let pre = o.requires in
+    let stands = looked-stands _ _ _ _ _ _ _ _ pre.sized _ _ pre.known _ o.look_up-o.ensures.value (not-false _ c.if-not-o.false) in
+    record { sized_fragment = stands; table_len_bound = (pre.sized.limit, pre.sized.room) }
 
 pub returns : goal.returns
 unfolding turn_left
 returns c =
     let due = c.before.before in
     let gave = (due.look_up-o.ensures.value, due.look_up-o.ensures.list_after) in
-    (turn-due _ _ _ _ _ gave.0 _ (not-false _ due.if-not-o.false) due.next_root-due.ensures, gave.1)
+    record { value = turn-due _ _ _ _ _ gave.0 _ (not-false _ due.if-not-o.false) due.next_root-due.ensures; list_after = gave.1 }

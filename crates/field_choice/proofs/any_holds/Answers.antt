@@ -52,7 +52,7 @@ pub returns-then-holds : goal.returns-then-holds
 returns-then-holds c =
     let h = c.before.before in
     let r = to-range h in
-    sym (ranges-hit _ _ _ (to-ranges r).loop.inv r.loop-test.taken (sym h.holds.ensures ∙ c.if-holds.true))
+    sym (ranges-hit _ _ _ r.loop-todo.invariant r.loop-todo-test.true (sym h.holds.ensures ∙ c.if-holds.true))
 
 pub overflow_add-here : goal.overflow_add-here
 overflow_add-here c = omega (arith, range-there (to-range c.before.before))
@@ -67,7 +67,7 @@ pub loop-todo-preserved : goal.loop-todo-preserved
 loop-todo-preserved c =
     let h = c.before.before in
     let r = to-range h in
-    ranges-next _ _ _ (to-ranges r).loop.inv r.loop-test.taken (sym h.holds.ensures ∙ c.if-holds.false)
+    ranges-next _ _ _ r.loop-todo.invariant r.loop-todo-test.true (sym h.holds.ensures ∙ c.if-holds.false)
 
 -- None is left
 

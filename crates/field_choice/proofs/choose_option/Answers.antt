@@ -12,19 +12,19 @@ use Rattle.field_choice.proofs.choose_option.Reads as reads
 -- options are counted
 
 abbrev AtStart : Type 0
-AtStart = lts.Start tie.the-claims reads.Pre reads.Post
+AtStart = lts.Start tie.the-claims reads.Pre reads.Post tie.handed_clauses
 
 abbrev AtAsked : Type 0
-AtAsked = lts.After-number_of tie.the-claims reads.Pre reads.Post
+AtAsked = lts.After-number_of tie.the-claims reads.Pre reads.Post tie.handed_clauses
 
 abbrev AtNone : Type 0
-AtNone = lts.Past-After-known_told tie.the-claims reads.Pre reads.Post
+AtNone = lts.Past-After-known_told tie.the-claims reads.Pre reads.Post tie.handed_clauses
 
 abbrev AtNumber : Type 0
-AtNumber = lts.Past-After-known_told2 tie.the-claims reads.Pre reads.Post
+AtNumber = lts.Past-After-known_told2 tie.the-claims reads.Pre reads.Post tie.handed_clauses
 
 abbrev AtCount : Type 0
-AtCount = lts.After-count_at tie.the-claims reads.Pre reads.Post
+AtCount = lts.After-count_at tie.the-claims reads.Pre reads.Post tie.handed_clauses
 
 -- The way back from each to the one before
 
@@ -69,7 +69,7 @@ count_at-requires c = omega (arith, (given c.before).limit, (given c.before).the
 pub first_option-requires : goal.first_option-requires
 first_option-requires c =
     let w = given (to_number c.before) in
-    (rw c.count_at.ensures.0 w.options, (w.limit, w.room))
+    record { whole_options = rw c.count_at.ensures.0 w.options; table_len_bound = (w.limit, w.room) }
 
 pub returns-in-NotOf : goal.returns-in-NotOf
 unfolding u8
@@ -80,4 +80,4 @@ unfolding u8
 returns-in-Of c =
     let n = to_number c.before.before in
     rw (c.first_option.ensures, c.count_at.ensures.0)
-    (variant-chosen _ _ _ _ _ (sym (to-asked n).number_of_lem.ensures ∙ n.before.n.given.1))
+    (variant-chosen _ _ _ _ _ (sym (to-asked n).number_of_lem.ensures ∙ n.in-Of.is))

@@ -97,7 +97,7 @@ overflow_add-sign c = omega (arith, (given (to-count c.before)).limit, (given (t
 pub bounds-table-at : goal.bounds-table-at
 bounds-table-at c =
     let n = to-count c.before.before in
-    omega (arith, (given n).ranges, n.count_at.ensures.0, c.if-count-eq0.false)
+    omega (arith, (given n).ranges, n.count_at-count.ensures.0, c.if-count-eq0.false)
 
 -- Whether one of them holds it
 
@@ -107,7 +107,7 @@ overflow_add-at-in-Of c = omega (arith, (given (number-count c.before)).limit, (
 pub any_holds-requires : goal.any_holds-requires
 any_holds-requires c =
     let n = number-count c.before in
-    (omega (arith, (given n).ranges, n.count_at.ensures.0), (given n).limit)
+    (omega (arith, (given n).ranges, n.count_at-count.ensures.0), (given n).limit)
 
 pub returns-in-NotOf : goal.returns-in-NotOf
 unfolding u8
@@ -120,5 +120,5 @@ unfolding u8
 returns-in-Of c =
     let n = to_number c.before.before in
     let d = to-asked n in
-    rw (c.present.ensures, c.any_holds.ensures, (number-count n).count_at.ensures.0)
-    (optional-chosen _ _ _ _ (some (to-ranges d)) (sym d.number_of_lem.ensures ∙ n.before.n.given.1))
+    rw (c.present.ensures, c.any_holds.ensures, n.count_at-count.ensures.0)
+    (optional-chosen _ _ _ _ (some (to-ranges d)) (sym d.number_of_lem.ensures ∙ n.in-Of.is))

@@ -17,31 +17,31 @@ use Rattle.field_choice.proofs.first_option.Reads as reads
 -- left; there is one, and it was tried; it holds the number; none of them does, and the class was passed
 
 abbrev AtStart : Type 0
-AtStart = lts.Start tie.the-claims reads.Pre reads.Post goal.the-invariant-loop-more goal.the-decreases-loop-more goal.the-invariant-search goal.the-decreases-search
+AtStart = lts.Start tie.the-claims reads.Pre reads.Post tie.handed_clauses goal.the-invariant-loop-more goal.the-decreases-loop-more goal.the-invariant-search goal.the-decreases-search
 
 abbrev AtOptions : Type 0
-AtOptions = lts.At-search tie.the-claims reads.Pre reads.Post goal.the-invariant-loop-more goal.the-decreases-loop-more goal.the-invariant-search goal.the-decreases-search
+AtOptions = lts.At-search tie.the-claims reads.Pre reads.Post tie.handed_clauses goal.the-invariant-loop-more goal.the-decreases-loop-more goal.the-invariant-search goal.the-decreases-search
 
 abbrev AtOption : Type 0
-AtOption = lts.In-search tie.the-claims reads.Pre reads.Post goal.the-invariant-loop-more goal.the-decreases-loop-more goal.the-invariant-search goal.the-decreases-search
+AtOption = lts.In-search tie.the-claims reads.Pre reads.Post tie.handed_clauses goal.the-invariant-loop-more goal.the-decreases-loop-more goal.the-invariant-search goal.the-decreases-search
 
 abbrev AtCount : Type 0
-AtCount = lts.After-count_at tie.the-claims reads.Pre reads.Post goal.the-invariant-loop-more goal.the-decreases-loop-more goal.the-invariant-search goal.the-decreases-search
+AtCount = lts.After-count_at tie.the-claims reads.Pre reads.Post tie.handed_clauses goal.the-invariant-loop-more goal.the-decreases-loop-more goal.the-invariant-search goal.the-decreases-search
 
 abbrev AtRanges : Type 0
-AtRanges = lts.At-loop tie.the-claims reads.Pre reads.Post goal.the-invariant-loop-more goal.the-decreases-loop-more goal.the-invariant-search goal.the-decreases-search
+AtRanges = lts.At-loop tie.the-claims reads.Pre reads.Post tie.handed_clauses goal.the-invariant-loop-more goal.the-decreases-loop-more goal.the-invariant-search goal.the-decreases-search
 
 abbrev AtRange : Type 0
-AtRange = lts.In-loop tie.the-claims reads.Pre reads.Post goal.the-invariant-loop-more goal.the-decreases-loop-more goal.the-invariant-search goal.the-decreases-search
+AtRange = lts.In-loop tie.the-claims reads.Pre reads.Post tie.handed_clauses goal.the-invariant-loop-more goal.the-decreases-loop-more goal.the-invariant-search goal.the-decreases-search
 
 abbrev AtTried : Type 0
-AtTried = lts.After-holds tie.the-claims reads.Pre reads.Post goal.the-invariant-loop-more goal.the-decreases-loop-more goal.the-invariant-search goal.the-decreases-search
+AtTried = lts.After-holds tie.the-claims reads.Pre reads.Post tie.handed_clauses goal.the-invariant-loop-more goal.the-decreases-loop-more goal.the-invariant-search goal.the-decreases-search
 
 abbrev AtHeld : Type 0
-AtHeld = lts.Then1 tie.the-claims reads.Pre reads.Post goal.the-invariant-loop-more goal.the-decreases-loop-more goal.the-invariant-search goal.the-decreases-search
+AtHeld = lts.Then1 tie.the-claims reads.Pre reads.Post tie.handed_clauses goal.the-invariant-loop-more goal.the-decreases-loop-more goal.the-invariant-search goal.the-decreases-search
 
 abbrev AtNone : Type 0
-AtNone = lts.After-loop tie.the-claims reads.Pre reads.Post goal.the-invariant-loop-more goal.the-decreases-loop-more goal.the-invariant-search goal.the-decreases-search
+AtNone = lts.After-loop tie.the-claims reads.Pre reads.Post tie.handed_clauses goal.the-invariant-loop-more goal.the-decreases-loop-more goal.the-invariant-search goal.the-decreases-search
 
 -- The way back from each to the one before
 
@@ -95,7 +95,7 @@ class-there c = (omega (arith, (here (to-option c)).there, c.count_at-ranges.ens
 -- a range that is left ends in front of the class
 range-there : (c : AtRange) →
     let n = to-count (to-ranges c) in
-    c.loop-more.here + 18 ≤ (count-options n).search.next + 2 + 18 * n.count_at.result
+    c.loop-more.here + 18 ≤ n.search.next + 2 + 18 * n.count_at-ranges.result
 range-there c = omega (arith, c.loop-more.invariant.0.place, c.loop-more-test.true)
 
 -- whether one of the first k ranges of the option holds the number, and of all that its record counts
@@ -111,13 +111,13 @@ one_holds : (c : AtHeld) → any_held (tried-count (to-tried c)) ≡ true
 one_holds c =
     let r = to-range (to-tried c) in
     let n = tried-count (to-tried c) in
-    ap (held n) (sym n.count_at.ensures.0)
-    ∙ ranges-hit _ _ _ (to-ranges r).loop.inv.0 r.loop-test.taken (sym c.holds.ensures ∙ c.if-holds.true)
+    ap (held n) (sym n.count_at-ranges.ensures.0)
+    ∙ ranges-hit _ _ _ r.loop-more.invariant.0 r.loop-more-test.true (sym c.holds.ensures ∙ c.if-holds.true)
 
 none-holds : (c : AtNone) → any_held (none-count c) ≡ false
 none-holds c =
     let n = none-count c in
-    ap (held n) (sym n.count_at.ensures.0) ∙ ranges-done _ _ _ c.loop-more.invariant.0 c.loop-more-test.false
+    ap (held n) (sym n.count_at-ranges.ensures.0) ∙ ranges-done _ _ _ c.loop-more.invariant.0 c.loop-more-test.false
 
 -- The options, from the first on
 
@@ -166,15 +166,15 @@ loop-more-smaller c = omega arith
 pub loop-more-preserved : goal.loop-more-preserved
 loop-more-preserved c =
     let r = to-range c.before.before in
-    let l = (to-ranges r).loop.inv in
-    (ranges-next _ _ _ l.0 r.loop-test.taken (sym c.holds.ensures ∙ c.if-holds.false), l.1)
+    let l = r.loop-more.invariant in
+    (ranges-next _ _ _ l.0 r.loop-more-test.true (sym c.holds.ensures ∙ c.if-holds.false), l.1)
 
 -- None of them holds the number: the next option
 
 pub size_at-requires : goal.size_at-requires
 size_at-requires c =
     let n = none-count c.before in
-    omega (arith, (class-there n).0, (count-start n).pre.1.1)
+    omega (arith, (class-there n).0, n.requires.table_len_bound.1)
 
 pub overflow_add-next-in-search : goal.overflow_add-next-in-search
 overflow_add-next-in-search c = omega (arith, class-there (none-count c.before.before), c.size_at.ensures.1)
@@ -194,8 +194,8 @@ search-preserved c =
     let d = c.before.before in
     let n = none-count d in
     let o = to-option n in
-    let next = options-next _ _ _ _ (to-options o).search.inv.0 o.search-test.taken (none-holds d) in
-    rw (c.size_at.ensures.0, n.count_at.ensures.0) (next, d.loop-more.invariant.1)
+    let next = options-next _ _ _ _ o.search.invariant.0 o.search-test.true (none-holds d) in
+    rw (c.size_at.ensures.0, n.count_at-ranges.ensures.0) (next, d.loop-more.invariant.1)
 
 -- No option is left; or one of the option's ranges holds the number
 
@@ -206,4 +206,4 @@ pub returns-then-holds : goal.returns-then-holds
 returns-then-holds c =
     let n = tried-count (to-tried c.before) in
     let o = to-option n in
-    rw n.count_at.ensures.0 (options-hit _ _ _ _ (to-options o).search.inv.0 o.search-test.taken (one_holds c.before))
+    rw n.count_at-ranges.ensures.0 (options-hit _ _ _ _ o.search.invariant.0 o.search-test.true (one_holds c.before))

@@ -78,4 +78,4 @@ u64_at-requires-2 c = omega (arith, c.requires)
 pub returns : goal.returns
 returns c =
     let d = to_low (to-from c.before) in
-    holds-from _ _ _ (to_number d).key.ensures (low-key d) (high-key c.before) c.if-selector-key.false
+    holds-from _ _ _ d.key-selector.ensures (low-key d) (high-key c.before) c.if-selector-key.false

@@ -11,19 +11,19 @@ use Rattle.leaf_find_bytes.proofs.find_blob.Reads as reads
 -- not fit
 
 abbrev AtAligned : Type 0
-AtAligned = lts.After-align tie.the-claims reads.Pre reads.Post
+AtAligned = lts.After-align tie.the-claims reads.Pre reads.Post tie.handed_clauses
 
 abbrev AtPast : Type 0
-AtPast = lts.Then1 tie.the-claims reads.Pre reads.Post
+AtPast = lts.Then1 tie.the-claims reads.Pre reads.Post tie.handed_clauses
 
 abbrev AtInside : Type 0
-AtInside = lts.Else1 tie.the-claims reads.Pre reads.Post
+AtInside = lts.Else1 tie.the-claims reads.Pre reads.Post tie.handed_clauses
 
 abbrev AtBits : Type 0
-AtBits = lts.After-bits_in tie.the-claims reads.Pre reads.Post
+AtBits = lts.After-bits_in tie.the-claims reads.Pre reads.Post tie.handed_clauses
 
 abbrev AtShort : Type 0
-AtShort = lts.Then2 tie.the-claims reads.Pre reads.Post
+AtShort = lts.Then2 tie.the-claims reads.Pre reads.Post tie.handed_clauses
 
 -- The way back from each to the one before
 
@@ -52,8 +52,8 @@ unfolding aligned_at
 returns-then-frame-place-2 c =
     let bits = short-bits c.before in
     let inside = to_inside bits in
-    blob-short _ _ _ (to-aligned inside).align.ensures _ (omega (arith, inside.if1.left))
-    (omega (arith, c.if-frame-place-2.true, bits.bits_in.ensures))
+    blob-short _ _ _ inside.align-place.ensures _ (omega (arith, inside.if-frame-place.false))
+    (omega (arith, c.if-frame-place-2.true, bits.bits_in-bits.ensures))
 
 pub returns : goal.returns
 unfolding aligned_at
@@ -61,4 +61,4 @@ returns c =
     let bits = c.before.before.before.before in
     let aligned = to-aligned (to_inside bits) in
     rw c.bits_in-bits.ensures
-    (blob-at _ _ _ aligned.align.ensures _ (omega (arith, c.if-frame-place-2.false, bits.bits_in-bits.ensures)))
+    (blob-at _ _ _ aligned.align-place.ensures _ (omega (arith, c.if-frame-place-2.false, bits.bits_in-bits.ensures)))

@@ -75,18 +75,18 @@ given c = c.before.before.before.before.before.before.before.before.before.befor
 -- What is known at them
 
 known_at : (c : AtRead) → let bytes = to-bytes c in let start = given bytes in
-    StringRead start.args.stream.now start.args.frame start.args.from (to-aligned (to_inside bytes)).align.result
-    bytes.before.bytes-before.result bytes.bytes-before2.result c.read_before-text.result
+    StringRead start.args.stream.now start.args.frame start.args.from bytes.align-place.result
+    bytes.bytes_before-at.result bytes.bytes_before-end.result c.read_before-text.result
 unfolding aligned_at
 known_at c =
     let bytes = to-bytes c in
     let inside = to_inside bytes in
     record {
-      framed = (given bytes).pre;
-      aligned = (to-aligned inside).align.ensures;
-      inside = omega (arith, inside.if1.left);
-      at-is = bytes.before.bytes-before.ensures;
-      end_is = bytes.bytes-before2.ensures;
+      framed = bytes.requires;
+      aligned = inside.align-place.ensures;
+      inside = omega (arith, inside.if-frame-place.false);
+      at-is = bytes.bytes_before-at.ensures;
+      end_is = bytes.bytes_before-end.ensures;
       text-is = c.read_before-text.ensures;
     }
 
@@ -117,20 +117,20 @@ returns-then-count-left c = string-endless (known_at (endless-read c.before)) c.
 pub returns-then-not-text : goal.returns-then-not-text
 returns-then-not-text c =
     let ended = not-text-ended c.before in
-    string-malformed (known_at (to_read ended)) ended.if2.left c.if-not-text.true
+    string-malformed (known_at (to_read ended)) ended.if-count-left.false c.if-not-text.true
 
 pub overflow_add-bytes : goal.overflow_add-bytes
 overflow_add-bytes c =
     let ended = to-ended c.before.before in
-    omega (arith, short-text (known_at (to_read ended)) ended.if2.left)
+    omega (arith, short-text (known_at (to_read ended)) ended.if-count-left.false)
 
 pub bits_in-requires : goal.bits_in-requires
 bits_in-requires c =
     let ended = to-ended c.before.before in
-    omega (arith, short-text (known_at (to_read ended)) ended.if2.left)
+    omega (arith, short-text (known_at (to_read ended)) ended.if-count-left.false)
 
 pub returns : goal.returns
 returns c =
     let text = c.before.before.before in
     let ended = to-ended text in
-    rw c.bits_in.ensures (string-ends (known_at (to_read ended)) ended.if2.left text.if-not-text.false)
+    rw c.bits_in.ensures (string-ends (known_at (to_read ended)) ended.if-count-left.false text.if-not-text.false)

@@ -10,22 +10,22 @@ use Rattle.leaf_find_bytes.proofs.find_text.Reads as reads
 -- text; they are
 
 abbrev AtStart : Type 0
-AtStart = lts.Start tie.the-claims reads.Pre reads.Post
+AtStart = lts.Start tie.the-claims reads.Pre reads.Post tie.handed_clauses
 
 abbrev AtSearched : Type 0
-AtSearched = lts.After-find_blob tie.the-claims reads.Pre reads.Post
+AtSearched = lts.After-find_blob tie.the-claims reads.Pre reads.Post tie.handed_clauses
 
 abbrev AtPlace : Type 0
-AtPlace = lts.Past-After-bits tie.the-claims reads.Pre reads.Post
+AtPlace = lts.After-bits tie.the-claims reads.Pre reads.Post tie.handed_clauses
 
 abbrev AtRead : Type 0
-AtRead = lts.After-read tie.the-claims reads.Pre reads.Post
+AtRead = lts.After-read tie.the-claims reads.Pre reads.Post tie.handed_clauses
 
 abbrev AtNotText : Type 0
-AtNotText = lts.Then1 tie.the-claims reads.Pre reads.Post
+AtNotText = lts.Then1 tie.the-claims reads.Pre reads.Post tie.handed_clauses
 
 abbrev AtText : Type 0
-AtText = lts.Else1 tie.the-claims reads.Pre reads.Post
+AtText = lts.Else1 tie.the-claims reads.Pre reads.Post tie.handed_clauses
 
 -- The way back from each to the one before
 
@@ -33,9 +33,9 @@ abbrev to_start : AtSearched → AtStart
 to_start c = c.before.before
 
 abbrev to-searched : AtPlace → AtSearched
-to-searched c = c.before
+to-searched c = c.before.before
 
-abbrev to-place : AtRead → AtPlace
+abbrev to-place : AtRead → AtRead
 to-place c = c
 
 abbrev not-text-read : AtNotText → AtRead
@@ -53,14 +53,14 @@ read-text-requires c =
     let place = c.before in
     let searched = to-searched place in
     rw c.bytes_before.ensures
-    (blob-lies (to_start searched).pre.0 place.in-At.is _ searched.find-blob.ensures).1
+    (blob-lies searched.requires.framed place.in-At.is _ searched.find_blob.ensures).1
 
 pub returns-then-not-text : goal.returns-then-not-text
 returns-then-not-text c =
     let read = not-text-read c.before in
     let place = to-place read in
-    text-malformed _ _ _ _ (to-searched place).find-blob.ensures place.bits.given.1 _ read.before.bytes-before.ensures
-    _ read.read.ensures c.if-not-text.true
+    text-malformed _ _ _ _ place.find_blob.ensures place.in-At.is _ read.bytes_before.ensures
+    _ read.read-text.ensures c.if-not-text.true
 
 pub returns-in-Refused : goal.returns-in-Refused
 returns-in-Refused c = text-refused _ _ _ _ c.find_blob.ensures c.in-Refused.is
@@ -69,5 +69,5 @@ pub returns-else-not-text : goal.returns-else-not-text
 returns-else-not-text c =
     let read = to_read c.before.before in
     let place = to-place read in
-    text_at _ _ _ _ (to-searched place).find-blob.ensures place.bits.given.1 _ read.before.bytes-before.ensures
-    _ read.read.ensures c.if-not-text.false
+    text_at _ _ _ _ place.find_blob.ensures place.in-At.is _ read.bytes_before.ensures
+    _ read.read-text.ensures c.if-not-text.false

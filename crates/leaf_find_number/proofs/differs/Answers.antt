@@ -2,26 +2,25 @@
 use borrow.Author.Rules.{rules}
 use Rattle.leaf_find_number.proofs.differs.Goals as goal
 use Rattle.leaf_find_number.proofs.differs.Lts as lts
-use Rattle.leaf_find_number.proofs.differs.Tie as tie
 use Rattle.leaf_find_number.proofs.differs.Reads as reads
 
 -- Places of the code: there was an order; it was little; it was big
 
 abbrev AtLast : Type 0
-AtLast = lts.Past-After-last tie.the-claims reads.Pre reads.Post
+AtLast = lts.After-last reads.Pre reads.Post
 
 abbrev AtLittle : Type 0
-AtLittle = lts.Past-After-enum_told2 tie.the-claims reads.Pre reads.Post
+AtLittle = lts.Past-After-enum_told2 reads.Pre reads.Post
 
 abbrev AtBig : Type 0
-AtBig = lts.Past-After-enum_told5 tie.the-claims reads.Pre reads.Post
+AtBig = lts.Past-After-enum_told5 reads.Pre reads.Post
 
 -- The way back from the two orders
 
-abbrev was-little : AtLittle → AtLast
+abbrev was-little : AtLittle → AtLittle
 was-little c = c
 
-abbrev was-big : AtBig → AtLast
+abbrev was-big : AtBig → AtBig
 was-big c = c
 
 -- The needs

@@ -11,25 +11,25 @@ use Rattle.leaf_find_number.proofs.find_bits.Reads as reads
 -- does not; the bits do not fit; they do
 
 abbrev AtAligned : Type 0
-AtAligned = lts.After-align tie.the-claims reads.Pre reads.Post
+AtAligned = lts.After-align tie.the-claims reads.Pre reads.Post tie.handed_clauses
 
 abbrev AtPast : Type 0
-AtPast = lts.Then1 tie.the-claims reads.Pre reads.Post
+AtPast = lts.Then1 tie.the-claims reads.Pre reads.Post tie.handed_clauses
 
 abbrev AtInside : Type 0
-AtInside = lts.Else1 tie.the-claims reads.Pre reads.Post
+AtInside = lts.Else1 tie.the-claims reads.Pre reads.Post tie.handed_clauses
 
 abbrev AtTurns : Type 0
-AtTurns = lts.After-turns tie.the-claims reads.Pre reads.Post
+AtTurns = lts.After-turns tie.the-claims reads.Pre reads.Post tie.handed_clauses
 
 abbrev AtOrdered : Type 0
-AtOrdered = lts.Else2 tie.the-claims reads.Pre reads.Post
+AtOrdered = lts.Else2 tie.the-claims reads.Pre reads.Post tie.handed_clauses
 
 abbrev AtShort : Type 0
-AtShort = lts.Then3 tie.the-claims reads.Pre reads.Post
+AtShort = lts.Then3 tie.the-claims reads.Pre reads.Post tie.handed_clauses
 
 abbrev AtFits : Type 0
-AtFits = lts.Else3 tie.the-claims reads.Pre reads.Post
+AtFits = lts.Else3 tie.the-claims reads.Pre reads.Post tie.handed_clauses
 
 -- The way back from each to the one before
 
@@ -62,7 +62,7 @@ returns-then-frame-place c = bits-past _ _ _ _ _ _ _ _ c.align-place.ensures c.i
 pub overflow_sub-place : goal.overflow_sub-place
 overflow_sub-place c =
     let aligned = to-aligned c.before.before.before in
-    omega (arith, aligned-from _ _ _ _ aligned.align.ensures)
+    omega (arith, aligned-from _ _ _ _ aligned.align-place.ensures)
 
 pub returns-then-turns : goal.returns-then-turns
 unfolding aligned_at
@@ -70,7 +70,7 @@ returns-then-turns c =
     let turns = c.before.before in
     let inside = to_inside turns in
     let aligned = to-aligned inside in
-    bits-turned _ _ _ _ _ _ _ _ aligned.align.ensures (omega (arith, inside.if1.left)) _ turns.turns.ensures c.if-turns.true
+    bits-turned _ _ _ _ _ _ _ _ aligned.align-place.ensures (omega (arith, inside.if-frame-place.false)) _ turns.turns.ensures c.if-turns.true
 
 -- The bits
 
@@ -81,8 +81,8 @@ returns-then-frame-place-2 c =
     let turns = to-turns ordered in
     let inside = to_inside turns in
     let aligned = to-aligned inside in
-    bits-short _ _ _ _ _ _ _ _ aligned.align.ensures (omega (arith, inside.if1.left)) _ turns.turns.ensures
-    ordered.if2.left c.if-frame-place-2.true
+    bits-short _ _ _ _ _ _ _ _ aligned.align-place.ensures (omega (arith, inside.if-frame-place.false)) _ turns.turns.ensures
+    ordered.if-turns.false c.if-frame-place-2.true
 
 pub returns : goal.returns
 unfolding aligned_at
@@ -92,4 +92,4 @@ returns c =
     let turns = to-turns ordered in
     let aligned = to-aligned (to_inside turns) in
     rw c.take.ensures
-    (bits_at _ _ _ _ _ _ _ _ aligned.align.ensures _ turns.turns.ensures ordered.if2.left (omega (arith, fits.if-frame-place-2.false)))
+    (bits_at _ _ _ _ _ _ _ _ aligned.align-place.ensures _ turns.turns.ensures ordered.if-turns.false (omega (arith, fits.if-frame-place-2.false)))

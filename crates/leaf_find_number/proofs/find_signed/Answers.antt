@@ -11,19 +11,19 @@ use Rattle.leaf_find_number.proofs.find_signed.Reads as reads
 -- are known
 
 abbrev AtStart : Type 0
-AtStart = lts.Start tie.the-claims reads.Pre reads.Post
+AtStart = lts.Start tie.the-claims reads.Pre reads.Post tie.handed_clauses
 
 abbrev AtAligned : Type 0
-AtAligned = lts.After-align tie.the-claims reads.Pre reads.Post
+AtAligned = lts.After-align tie.the-claims reads.Pre reads.Post tie.handed_clauses
 
 abbrev AtPast : Type 0
-AtPast = lts.Then1 tie.the-claims reads.Pre reads.Post
+AtPast = lts.Then1 tie.the-claims reads.Pre reads.Post tie.handed_clauses
 
 abbrev AtInside : Type 0
-AtInside = lts.Else1 tie.the-claims reads.Pre reads.Post
+AtInside = lts.Else1 tie.the-claims reads.Pre reads.Post tie.handed_clauses
 
 abbrev AtBytes : Type 0
-AtBytes = lts.After-bytes_before2 tie.the-claims reads.Pre reads.Post
+AtBytes = lts.After-bytes_before2 tie.the-claims reads.Pre reads.Post tie.handed_clauses
 
 -- The way back from each to the one before
 
@@ -50,13 +50,13 @@ returns-then-frame-place c = signed-past _ _ _ _ c.align-place.ensures c.if-fram
 pub signed-requires : goal.signed-requires
 signed-requires c =
     let start = to_start (to-aligned (to_inside c.before)) in
-    rw c.bytes_before-end.ensures (omega (arith, start.pre.ends))
+    rw c.bytes_before-end.ensures (omega (arith, start.requires.ends))
 
 pub leb_at-requires : goal.leb_at-requires
 leb_at-requires c =
     let inside = to_inside c.before.before in
     let start = to_start (to-aligned inside) in
-    (short-signed _ _ c.signed.ensures, omega (arith, inside.if1.left, start.pre.ends, start.pre.small))
+    record { short = short-signed _ _ c.signed.ensures; place_bound = omega (arith, inside.if-frame-place.false, start.requires.ends, start.requires.small) }
 
 pub returns : goal.returns
 unfolding aligned_at
@@ -69,4 +69,4 @@ returns c =
       c.bytes_before-at.ensures,
       c.bytes_before-end.ensures,
     )
-    (signed-at _ _ _ _ aligned.align.ensures (to_start aligned).pre.whole (omega (arith, inside.if1.left)))
+    (signed-at _ _ _ _ aligned.align-place.ensures aligned.requires.whole (omega (arith, inside.if-frame-place.false)))

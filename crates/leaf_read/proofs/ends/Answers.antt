@@ -55,7 +55,7 @@ returns-then-is_full c = rw (some c.before.before.before, full c.before, leaves_
 pub bounds-table-next : goal.bounds-table-next
 bounds-table-next c =
     let s = room-some c.before.before in
-    (given s).pre (omega (arith, s.if1.left))
+    s.requires (omega (arith, s.if-todo-eq0.false))
 
 pub returns-then-table-next-ge-DYNAMIC_STRING : goal.returns-then-table-next-ge-DYNAMIC_STRING
 unfolding leaves_end u8

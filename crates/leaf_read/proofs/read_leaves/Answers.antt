@@ -1,7 +1,7 @@
 -- Turn by turn: the leaf is seen, with the number that is noted of its record, and by that the definition says what is done, and of which
 -- leaves the rest is.
 use mathlib.Core.Path.{◌≡◌}
-use mathlib.Core.List.{◌∷◌, ◌++◌}
+use mathlib.Core.List.{◌∷◌, [], ◌++◌}
 use Prim.Native.Nat.{◌+◌, ◌*◌, ◌^◌, ◌<◌, ◌≤◌}
 use native.Mathlib.Omega.{arith}
 use lib.ListN.{length}
@@ -26,37 +26,37 @@ use Rattle.leaf_read.proofs.read_leaves.Reads as reads
 -- it; its entry stands in the list; the next one's byte is known
 
 abbrev AtStart : Type 0
-AtStart = lts.Start tie.the-claims reads.Pre reads.Post goal.the-invariant-loop-stop goal.the-decreases-loop-stop
+AtStart = lts.Start tie.the-claims reads.Pre reads.Post tie.handed_clauses goal.the-invariant-loop-stop goal.the-decreases-loop-stop
 
 abbrev AtBegun : Type 0
-AtBegun = lts.After-slice_known tie.the-claims reads.Pre reads.Post goal.the-invariant-loop-stop goal.the-decreases-loop-stop
+AtBegun = lts.After-slice_known tie.the-claims reads.Pre reads.Post tie.handed_clauses goal.the-invariant-loop-stop goal.the-decreases-loop-stop
 
 abbrev AtLeaf : Type 0
-AtLeaf = lts.At-loop tie.the-claims reads.Pre reads.Post goal.the-invariant-loop-stop goal.the-decreases-loop-stop
+AtLeaf = lts.At-loop tie.the-claims reads.Pre reads.Post tie.handed_clauses goal.the-invariant-loop-stop goal.the-decreases-loop-stop
 
 abbrev AtNumber : Type 0
-AtNumber = lts.After-number_of tie.the-claims reads.Pre reads.Post goal.the-invariant-loop-stop goal.the-decreases-loop-stop
+AtNumber = lts.After-number_of tie.the-claims reads.Pre reads.Post tie.handed_clauses goal.the-invariant-loop-stop goal.the-decreases-loop-stop
 
 abbrev AtSeen : Type 0
-AtSeen = lts.After-see_leaf tie.the-claims reads.Pre reads.Post goal.the-invariant-loop-stop goal.the-decreases-loop-stop
+AtSeen = lts.After-see_leaf tie.the-claims reads.Pre reads.Post tie.handed_clauses goal.the-invariant-loop-stop goal.the-decreases-loop-stop
 
 abbrev AtStops : Type 0
-AtStops = lts.Past-After-stop tie.the-claims reads.Pre reads.Post goal.the-invariant-loop-stop goal.the-decreases-loop-stop
+AtStops = lts.After-stop tie.the-claims reads.Pre reads.Post tie.handed_clauses goal.the-invariant-loop-stop goal.the-decreases-loop-stop
 
 abbrev AtOther : Type 0
-AtOther = lts.Past-After-entry tie.the-claims reads.Pre reads.Post goal.the-invariant-loop-stop goal.the-decreases-loop-stop
+AtOther = lts.After-entry tie.the-claims reads.Pre reads.Post tie.handed_clauses goal.the-invariant-loop-stop goal.the-decreases-loop-stop
 
 abbrev AtOtherListed : Type 0
-AtOtherListed = lts.After-list tie.the-claims reads.Pre reads.Post goal.the-invariant-loop-stop goal.the-decreases-loop-stop
+AtOtherListed = lts.After-list tie.the-claims reads.Pre reads.Post tie.handed_clauses goal.the-invariant-loop-stop goal.the-decreases-loop-stop
 
 abbrev AtDue : Type 0
-AtDue = lts.Past-After-due tie.the-claims reads.Pre reads.Post goal.the-invariant-loop-stop goal.the-decreases-loop-stop
+AtDue = lts.After-due tie.the-claims reads.Pre reads.Post tie.handed_clauses goal.the-invariant-loop-stop goal.the-decreases-loop-stop
 
 abbrev AtListed : Type 0
-AtListed = lts.After-list2 tie.the-claims reads.Pre reads.Post goal.the-invariant-loop-stop goal.the-decreases-loop-stop
+AtListed = lts.After-list2 tie.the-claims reads.Pre reads.Post tie.handed_clauses goal.the-invariant-loop-stop goal.the-decreases-loop-stop
 
 abbrev AtNext : Type 0
-AtNext = lts.After-onward tie.the-claims reads.Pre reads.Post goal.the-invariant-loop-stop goal.the-decreases-loop-stop
+AtNext = lts.After-onward tie.the-claims reads.Pre reads.Post tie.handed_clauses goal.the-invariant-loop-stop goal.the-decreases-loop-stop
 
 -- The way back
 
@@ -76,18 +76,18 @@ abbrev leaf : AtSeen → AtLeaf
 leaf c = c.before.before.before
 
 abbrev stops : AtStops → AtSeen
-stops c = c.before
+stops c = c.before.before
 
 abbrev other : AtOther → AtSeen
-other c = c.before
+other c = c.before.before
 
-abbrev other-told : AtOtherListed → AtOther
+abbrev other-told : AtOtherListed → AtOtherListed
 other-told c = c
 
 abbrev due : AtDue → AtSeen
-due c = c.before
+due c = c.before.before
 
-abbrev due-told : AtListed → AtDue
+abbrev due-told : AtListed → AtListed
 due-told c = c
 
 abbrev due-listed : AtNext → AtListed
@@ -130,7 +130,7 @@ sees : (c : AtSeen) →
     ≡ seen_at (number_at t l.at) t a.stream.now a.uuid.now a.frame l.at l.place l.order a.content
 sees c =
     let l = leaf c in
-    reading-seen l.loop.inv (start l).args.aligns.now (noted l).1 (number c).number_of_lem.ensures.0 c.see_leaf.ensures
+    reading-seen l.loop-stop.invariant l.args.aligns.now (noted l).1 (number c).number_of_lem.ensures.0 c.see_leaf.ensures
 
 -- what is seen can be done
 fits : (c : AtSeen) → Fits c.see_leaf.result
@@ -140,25 +140,25 @@ fits c = reading-fits c.loop-stop.invariant (bytes (leaf c)) (sees c)
 other-list : (c : AtOtherListed) →
     let l = leaf (other (other-told c)) in
     let entry = c.in-OtherUuid.entry in
-    let ws = merged l.loop.used l.loop.list c.write.new.list in
-    Listed (l.loop.inv.listed ++ (entry ∷ [])) (start l).args.list.now ws (l.loop.used + words_per_entry)
+    let ws = merged l.loop-stop.used l.loop-stop.list c.write.new.list in
+    Listed (l.loop-stop.invariant.listed ++ (entry ∷ [])) l.args.list.now ws (l.loop-stop.used + words_per_entry)
 other-list c = let h = c.loop-stop.invariant in one_more h.list _ h.room c.write.ensures
 
 due-list : (c : AtListed) →
     let l = leaf (due (due-told c)) in
     let entry = c.in-Field.due.entry in
-    let ws = merged l.loop.used l.loop.list c.write-in-Field.new.list in
-    Listed (l.loop.inv.listed ++ (entry ∷ [])) (start l).args.list.now ws (l.loop.used + words_per_entry)
+    let ws = merged l.loop-stop.used l.loop-stop.list c.write-in-Field.new.list in
+    Listed (l.loop-stop.invariant.listed ++ (entry ∷ [])) l.args.list.now ws (l.loop-stop.used + words_per_entry)
 due-list c = let h = c.loop-stop.invariant in one_more h.list _ h.room c.write-in-Field.ensures
 
 -- the next leaf's class stands where the sizes say
 there : (c : AtNext) →
     let l = leaf (due (due-told (due-listed c))) in
-    let a = (start l).args in
-    c.onward-next.result ≡ onward a.again l.loop.at (next_at 1 a.table.now l.loop.at)
+    let a = l.args in
+    c.onward-next.result ≡ onward a.again l.loop-stop.at (next_at 1 a.table.now l.loop-stop.at)
 there c =
     let l = leaf (due (due-told (due-listed c))) in
-    reading-onward l.loop.inv (start l).args.sizes.now (sized l).1 c.onward-next.ensures
+    reading-onward l.loop-stop.invariant l.args.sizes.now (sized l).1 c.onward-next.ensures
 
 -- The needs
 
@@ -175,16 +175,16 @@ pub bounds-aligns-at : goal.bounds-aligns-at
 bounds-aligns-at c = inside c.before.before
 
 pub see_leaf-requires : goal.see_leaf-requires
-see_leaf-requires c = let h = c.loop-stop.invariant in ((reading-first h).leaf, (h.kind, h.framed))
+see_leaf-requires c = let h = c.loop-stop.invariant in record { Whole = (reading-first h).leaf; at_bound = h.kind; framed = h.framed }
 
 pub shape_of-list-in-Stops : goal.shape_of-list-in-Stops
 shape_of-list-in-Stops c = (within (leaf (stops c.before))).1
 
 pub returns-in-Stops : goal.returns-in-Stops
 returns-in-Stops c =
-    let told = c.before.before.before in
+    let told = c.before in
     let seen = stops told in
-    rw c.stopped.ensures (answer-stops (leaf seen).loop.inv (sees seen) told.in-Stops.is)
+    rw c.stopped.ensures (answer-stops seen.loop-stop.invariant (sees seen) told.in-Stops.is)
 
 pub offset_bounds-list-used : goal.offset_bounds-list-used
 offset_bounds-list-used c = let i = within (leaf (other c.before)) in omega (arith, i.0, i.1, i.2)
@@ -196,13 +196,13 @@ pub slice_bounds-write-start : goal.slice_bounds-write-start
 slice_bounds-write-start c = omega (arith, (within (leaf (other c.before))).0)
 
 pub write-requires : goal.write-requires
-write-requires c = let l = leaf (other c.before) in omega (arith, (within l).0, lent-room l.loop.used l.loop.list)
+write-requires c = let l = leaf (other c.before) in omega (arith, (within l).0, lent-room l.loop-stop.used l.loop-stop.list)
 
 pub further-requires : goal.further-requires
 unfolding Fits
 further-requires c =
-    let told = other-told c.before.before in
-    rw told.entry.given.1 at (fits (other told))
+    let told = other-told c.before.before.before in
+    rw told.in-OtherUuid.is at (fits (other told))
 
 pub overflow_add-used : goal.overflow_add-used
 overflow_add-used c =
@@ -214,11 +214,11 @@ shape_of-list-in-OtherUuid c = listed-length (other-list c.before.before.before.
 
 pub returns-in-OtherUuid : goal.returns-in-OtherUuid
 returns-in-OtherUuid c =
-    let listed = c.before.before.before.before in
+    let listed = c.before.before.before.before.before in
     let told = other-told listed in
     let seen = other told in
     rw (c.stopped-in-OtherUuid.ensures, c.further.ensures)
-    (answer-other (leaf seen).loop.inv (sees seen) told.entry.given.1 (other-list listed.before))
+    (answer-other seen.loop-stop.invariant (sees seen) told.in-OtherUuid.is (other-list listed))
 
 pub offset_bounds-list-used-in-Field : goal.offset_bounds-list-used-in-Field
 offset_bounds-list-used-in-Field c = let i = within (leaf (due c.before)) in omega (arith, i.0, i.1, i.2)
@@ -231,7 +231,7 @@ slice_bounds-write-start-in-Field c = omega (arith, (within (leaf (due c.before)
 
 pub write-requires-in-Field : goal.write-requires-in-Field
 write-requires-in-Field c =
-    let l = leaf (due c.before) in omega (arith, (within l).0, lent-room l.loop.used l.loop.list)
+    let l = leaf (due c.before) in omega (arith, (within l).0, lent-room l.loop-stop.used l.loop-stop.list)
 
 pub overflow_add-used-in-Field : goal.overflow_add-used-in-Field
 overflow_add-used-in-Field c =
@@ -244,18 +244,18 @@ overflow_sub-todo c = omega (arith, c.loop-stop.invariant.some)
 pub further-place-requires : goal.further-place-requires
 unfolding Fits
 further-place-requires c =
-    let told = due-told c.before.before in
-    (rw told.due.given.1 at (fits (due told))).0
+    let told = due-told c.before.before.before in
+    (rw told.in-Field.is at (fits (due told))).0
 
 pub onward-next-requires : goal.onward-next-requires
 onward-next-requires c =
     let l = leaf (due (due-told c.before.before.before.before)) in
-    omega (arith, whole-inside _ _ _ (reading-first l.loop.inv).leaf, (sized l).0)
+    omega (arith, whole-inside _ _ _ (reading-first l.loop-stop.invariant).leaf, (sized l).0)
 
 pub overflow_sub-list : goal.overflow_sub-list
 overflow_sub-list c =
     let listed = due-listed c.before in
-    omega (arith, listed-length (due-list listed), (leaf (due (due-told listed))).loop.inv.room)
+    omega (arith, listed-length (due-list listed), listed.loop-stop.invariant.room)
 
 pub ends-requires : goal.ends-requires
 ends-requires c = λ some. rw (there c.before) (next-inside c.loop-stop.invariant some)
@@ -269,7 +269,7 @@ returns-then-ends c =
     let listed = due-listed next in
     let told = due-told listed in
     let seen = due told in
-    let last = answer-last (leaf seen).loop.inv _ (sees seen) told.due.given.1 (due-list listed) (there next) in
+    let last = answer-last seen.loop-stop.invariant _ (sees seen) told.in-Field.is (due-list listed) (there next) in
     rw c.further-place.ensures (last c.ends.ensures c.if-ends.true)
 
 pub loop-stop-smaller : goal.loop-stop-smaller
@@ -281,5 +281,5 @@ loop-stop-preserved c =
     let listed = due-listed next in
     let told = due-told listed in
     let seen = due told in
-    let more = reading-next (leaf seen).loop.inv _ (sees seen) told.due.given.1 (due-list listed) (there next) in
+    let more = reading-next seen.loop-stop.invariant _ (sees seen) told.in-Field.is (due-list listed) (there next) in
     rw c.further-place.ensures (more c.ends.ensures (bytes (leaf seen)) c.if-ends.false)

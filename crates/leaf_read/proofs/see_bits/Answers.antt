@@ -22,31 +22,31 @@ use Rattle.leaf_read.proofs.see_bits.Reads as reads
 -- that have a slot
 
 abbrev AtStart : Type 0
-AtStart = lts.Start tie.the-claims reads.Pre reads.Post
+AtStart = lts.Start tie.the-claims reads.Pre reads.Post tie.handed_clauses
 
 abbrev AtWidth : Type 0
-AtWidth = lts.After-wide64 tie.the-claims reads.Pre reads.Post
+AtWidth = lts.After-wide64 tie.the-claims reads.Pre reads.Post tie.handed_clauses
 
 abbrev AtOrder : Type 0
-AtOrder = lts.After-order_of tie.the-claims reads.Pre reads.Post
+AtOrder = lts.After-order_of tie.the-claims reads.Pre reads.Post tie.handed_clauses
 
 abbrev AtAlign : Type 0
-AtAlign = lts.After-wide642 tie.the-claims reads.Pre reads.Post
+AtAlign = lts.After-wide642 tie.the-claims reads.Pre reads.Post tie.handed_clauses
 
 abbrev AtFound : Type 0
-AtFound = lts.After-find_bits tie.the-claims reads.Pre reads.Post
+AtFound = lts.After-find_bits tie.the-claims reads.Pre reads.Post tie.handed_clauses
 
 abbrev AtKind : Type 0
-AtKind = lts.After-shared_slice_known6 tie.the-claims reads.Pre reads.Post
+AtKind = lts.After-shared_slice_known6 tie.the-claims reads.Pre reads.Post tie.handed_clauses
 
 abbrev AtBoolean : Type 0
-AtBoolean = lts.Past-At-match-keys2 tie.the-claims reads.Pre reads.Post
+AtBoolean = lts.Past-At-match-keys2 tie.the-claims reads.Pre reads.Post tie.handed_clauses
 
 abbrev AtUnsigned : Type 0
-AtUnsigned = lts.Past-At-match-keys3 tie.the-claims reads.Pre reads.Post
+AtUnsigned = lts.Past-At-match-keys3 tie.the-claims reads.Pre reads.Post tie.handed_clauses
 
 abbrev AtSigned : Type 0
-AtSigned = lts.Past-At-match-keys4 tie.the-claims reads.Pre reads.Post
+AtSigned = lts.Past-At-match-keys4 tie.the-claims reads.Pre reads.Post tie.handed_clauses
 
 -- The way back from each to the one before
 
@@ -96,7 +96,7 @@ unfolding u8
 said c =
     let start = given c in
     let order = to-order c in
-    bits-say _ _ start.pre.0 start.pre.1.0 (to-width order).wide64.ensures.0 order.order-of.ensures c.wide64-exponent.ensures.0
+    bits-say _ _ start.requires.Whole start.requires.at_bound order.wide64-width.ensures.0 order.order_of-order.ensures c.wide64-exponent.ensures.0
 
 sees : (c : AtKind) {r : Seen} (k : Sort) (i ro : ℕ) →
     let a = c.args in
@@ -109,7 +109,7 @@ sees : (c : AtKind) {r : Seen} (k : Sort) (i ro : ℕ) →
     → BitsSeen a.number t b a.frame a.at a.from a.last r
 sees c k i ro is kind =
     let found = to-found c in
-    λ u x. bits_of _ _ _ u _ _ _ _ x (said (to-align found)) found.find-bits.ensures k i ro is (kind u x)
+    λ u x. bits_of _ _ _ u _ _ _ _ x (said (to-align found)) found.find_bits-found.ensures k i ro is (kind u x)
 
 -- The needs: width, order and align
 
@@ -126,34 +126,34 @@ bounds-table-at c =
 pub overflow_add-at-2 : goal.overflow_add-at-2
 overflow_add-at-2 c =
     let start = to_start c.before in
-    omega (arith, there start, start.good.0)
+    omega (arith, there start, start.well_formed.0)
 
 pub bounds-table-at-2 : goal.bounds-table-at-2
 bounds-table-at-2 c =
     let start = to_start c.before.before in
-    omega (arith, there start, start.good.0)
+    omega (arith, there start, start.well_formed.0)
 
 pub overflow_add-at-3 : goal.overflow_add-at-3
 overflow_add-at-3 c =
     let start = to_start (to-width c.before) in
-    omega (arith, there start, start.good.0)
+    omega (arith, there start, start.well_formed.0)
 
 pub bounds-table-at-3 : goal.bounds-table-at-3
 bounds-table-at-3 c =
     let start = to_start (to-width c.before.before) in
-    omega (arith, there start, start.good.0)
+    omega (arith, there start, start.well_formed.0)
 
 -- The number
 
 pub find_bits-found-requires : goal.find_bits-found-requires
-find_bits-found-requires c = (c.requires.framed, ((said c.before).most, (said c.before).align))
+find_bits-found-requires c = record { framed = c.requires.framed; width_bound = ((said c.before).most, (said c.before).align) }
 
 -- Slots and roles, by the kind
 
 pub bounds-table-at-4 : goal.bounds-table-at-4
 bounds-table-at-4 c =
     let start = given-kind c.before in
-    omega (arith, there start, start.good.0)
+    omega (arith, there start, start.well_formed.0)
 
 pub overflow_add-at-in-17 : goal.overflow_add-at-in-17
 overflow_add-at-in-17 c = omega (arith, boolean-there c.before, c.well_formed.0)
@@ -193,7 +193,7 @@ pub signed-requires : goal.signed-requires
 signed-requires c =
     let found = to-found c.before.before.before in
     let align = to-align found in
-    bits-extend (given align).pre.1.1 _ _ _ _ _ found.find-bits.ensures (said align).some (said align).most
+    bits-extend align.requires.framed _ _ _ _ _ found.find_bits-found.ensures (said align).some (said align).most
 
 -- What is seen, by the kind
 
@@ -226,5 +226,5 @@ unfolding u8 shape_of shapes seen_in
 returns-in_default c =
     let kind = c.before.before in
     let start = given-kind kind.before in
-    let is = is-float _ _ start.pre.0 start.pre.1.0 kind.in_default.in_default-own.rest in
+    let is = is-float _ _ start.requires.Whole start.requires.at_bound kind.in_default.in_default-own.rest in
     sees kind.before float no_slot 0 c.float.ensures (λ u x. seen_of _ _ _ u _ _ _ _ x 20 is)

@@ -10,19 +10,19 @@ use Rattle.leaf_read.proofs.see_dynamic.Reads as reads
 -- Places of the code, in its order: all is given; the slot was asked; it gives a length; and which of the two kinds it is
 
 abbrev AtStart : Type 0
-AtStart = lts.Start tie.the-claims reads.Pre reads.Post
+AtStart = lts.Start tie.the-claims reads.Pre reads.Post tie.handed_clauses
 
 abbrev AtSlot : Type 0
-AtSlot = lts.After-length_of tie.the-claims reads.Pre reads.Post
+AtSlot = lts.After-length_of tie.the-claims reads.Pre reads.Post tie.handed_clauses
 
 abbrev AtBytes : Type 0
-AtBytes = lts.Past-After-bytes tie.the-claims reads.Pre reads.Post
+AtBytes = lts.After-bytes tie.the-claims reads.Pre reads.Post tie.handed_clauses
 
 abbrev AtText : Type 0
-AtText = lts.Then1 tie.the-claims reads.Pre reads.Post
+AtText = lts.Then1 tie.the-claims reads.Pre reads.Post tie.handed_clauses
 
 abbrev AtBlob : Type 0
-AtBlob = lts.Else1 tie.the-claims reads.Pre reads.Post
+AtBlob = lts.Else1 tie.the-claims reads.Pre reads.Post tie.handed_clauses
 
 -- The way back from each to the one before
 
@@ -30,12 +30,12 @@ abbrev to_start : AtSlot → AtStart
 to_start c = c.before.before
 
 abbrev to-slot : AtBytes → AtSlot
-to-slot c = c.before
+to-slot c = c.before.before
 
-abbrev to-bytes-from-text : AtText → AtBytes
+abbrev to-bytes-from-text : AtText → AtText
 to-bytes-from-text c = c
 
-abbrev to-bytes-from-blob : AtBlob → AtBytes
+abbrev to-bytes-from-blob : AtBlob → AtBlob
 to-bytes-from-blob c = c
 
 -- What is known at them: no slot gives more than 65,535 bytes
@@ -50,13 +50,13 @@ few c = length-small _ c.length_of.ensures c.in-Of.is
 pub find_text-requires : goal.find_text-requires
 find_text-requires c =
     let bytes = to-bytes-from-text c.before in
-    ((to_start (to-slot bytes)).requires, few bytes)
+    record { framed = bytes.requires; bytes_bound = few bytes }
 
 pub returns-then-kind-eq-DYNAMIC_STRING : goal.returns-then-kind-eq-DYNAMIC_STRING
 returns-then-kind-eq-DYNAMIC_STRING c =
     let text = c.before.before.before in
     let bytes = to-bytes-from-text text in
-    text-seen _ _ _ _ _ (to-slot bytes).length-of.ensures bytes.bytes.given.1 _ c.plain.ensures text.if-kind-eq-DYNAMIC_STRING.true
+    text-seen _ _ _ _ _ bytes.length_of.ensures bytes.in-Of.is _ c.plain.ensures text.if-kind-eq-DYNAMIC_STRING.true
     c.find_text.ensures
 
 -- Kind 27
@@ -64,7 +64,7 @@ returns-then-kind-eq-DYNAMIC_STRING c =
 pub find_blob-requires : goal.find_blob-requires
 find_blob-requires c =
     let bytes = to-bytes-from-blob c.before in
-    ((to_start (to-slot bytes)).requires, few bytes)
+    record { framed = bytes.requires; bytes_bound = few bytes }
 
 pub returns-in-NotOf : goal.returns-in-NotOf
 returns-in-NotOf c = no-length-seen _ _ _ _ _ c.length_of.ensures c.in-NotOf.is _
@@ -73,5 +73,5 @@ pub returns-else-kind-eq-DYNAMIC_STRING : goal.returns-else-kind-eq-DYNAMIC_STRI
 returns-else-kind-eq-DYNAMIC_STRING c =
     let blob = c.before.before.before in
     let bytes = to-bytes-from-blob blob in
-    blob-seen _ _ _ _ _ (to-slot bytes).length-of.ensures bytes.bytes.given.1 _ c.plain-in-Of.ensures blob.if-kind-eq-DYNAMIC_STRING.false
+    blob-seen _ _ _ _ _ bytes.length_of.ensures bytes.in-Of.is _ c.plain-in-Of.ensures blob.if-kind-eq-DYNAMIC_STRING.false
     c.find_blob.ensures

@@ -15,25 +15,25 @@ use Rattle.leaf_read.proofs.see_leaf.Reads as reads
 -- Places of the code, in its order: all is given; the kind is asked for; it is one from 21 on; and the kinds whose records have numbers
 
 abbrev AtStart : Type 0
-AtStart = lts.Start tie.the-claims reads.Pre reads.Post
+AtStart = lts.Start tie.the-claims reads.Pre reads.Post tie.handed_clauses
 
 abbrev AtTable : Type 0
-AtTable = lts.After-shared_slice_known4 tie.the-claims reads.Pre reads.Post
+AtTable = lts.After-shared_slice_known4 tie.the-claims reads.Pre reads.Post tie.handed_clauses
 
 abbrev AtKind : Type 0
-AtKind = lts.After-shared_slice_known5 tie.the-claims reads.Pre reads.Post
+AtKind = lts.After-shared_slice_known5 tie.the-claims reads.Pre reads.Post tie.handed_clauses
 
 abbrev AtUnsigned : Type 0
-AtUnsigned = lts.Past-At-match-keys1 tie.the-claims reads.Pre reads.Post
+AtUnsigned = lts.Past-At-match-keys1 tie.the-claims reads.Pre reads.Post tie.handed_clauses
 
 abbrev AtSigned : Type 0
-AtSigned = lts.Past-At-match-keys2 tie.the-claims reads.Pre reads.Post
+AtSigned = lts.Past-At-match-keys2 tie.the-claims reads.Pre reads.Post tie.handed_clauses
 
 abbrev AtText : Type 0
-AtText = lts.Past-At-match-keys4 tie.the-claims reads.Pre reads.Post
+AtText = lts.Past-At-match-keys4 tie.the-claims reads.Pre reads.Post tie.handed_clauses
 
 abbrev AtBlob : Type 0
-AtBlob = lts.Past-At-match-keys5 tie.the-claims reads.Pre reads.Post
+AtBlob = lts.Past-At-match-keys5 tie.the-claims reads.Pre reads.Post tie.handed_clauses
 
 -- The way back from each to the one before
 
@@ -73,7 +73,7 @@ pub see_bits-requires : goal.see_bits-requires
 unfolding u8
 see_bits-requires c =
     let start = to_start c.before.before in
-    (start.pre.0, (c.if-table-at-lt-FIRST_OF_BYTES.true, start.pre.1.1))
+    record { Whole = start.requires.Whole; at_bound = c.if-table-at-lt-FIRST_OF_BYTES.true; framed = start.requires.framed }
 
 pub returns-then-table-at-lt-FIRST_OF_BYTES : goal.returns-then-table-at-lt-FIRST_OF_BYTES
 returns-then-table-at-lt-FIRST_OF_BYTES c = c.see_bits.ensures _ _
@@ -126,7 +126,7 @@ pub u16_at-requires : goal.u16_at-requires
 u16_at-requires c = omega (arith, text-there c.before, c.well_formed.0)
 
 pub find_text-requires : goal.find_text-requires
-find_text-requires c = (c.requires.framed, omega (arith, c.u16_at.ensures.1))
+find_text-requires c = record { framed = c.requires.framed; bytes_bound = omega (arith, c.u16_at.ensures.1) }
 
 -- Kind 25
 
@@ -137,7 +137,7 @@ pub u16_at-requires-in-25 : goal.u16_at-requires-in-25
 u16_at-requires-in-25 c = omega (arith, blob-there c.before, c.well_formed.0)
 
 pub find_blob-requires : goal.find_blob-requires
-find_blob-requires c = (c.requires.framed, omega (arith, c.u16_at-in-25.ensures.1))
+find_blob-requires c = record { framed = c.requires.framed; bytes_bound = omega (arith, c.u16_at-in-25.ensures.1) }
 
 pub overflow_add-at-in-25-2 : goal.overflow_add-at-in-25-2
 overflow_add-at-in-25-2 c =
@@ -201,4 +201,4 @@ returns-in_default c =
     let kind = c.before.before.before in
     let start = given kind.before in
     let low = is-dynamic start.args.table.now start.args.at kind.if-table-at-lt-FIRST_OF_BYTES.false kind.in_default.in_default-own.rest in
-    dynamic-of _ _ _ _ _ _ _ _ _ low start.pre.1.0 c.see_dynamic.ensures
+    dynamic-of _ _ _ _ _ _ _ _ _ low start.requires.at_bound c.see_dynamic.ensures

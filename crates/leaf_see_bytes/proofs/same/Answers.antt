@@ -7,22 +7,21 @@ use lib.ListN.{length}
 use Rattle.leaf_see_bytes.proofs.Uuid.{same-not-length, same-not-byte, same-all}
 use Rattle.leaf_see_bytes.proofs.same.Goals as goal
 use Rattle.leaf_see_bytes.proofs.same.Lts as lts
-use Rattle.leaf_see_bytes.proofs.same.Tie as tie
 use Rattle.leaf_see_bytes.proofs.same.Reads as reads
 
 -- Places of the code, in its order: all is given; there are as many bytes as the UUID has; so many were passed; one is compared
 
 abbrev AtStart : Type 0
-AtStart = lts.Start tie.the-claims reads.Pre reads.Post goal.the-invariant-loop-passed goal.the-decreases-loop-passed
+AtStart = lts.Start reads.Pre reads.Post goal.the-invariant-loop-passed goal.the-decreases-loop-passed
 
 abbrev AtLengths : Type 0
-AtLengths = lts.Else1 tie.the-claims reads.Pre reads.Post goal.the-invariant-loop-passed goal.the-decreases-loop-passed
+AtLengths = lts.Else1 reads.Pre reads.Post goal.the-invariant-loop-passed goal.the-decreases-loop-passed
 
 abbrev AtLoop : Type 0
-AtLoop = lts.At-loop tie.the-claims reads.Pre reads.Post goal.the-invariant-loop-passed goal.the-decreases-loop-passed
+AtLoop = lts.At-loop reads.Pre reads.Post goal.the-invariant-loop-passed goal.the-decreases-loop-passed
 
 abbrev AtByte : Type 0
-AtByte = lts.In-loop tie.the-claims reads.Pre reads.Post goal.the-invariant-loop-passed goal.the-decreases-loop-passed
+AtByte = lts.In-loop reads.Pre reads.Post goal.the-invariant-loop-passed goal.the-decreases-loop-passed
 
 -- The way back from each to the one before
 
@@ -46,7 +45,7 @@ inside : (c : AtByte) →
     (a.at + passed < length a.stream.now) × (passed < length a.uuid.now)
 inside c =
     let lengths = to-lengths (to-loop c) in
-    (omega (arith, c.requires, c.loop-passed-test.true), omega (arith, lengths.if1.left, c.loop-passed-test.true))
+    (omega (arith, c.requires, c.loop-passed-test.true), omega (arith, lengths.if-uuid-count.false, c.loop-passed-test.true))
 
 -- The needs: the lengths
 
@@ -75,7 +74,7 @@ pub returns-then-stream-at : goal.returns-then-stream-at
 returns-then-stream-at c =
     let start = given c.before.before.before.before in
     let a = start.args in
-    same-not-byte a.stream.now a.uuid.now a.at a.count start.pre _ (omega arith) c.if-stream-at.true
+    same-not-byte a.stream.now a.uuid.now a.at a.count start.requires _ (omega arith) c.if-stream-at.true
 
 pub overflow_add-passed : goal.overflow_add-passed
 overflow_add-passed c =
@@ -88,7 +87,7 @@ loop-passed-smaller c = omega (arith, c.loop-passed-test.true)
 pub loop-passed-preserved : goal.loop-passed-preserved
 loop-passed-preserved c =
     let loop = to-loop c.before.before.before.before in
-    (omega arith, below_more _ _ loop.loop.inv.1 c.if-stream-at.false)
+    (omega arith, below_more _ _ loop.loop-passed.invariant.1 c.if-stream-at.false)
 
 pub returns : goal.returns
 returns c =
@@ -97,4 +96,4 @@ returns c =
     let a = start.args in
     let l = c.loop-passed in
     let all : l.passed ≡ a.count = omega arith in
-    same-all a.stream.now a.uuid.now a.at a.count start.pre lengths.if1.left (λ k h. l.invariant.1 k (omega arith))
+    same-all a.stream.now a.uuid.now a.at a.count start.requires lengths.if-uuid-count.false (λ k h. l.invariant.1 k (omega arith))

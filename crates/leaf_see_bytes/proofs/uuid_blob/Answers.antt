@@ -13,7 +13,7 @@ abbrev AtStart : Type 0
 AtStart = lts.Start tie.the-claims reads.Pre reads.Post
 
 abbrev AtFound : Type 0
-AtFound = lts.Past-After-found2 tie.the-claims reads.Pre reads.Post
+AtFound = lts.After-found2 tie.the-claims reads.Pre reads.Post
 
 abbrev AtByte : Type 0
 AtByte = lts.After-bytes_before tie.the-claims reads.Pre reads.Post
@@ -24,9 +24,9 @@ AtAsked = lts.After-same tie.the-claims reads.Pre reads.Post
 -- The way back from each to the one before
 
 abbrev to_start : AtFound → AtStart
-to_start c = c.before.before.before
+to_start c = c.before.before.before.before
 
-abbrev to-found : AtByte → AtFound
+abbrev to-found : AtByte → AtByte
 to-found c = c
 
 abbrev to-byte : AtAsked → AtByte
@@ -39,7 +39,7 @@ to-byte c = c.before
 pub same-requires : goal.same-requires
 same-requires c =
     let found = to-found c.before in
-    found_within _ found.found2.given.1 c.bytes_before-at.ensures (to_start found).pre
+    found_within _ found.in-At.is c.bytes_before-at.ensures found.requires
 
 -- What is seen
 
@@ -48,7 +48,7 @@ returns-then-same c =
     let asked = c.before.before.before in
     let byte = to-byte asked in
     rw c.plain.ensures
-    (uuid-seen _ _ _ _ _ _ _ (to-found byte).found2.given.1 byte.bytes-before.ensures asked.same.ensures c.if-same.true)
+    (uuid-seen _ _ _ _ _ _ _ byte.in-At.is byte.bytes_before-at.ensures asked.same.ensures c.if-same.true)
 
 pub returns-in-Refused : goal.returns-in-Refused
 unfolding seen
@@ -58,4 +58,4 @@ pub returns-else-same : goal.returns-else-same
 returns-else-same c =
     let asked = c.before.before in
     let byte = to-byte asked in
-    other-seen _ _ _ _ _ _ _ (to-found byte).found2.given.1 byte.bytes-before.ensures asked.same.ensures c.if-same.false
+    other-seen _ _ _ _ _ _ _ byte.in-At.is byte.bytes_before-at.ensures asked.same.ensures c.if-same.false

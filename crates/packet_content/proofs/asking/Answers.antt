@@ -14,16 +14,16 @@ use Rattle.packet_content.proofs.asking.Reads as reads
 -- Places of the code, in its order: all is given; the clock was asked for; the header's root was looked for, and the common context's
 
 abbrev AtStart : Type 0
-AtStart = lts.Start tie.the-claims reads.Pre reads.Post
+AtStart = lts.Start tie.the-claims reads.Pre reads.Post tie.handed_clauses
 
 abbrev AtTimed : Type 0
-AtTimed = lts.After-shared_slice_known3 tie.the-claims reads.Pre reads.Post
+AtTimed = lts.After-shared_slice_known3 tie.the-claims reads.Pre reads.Post tie.handed_clauses
 
 abbrev AtHeader : Type 0
-AtHeader = lts.After-root_place tie.the-claims reads.Pre reads.Post
+AtHeader = lts.After-root_place tie.the-claims reads.Pre reads.Post tie.handed_clauses
 
 abbrev AtCommon : Type 0
-AtCommon = lts.After-root_place2 tie.the-claims reads.Pre reads.Post
+AtCommon = lts.After-root_place2 tie.the-claims reads.Pre reads.Post tie.handed_clauses
 
 -- The way back from each to the one before
 
@@ -57,19 +57,19 @@ bounds-table-class c = omega (arith, there (to_start c.before))
 pub root_place-header-requires : goal.root_place-header-requires
 root_place-header-requires c =
     let start = to_start c.before in
-    (sized start, start.pre.0.limit, start.pre.0.room)
+    (sized start, start.requires.sized.limit, start.requires.sized.room)
 
 pub root_place-common-requires : goal.root_place-common-requires
 root_place-common-requires c =
     let start = to_start (to-timed c.before) in
-    (sized start, start.pre.0.limit, start.pre.0.room)
+    (sized start, start.requires.sized.limit, start.requires.sized.room)
 
 pub returns : goal.returns
 unfolding u8
 returns c =
     let start = to_start (to-timed (to-header c.before)) in
     let a = start.args in (
-      of-stream a.table.now a.sizes.now a.id a.class start.pre.0 start.pre.1 _ _ _ refl
+      of-stream a.table.now a.sizes.now a.id a.class start.requires.sized start.requires.id_value _ _ _ refl
           c.root_place-header.ensures c.root_place-common.ensures,
       refl,
     )

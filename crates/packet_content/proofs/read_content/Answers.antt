@@ -21,28 +21,28 @@ use Rattle.packet_content.proofs.read_content.Reads as reads
 -- listed; the stream class was asked; the events were read
 
 abbrev AtStart : Type 0
-AtStart = lts.Start tie.the-claims reads.Pre reads.Post
+AtStart = lts.Start tie.the-claims reads.Pre reads.Post tie.handed_clauses
 
 abbrev AtFull : Type 0
-AtFull = lts.Then1 tie.the-claims reads.Pre reads.Post
+AtFull = lts.Then1 tie.the-claims reads.Pre reads.Post tie.handed_clauses
 
 abbrev AtRoom : Type 0
-AtRoom = lts.Else1 tie.the-claims reads.Pre reads.Post
+AtRoom = lts.Else1 tie.the-claims reads.Pre reads.Post tie.handed_clauses
 
 abbrev AtLengths : Type 0
-AtLengths = lts.Else2 tie.the-claims reads.Pre reads.Post
+AtLengths = lts.Else2 tie.the-claims reads.Pre reads.Post tie.handed_clauses
 
 abbrev AtClocks : Type 0
-AtClocks = lts.Else3 tie.the-claims reads.Pre reads.Post
+AtClocks = lts.Else3 tie.the-claims reads.Pre reads.Post tie.handed_clauses
 
 abbrev AtListed : Type 0
-AtListed = lts.After-write tie.the-claims reads.Pre reads.Post
+AtListed = lts.After-write tie.the-claims reads.Pre reads.Post tie.handed_clauses
 
 abbrev AtClass : Type 0
-AtClass = lts.After-asking tie.the-claims reads.Pre reads.Post
+AtClass = lts.After-asking tie.the-claims reads.Pre reads.Post tie.handed_clauses
 
 abbrev AtEvents : Type 0
-AtEvents = lts.After-read_events tie.the-claims reads.Pre reads.Post
+AtEvents = lts.After-read_events tie.the-claims reads.Pre reads.Post tie.handed_clauses
 
 -- The way back from each to the one before
 
@@ -115,13 +115,13 @@ events-left c =
     let listed = to-listed c in
     let clocks = to-clocks listed in
     let lengths = to-lengths clocks in
-    let a = (given lengths).args in
-    let d = lengths.before.contradict in
-    let f = lengths.before.before.whole-frame in
-    let y = clocks.before.above in
+    let a = lengths.args in
+    let d = lengths.contradict in
+    let f = lengths.whole_frame in
+    let y = clocks.above in
     content-part a.table.now a.stream.now a.class a.start a.total a.content a.st a.slots a.list.now
-    (has_room (to_room lengths)) f.result f.ensures d.result d.ensures lengths.if2.left y.result y.ensures
-    clocks.if3.left listed.write.ensures a.uuid.now (given lengths).pre.0.uuid c.asking-with.result.class
+    (has_room (to_room lengths)) f.result f.ensures d.result d.ensures lengths.if-contradict.false y.result y.ensures
+    clocks.if-above.false listed.write.ensures a.uuid.now lengths.requires.readable.uuid c.asking-with.result.class
     c.asking-with.ensures.1 _ _ c.further-bound.ensures c.further-to.ensures
 
 -- No room for entry 3
@@ -137,13 +137,13 @@ returns-then-is_full c =
 
 pub returns-then-contradict : goal.returns-then-contradict
 returns-then-contradict c =
-    let room = c.before.before.before.before.before in
+    let room = c.before.before.before.before.before.before in
     let a = room.args in
     let d = c.contradict in
     let f = c.whole_frame in
     rw c.refused-then-contradict.ensures
     (content-ran-lengths a.table.now a.stream.now a.class a.start a.total a.content a.st a.slots a.list.now
-    (has_room room.before) f.result f.ensures d.result d.ensures c.if-contradict.true)
+    (has_room room) f.result f.ensures d.result d.ensures c.if-contradict.true)
 
 -- 35
 
@@ -167,19 +167,19 @@ write-requires c = has_room (to_room (to-lengths c.before.before))
 pub further-bound-requires : goal.further-bound-requires
 further-bound-requires c =
     let h = lengths-of c.before.before.before in
-    omega (arith, (fine h).order, (fine h).in_stream, (given h).pre.0.small)
+    omega (arith, (fine h).order, (fine h).in_stream, h.requires.readable.small)
 
 pub further-to-requires : goal.further-to-requires
 further-to-requires c =
     let h = lengths-of c.before.before.before.before in
-    omega (arith, (fine h).order, (fine h).in_stream, (given h).pre.0.small)
+    omega (arith, (fine h).order, (fine h).in_stream, h.requires.readable.small)
 
 -- The events
 
 pub asking-with-requires : goal.asking-with-requires
 asking-with-requires c =
     let p = c.requires in
-    (p.readable.ready.noted.sized, p.id_value)
+    record { sized = p.readable.ready.noted.sized; id_value = p.id_value }
 
 pub slice_bounds-read_events-count : goal.slice_bounds-read_events-count
 slice_bounds-read_events-count c = omega (arith, listed-fits (to-listed c.before))
@@ -190,15 +190,15 @@ slice_bounds-read_events-start c = omega (arith, listed-fits (to-listed c.before
 pub read_events-r-requires : goal.read_events-r-requires
 read_events-r-requires c =
     let h = lengths-of (to-listed c.before.before) in
-    let p = (given h).pre in
+    let p = h.requires in
     rw (c.further-bound.ensures, c.further-to.ensures)
-    (p.0.ready, (c.asking-with.ensures.0, ((framed h).0, ((framed h).1, p.1.1.1))))
+    (p.readable.ready, (c.asking-with.ensures.0, ((framed h).0, ((framed h).1, p.@tail.3))))
 
 pub with_last-requires : goal.with_last-requires
 with_last-requires c =
     let r = c.before.before.before in
     let k = to-class r in
-    omega (arith, ran-room _ (events-left k) r.read_events-r.ensures, (given (lengths-of (to-listed k))).well-formed)
+    omega (arith, ran-room _ (events-left k) r.read_events-r.ensures, k.well_formed)
 
 pub shape_of-list : goal.shape_of-list
 shape_of-list c =

@@ -25,22 +25,22 @@ use Rattle.packet_content.proofs.read_of_stream.Reads as reads
 -- content was read
 
 abbrev AtStart : Type 0
-AtStart = lts.Start tie.the-claims reads.Pre reads.Post
+AtStart = lts.Start tie.the-claims reads.Pre reads.Post tie.handed_clauses
 
 abbrev AtFrame : Type 0
-AtFrame = lts.After-whole_frame tie.the-claims reads.Pre reads.Post
+AtFrame = lts.After-whole_frame tie.the-claims reads.Pre reads.Post tie.handed_clauses
 
 abbrev AtContext : Type 0
-AtContext = lts.After-read_root tie.the-claims reads.Pre reads.Post
+AtContext = lts.After-read_root tie.the-claims reads.Pre reads.Post tie.handed_clauses
 
 abbrev AtOn : Type 0
-AtOn = lts.Past-After-enum_told tie.the-claims reads.Pre reads.Post
+AtOn = lts.Past-After-enum_told tie.the-claims reads.Pre reads.Post tie.handed_clauses
 
 abbrev AtLengths : Type 0
-AtLengths = lts.After-or_else2 tie.the-claims reads.Pre reads.Post
+AtLengths = lts.After-or_else2 tie.the-claims reads.Pre reads.Post tie.handed_clauses
 
 abbrev AtContent : Type 0
-AtContent = lts.After-read_content tie.the-claims reads.Pre reads.Post
+AtContent = lts.After-read_content tie.the-claims reads.Pre reads.Post tie.handed_clauses
 
 -- The way back from each to the one before
 
@@ -118,10 +118,10 @@ content-left : (c : AtLengths) →
     r.new.list c.or_else-total.result c.or_else-content.result
 content-left c =
     let d = context-of c in
-    let a = (given d).args in
-    let f = (to-frame d).whole-frame in
+    let a = d.args in
+    let f = d.whole_frame-frame in
     context-part a.table.now a.stream.now a.start a.class a.st a.slots a.list.now a.uuid.now
-    (given d).pre.0.uuid f.result f.ensures _ (is-context (to-frame d)) (is-numbered (to-frame d)) d.read-root.ensures
+    d.requires.readable.uuid f.result f.ensures _ (is-context (to-frame d)) (is-numbered (to-frame d)) d.read_root-c.ensures
     c.in-On.is c.or_else-total.result c.or_else-content.result c.or_else-total.ensures c.or_else-content.ensures
 
 -- The context
@@ -140,12 +140,13 @@ pub read_root-c-requires : goal.read_root-c-requires
 read_root-c-requires c =
     let start = to_start c.before.before in
     let a = start.args in
-    let g = start.pre.0 in (
-      root_stands a.table.now a.class 0 _
-          (stream-sized a.table.now a.sizes.now a.id a.class g.ready.noted.sized start.pre.1.0).stands
-          c.root_place-context.ensures,
-      (g.ready.noted, rw c.whole_frame-frame.ensures start.pre.1.1.0),
-    )
+    let g = start.requires.readable in record {
+      root_stands = root_stands a.table.now a.class 0 _
+          (stream-sized a.table.now a.sizes.now a.id a.class g.ready.noted.sized start.requires.id_value).stands
+          c.root_place-context.ensures;
+      prepared = g.ready.noted;
+      framed = rw c.whole_frame-frame.ensures start.requires.framed;
+    }
 
 -- It stopped
 
@@ -178,15 +179,15 @@ slice_bounds-read_content-start c = omega (arith, part_length (content-left c.be
 pub read_content-r-requires : goal.read_content-r-requires
 read_content-r-requires c =
     let on = to-on c.before.before in
-    let p = (given (to-context on)).requires in
-    let went = on.enum_told.given.1 in
-    (p.0, (p.1.0, (held-framed (to-context on) went, (p.1.1.1.0, held-unset (to-context on) went))))
+    let p = on.requires in
+    let went = on.in-On.is in
+    record { readable = p.readable; id_value = p.id_value; framed = held-framed (to-context on) went; hints = p.hints; slots_value = held-unset (to-context on) went }
 
 pub with_last-requires : goal.with_last-requires
 with_last-requires c =
     let r = c.before.before.before in
     let h = to-lengths r in
-    omega (arith, ran-room _ (content-left h) r.read_content-r.ensures, (given (context-of h)).well-formed)
+    omega (arith, ran-room _ (content-left h) r.read_content-r.ensures, h.well_formed)
 
 pub shape_of-list : goal.shape_of-list
 shape_of-list c =

@@ -18,22 +18,22 @@ use Rattle.packet_read.proofs.read_packets.Reads as reads
 -- Places of the code, in its order: all is given; the state in which a reading begins; a round's start; a packet is left; none is; it was read
 
 abbrev AtStart : Type 0
-AtStart = lts.Start tie.the-claims reads.Pre reads.Post goal.the-invariant-loop-state goal.the-decreases-loop-state
+AtStart = lts.Start tie.the-claims reads.Pre reads.Post tie.handed_clauses goal.the-invariant-loop-state goal.the-decreases-loop-state
 
 abbrev AtBegun : Type 0
-AtBegun = lts.After-first_state tie.the-claims reads.Pre reads.Post goal.the-invariant-loop-state goal.the-decreases-loop-state
+AtBegun = lts.After-first_state tie.the-claims reads.Pre reads.Post tie.handed_clauses goal.the-invariant-loop-state goal.the-decreases-loop-state
 
 abbrev AtLoop : Type 0
-AtLoop = lts.At-loop tie.the-claims reads.Pre reads.Post goal.the-invariant-loop-state goal.the-decreases-loop-state
+AtLoop = lts.At-loop tie.the-claims reads.Pre reads.Post tie.handed_clauses goal.the-invariant-loop-state goal.the-decreases-loop-state
 
 abbrev AtPacket : Type 0
-AtPacket = lts.Then1 tie.the-claims reads.Pre reads.Post goal.the-invariant-loop-state goal.the-decreases-loop-state
+AtPacket = lts.Then1 tie.the-claims reads.Pre reads.Post tie.handed_clauses goal.the-invariant-loop-state goal.the-decreases-loop-state
 
 abbrev AtEnd : Type 0
-AtEnd = lts.Else1 tie.the-claims reads.Pre reads.Post goal.the-invariant-loop-state goal.the-decreases-loop-state
+AtEnd = lts.Else1 tie.the-claims reads.Pre reads.Post tie.handed_clauses goal.the-invariant-loop-state goal.the-decreases-loop-state
 
 abbrev AtRead : Type 0
-AtRead = lts.After-read_packet tie.the-claims reads.Pre reads.Post goal.the-invariant-loop-state goal.the-decreases-loop-state
+AtRead = lts.After-read_packet tie.the-claims reads.Pre reads.Post tie.handed_clauses goal.the-invariant-loop-state goal.the-decreases-loop-state
 
 -- The way back from each to the one before
 
@@ -69,14 +69,14 @@ fits c =
 left : (c : AtPacket) → c.loop-state.state.place.0 < 8 * length c.args.stream.now
 left c =
     let loop = to-loop c in
-    let end = (to-begun loop).before.place-behind in
-    before-end loop.loop.state.place end.result (given loop).args.stream.now end.ensures c.loop-state-test.true
+    let end = loop.place_behind-end in
+    before-end loop.loop-state.state.place end.result loop.args.stream.now end.ensures c.loop-state-test.true
 
 none_left : (c : AtEnd) → 8 * length c.args.stream.now ≤ c.loop-state.state.place.0
 none_left c =
     let loop = last-loop c in
-    let end = (to-begun loop).before.place-behind in
-    behind-end loop.loop.state.place end.result (given loop).args.stream.now end.ensures c.loop-state-test.false
+    let end = loop.place_behind-end in
+    behind-end loop.loop-state.state.place end.result loop.args.stream.now end.ensures c.loop-state-test.false
 
 -- In front of the loop
 
@@ -111,17 +111,17 @@ slice_bounds-read_packet-end c = omega arith
 pub read_packet-r-requires : goal.read_packet-r-requires
 read_packet-r-requires c =
     let loop = to-loop c.before.before in
-    let p = (given loop).pre in
-    (p.0, (loop.loop.inv.starts, p.1))
+    let p = loop.requires in
+    record { lent = p.lent; starts = loop.loop-state.invariant.starts; hints = p.hints }
 
 pub overflow_add-used : goal.overflow_add-used
 overflow_add-used c =
     let read = c.before.before.before.before in
     let loop = loop-of read in
     let start = given loop in
-    let room = round_room (asked_at start.args.table.now) (fits start) start.args.stream.now loop.loop.inv
+    let room = round_room (asked_at start.args.table.now) (fits start) start.args.stream.now loop.loop-state.invariant
     (left (to-packet read)) read.read_packet-r.ensures in
-    omega (arith, room, start.good)
+    omega (arith, room, start.well_formed)
 
 -- It stopped
 
@@ -136,25 +136,25 @@ pub returns-in-Stopped : goal.returns-in-Stopped
 returns-in-Stopped c =
     let read = c.before.before.before.before.before.before in
     let loop = loop-of read in
-    let a = (given loop).args in
+    let a = loop.args in
     rw c.stopped.ensures
-    (round-stops (asked_at a.table.now) (fits (given loop)) a.stream.now loop.loop.inv (left (to-packet read))
-    read.read_packet-r.ensures _ _ (to-begun loop).first-state.ensures c.in-Stopped.is)
+    (round-stops (asked_at a.table.now) (fits (given loop)) a.stream.now loop.loop-state.invariant (left (to-packet read))
+    read.read_packet-r.ensures _ _ loop.first_state-begun.ensures c.in-Stopped.is)
 
 -- It went on
 
 pub overflow_add-number : goal.overflow_add-number
 overflow_add-number c =
     let loop = loop-of c.before.before.before.before.before.before in
-    let x = loop.loop.inv in
-    omega (arith, x.count, x.starts.within, (given loop).pre.0.small)
+    let x = loop.loop-state.invariant in
+    omega (arith, x.count, x.starts.within, loop.requires.lent.small)
 
 pub loop-state-smaller : goal.loop-state-smaller
 loop-state-smaller c =
     let read = c.before.before.before.before.before.before in
     let loop = loop-of read in
-    let a = (given loop).args in
-    let behind = round-behind (asked_at a.table.now) (fits (given loop)) a.stream.now loop.loop.inv
+    let a = loop.args in
+    let behind = round-behind (asked_at a.table.now) (fits (given loop)) a.stream.now loop.loop-state.invariant
     (left (to-packet read)) read.read_packet-r.ensures c.in-On.is in
     omega (arith, behind.on, left (to-packet read))
 
@@ -162,8 +162,8 @@ pub loop-state-preserved : goal.loop-state-preserved
 loop-state-preserved c =
     let read = c.before.before.before.before.before.before in
     let loop = loop-of read in
-    let a = (given loop).args in
-    round-goes (asked_at a.table.now) (fits (given loop)) a.stream.now loop.loop.inv (left (to-packet read))
+    let a = loop.args in
+    round-goes (asked_at a.table.now) (fits (given loop)) a.stream.now loop.loop-state.invariant (left (to-packet read))
     read.read_packet-r.ensures c.in-On.is
 
 -- No packet is left
@@ -174,5 +174,5 @@ shape_of-list c = part_length c.loop-state.invariant.part
 pub returns : goal.returns
 returns c =
     let loop = last-loop c.before in
-    let a = (given loop).args in
-    loop-end (asked_at a.table.now) (fits (given loop)) a.stream.now loop.loop.inv _ (none_left c.before)
+    let a = loop.args in
+    loop-end (asked_at a.table.now) (fits (given loop)) a.stream.now loop.loop-state.invariant _ (none_left c.before)

@@ -12,16 +12,16 @@ use Rattle.packet_root.proofs.read_root.Reads as reads
 -- Places of the code, in its order: all is given; no root is there; one is; it was read
 
 abbrev AtStart : Type 0
-AtStart = lts.Start tie.the-claims reads.Pre reads.Post
+AtStart = lts.Start tie.the-claims reads.Pre reads.Post tie.handed_clauses
 
 abbrev AtNone : Type 0
-AtNone = lts.Past-After-enum_told tie.the-claims reads.Pre reads.Post
+AtNone = lts.Past-After-enum_told tie.the-claims reads.Pre reads.Post tie.handed_clauses
 
 abbrev AtRoot : Type 0
-AtRoot = lts.Past-After-root tie.the-claims reads.Pre reads.Post
+AtRoot = lts.After-root tie.the-claims reads.Pre reads.Post tie.handed_clauses
 
 abbrev AtRead : Type 0
-AtRead = lts.After-walk_members tie.the-claims reads.Pre reads.Post
+AtRead = lts.After-walk_members tie.the-claims reads.Pre reads.Post tie.handed_clauses
 
 -- The way back from each to the one before
 
@@ -29,9 +29,9 @@ abbrev to-start-from-none : AtNone → AtStart
 to-start-from-none c = c.before.before.before.before.before.before.before
 
 abbrev to_start : AtRoot → AtStart
-to_start c = c.before.before.before.before.before.before.before
+to_start c = c.before.before.before.before.before.before.before.before
 
-abbrev to-root : AtRead → AtRoot
+abbrev to-root : AtRead → AtRead
 to-root c = c
 
 -- What is known at the start
@@ -45,7 +45,7 @@ pub walk_members-requires : goal.walk_members-requires
 walk_members-requires c =
     let root = c.before in
     let p = root.requires in
-    (one-member _ _ _ root.in-At.is p.root_stands, (p.prepared, p.framed))
+    record { whole_members = one-member _ _ _ root.in-At.is p.root_stands; prepared = p.prepared; framed = p.framed }
 
 pub returns-in-Nothing : goal.returns-in-Nothing
 returns-in-Nothing c = no-root _ _ _ _ _ _ (slots-all (to-start-from-none c.before)) c.in-Nothing.is

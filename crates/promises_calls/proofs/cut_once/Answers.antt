@@ -15,5 +15,5 @@ called c = c.before.before
 pub returns : goal.returns
 returns c =
     let b = called c.before.before.before in
-    let a = (start b).args in
+    let a = b.args in
     cut-once a.table.now a.streams.now a.lengths.now a.rooms.now _ _ _ _ _ b.bundle.ensures

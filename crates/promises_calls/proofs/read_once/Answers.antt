@@ -6,4 +6,4 @@ use Rattle.promises_calls.proofs.read_once.Goals as goal
 pub returns : goal.returns
 returns c =
     let a = c.args in
-    (one-call a.table.now a.stream.now _ _ _ c.read.ensures, all-promises)
+    record { one_call = one-call a.table.now a.stream.now _ _ _ c.read.ensures; promises = all-promises }

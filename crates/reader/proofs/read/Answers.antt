@@ -22,10 +22,10 @@ abbrev AtChecked : Type 0
 AtChecked = lts.After-check tie.the-claims reads.Pre reads.Post
 
 abbrev AtRefused : Type 0
-AtRefused = lts.Past-After-number tie.the-claims reads.Pre reads.Post
+AtRefused = lts.After-number tie.the-claims reads.Pre reads.Post
 
 abbrev AtAccepted : Type 0
-AtAccepted = lts.Past-After-length tie.the-claims reads.Pre reads.Post
+AtAccepted = lts.After-length tie.the-claims reads.Pre reads.Post
 
 abbrev AtRead : Type 0
 AtRead = lts.After-read_stream tie.the-claims reads.Pre reads.Post
@@ -36,12 +36,12 @@ abbrev to_start : AtChecked → AtStart
 to_start c = c.before.before.before.before
 
 abbrev to-checked-from-refused : AtRefused → AtChecked
-to-checked-from-refused c = c.before
+to-checked-from-refused c = c.before.before
 
 abbrev to-checked : AtAccepted → AtChecked
-to-checked c = c.before
+to-checked c = c.before.before
 
-abbrev to-accepted : AtRead → AtAccepted
+abbrev to-accepted : AtRead → AtRead
 to-accepted c = c
 
 -- What is known at them: an accepted table is so to its end, and all that is left is the stream
@@ -71,7 +71,7 @@ read_stream-requires c = accepted c.before
 pub returns-in-Refused : goal.returns-in-Refused
 returns-in-Refused c =
     let k = to-checked-from-refused c.before in
-    let a = (to_start k).args in
+    let a = k.args in
     let x = table-answers a.table.now a.stream.now a.list.now _ _ (sym k.check.ensures ∙ c.in-Refused.is) in
     (x.result, x.list)
 

@@ -8,17 +8,17 @@ use Rattle.reader.proofs.read_by.Reads as reads
 
 -- The way back
 
-abbrev start : lts.After-read_packets-arg tie.the-claims reads.Pre reads.Post → lts.Start tie.the-claims reads.Pre reads.Post
+abbrev start : lts.After-read_packets-arg tie.the-claims reads.Pre reads.Post tie.handed_clauses → lts.Start tie.the-claims reads.Pre reads.Post tie.handed_clauses
 start c = c.before.before.before.before.before.before.before.before
 
 -- The needs
 
 pub read_packets-requires : goal.read_packets-requires
-read_packets-requires c = (c.requires.lent, c.requires.hints)
+read_packets-requires c = record { lent = c.requires.lent; hints = c.requires.hints }
 
 pub returns : goal.returns
 returns c =
     let d = c.before.before.before.before in
     let s = start d.before in
-    stream-answers (asked_at s.args.table.now) s.args.stream.now s.args.list.now _ d.read_packets.ensures s.pre.1.0
-    s.pre.0.small c.answer.ensures
+    stream-answers (asked_at s.args.table.now) s.args.stream.now s.args.list.now _ d.read_packets.ensures s.requires.in_bounds
+    s.requires.lent.small c.answer.ensures

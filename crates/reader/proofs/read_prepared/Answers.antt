@@ -16,19 +16,19 @@ use Rattle.reader.proofs.read_prepared.Reads as reads
 
 -- the trace class was looked for
 abbrev AtLooked : Type 0
-AtLooked = lts.After-find_trace_class tie.the-claims reads.Pre reads.Post
+AtLooked = lts.After-find_trace_class tie.the-claims reads.Pre reads.Post tie.handed_clauses
 
 -- it is there
 abbrev AtTrace : Type 0
-AtTrace = lts.Past-After-known_told tie.the-claims reads.Pre reads.Post
+AtTrace = lts.Past-After-known_told tie.the-claims reads.Pre reads.Post tie.handed_clauses
 
 -- its UUID was looked for
 abbrev AtUuid : Type 0
-AtUuid = lts.After-uuid_place tie.the-claims reads.Pre reads.Post
+AtUuid = lts.After-uuid_place tie.the-claims reads.Pre reads.Post tie.handed_clauses
 
 -- The way back
 
-abbrev start : AtLooked → lts.Start tie.the-claims reads.Pre reads.Post
+abbrev start : AtLooked → lts.Start tie.the-claims reads.Pre reads.Post tie.handed_clauses
 start c = c.before.before.before.before.before.before.before
 
 abbrev looked : AtTrace → AtLooked
@@ -55,12 +55,12 @@ small : (c : AtLooked) → length (stream c) ≤ stream_limit
 small c = c.requires.in_bounds.1
 
 -- the UUID lies in the table
-uuid-in : (c : lts.Past-After-known_told2 tie.the-claims reads.Pre reads.Post) → c.in-At-uuid_place.at + 16 ≤ length (table (looked (trace c.before)))
+uuid-in : (c : lts.Past-After-known_told2 tie.the-claims reads.Pre reads.Post tie.handed_clauses) → c.in-At-uuid_place.at + 16 ≤ length (table (looked (trace c.before)))
 uuid-in c =
     let u = c.before in
     let d = trace u in
     let l = looked d in
-    uuid-there (table l) (noted l) (stream l) (ready l) (small l) _ l.find-trace-class.ensures _ d.before.trace.given.1 _
+    uuid-there (table l) (noted l) (stream l) (ready l) (small l) _ l.find_trace_class.ensures _ d.in-At.is _
     u.root_place-header.ensures _ u.uuid_place.ensures _ c.in-At-uuid_place.is
 
 -- The needs
@@ -68,16 +68,13 @@ uuid-in c =
 pub read_by-requires : goal.read_by-requires
 read_by-requires c =
     let l = c.before.before.before.before in
-    let none = c.in-Nothing.is in (
-      lent_none (table l) (noted l) (stream l) (ready l) (small l) _ l.find_trace_class.ensures none,
-      (l.requires.in_bounds.0, l.requires.hints),
-    )
+    let none = c.in-Nothing.is in record { lent = lent_none (table l) (noted l) (stream l) (ready l) (small l) _ l.find_trace_class.ensures none; in_bounds = l.requires.in_bounds.0; hints = l.requires.hints }
 
 pub root_place-header-requires : goal.root_place-header-requires
 root_place-header-requires c =
     let l = looked c.before in
     let g = (ready l).noted.sized in (
-      trace-sized (table l) (noted l) (stream l) (ready l) (small l) _ l.find-trace-class.ensures _ c.in-At.is,
+      trace-sized (table l) (noted l) (stream l) (ready l) (small l) _ l.find_trace_class.ensures _ c.in-At.is,
       g.limit,
       g.room,
     )
@@ -88,18 +85,19 @@ uuid_place-requires c =
     let l = looked d in
     omega (
       arith,
-      trace-there (table l) (noted l) (stream l) (ready l) (small l) _ l.find-trace-class.ensures _ d.in-At.is,
+      trace-there (table l) (noted l) (stream l) (ready l) (small l) _ l.find_trace_class.ensures _ d.in-At.is,
     )
 
 pub read_by-requires-in-Nothing-uuid_place : goal.read_by-requires-in-Nothing-uuid_place
 read_by-requires-in-Nothing-uuid_place c =
     let u = c.before.before.before.before in
     let d = trace u in
-    let l = looked d in (
-      lent-bare (table l) (noted l) (stream l) (ready l) (small l) _ l.find-trace-class.ensures _ d.before.trace.given.1 _
-          u.root_place-header.ensures _ u.uuid_place.ensures c.in-Nothing-uuid_place.is,
-      ((start l).pre.1.0.0, (start l).pre.1.1),
-    )
+    let l = looked d in record {
+      lent = lent-bare (table l) (noted l) (stream l) (ready l) (small l) _ l.find_trace_class.ensures _ d.in-At.is _
+          u.root_place-header.ensures _ u.uuid_place.ensures c.in-Nothing-uuid_place.is;
+      in_bounds = l.requires.in_bounds.0;
+      hints = l.requires.hints;
+    }
 
 pub overflow_add-at : goal.overflow_add-at
 overflow_add-at c =
@@ -114,11 +112,12 @@ read_by-requires-in-At-uuid_place c =
     let k = c.before.before.before in
     let u = k.before in
     let d = trace u in
-    let l = looked d in (
-      lent-uuid (table l) (noted l) (stream l) (ready l) (small l) _ l.find-trace-class.ensures _ d.before.trace.given.1 _
-          u.root_place-header.ensures _ u.uuid_place.ensures _ k.in-At-uuid_place.is,
-      ((start l).pre.1.0.0, (start l).pre.1.1),
-    )
+    let l = looked d in record {
+      lent = lent-uuid (table l) (noted l) (stream l) (ready l) (small l) _ l.find_trace_class.ensures _ d.in-At.is _
+          u.root_place-header.ensures _ u.uuid_place.ensures _ k.in-At-uuid_place.is;
+      in_bounds = l.requires.in_bounds.0;
+      hints = l.requires.hints;
+    }
 
 pub returns-in-Nothing : goal.returns-in-Nothing
 returns-in-Nothing c = c.before.before.read_by_lem.ensures

@@ -13,17 +13,17 @@ use Rattle.reader.proofs.read_stream.Reads as reads
 
 -- the stream's size is not refused
 abbrev AtSized : Type 0
-AtSized = lts.Else2 tie.the-claims reads.Pre reads.Post
+AtSized = lts.Else2 tie.the-claims reads.Pre reads.Post tie.handed_clauses
 
 abbrev AtNoted : Type 0
-AtNoted = lts.After-prepare tie.the-claims reads.Pre reads.Post
+AtNoted = lts.After-prepare tie.the-claims reads.Pre reads.Post tie.handed_clauses
 
 abbrev AtIndexed : Type 0
-AtIndexed = lts.After-make_index tie.the-claims reads.Pre reads.Post
+AtIndexed = lts.After-make_index tie.the-claims reads.Pre reads.Post tie.handed_clauses
 
 -- The way back
 
-abbrev start : AtSized → lts.Start tie.the-claims reads.Pre reads.Post
+abbrev start : AtSized → lts.Start tie.the-claims reads.Pre reads.Post tie.handed_clauses
 start c = c.before.before.before.before.before
 
 abbrev sized : AtNoted → AtSized
@@ -47,8 +47,8 @@ returns-then-stream-gt-STREAM_LIMIT c =
 pub prepare-requires : goal.prepare-requires
 prepare-requires c =
     let s = start c.before.before.before.before.before in
-    let k = (checked-accepts s.args.table.now _ s.pre).limit in
-    (s.pre, (omega (arith, k, c.no_sizes-sizes.ensures), omega (arith, k, c.no_aligns-aligns.ensures)))
+    let k = (checked-accepts s.args.table.now _ s.requires).limit in
+    record { table_value = s.requires; table_in_bounds = (omega (arith, k, c.no_sizes-sizes.ensures), omega (arith, k, c.no_aligns-aligns.ensures)) }
 
 pub make_index-requires : goal.make_index-requires
 make_index-requires c =
@@ -60,10 +60,4 @@ read_prepared-requires c =
     let n = noted i in
     let z = sized n in
     let s = start z in
-    let t = s.args.table.now in (
-      record { noted = n.prepare.ensures.ready; keeps = checked-keeps t _ s.pre },
-      (
-        (omega (arith, z.before.if1.left), z.if2.left),
-        made-hints t _ s.pre i.empty_index-index.ensures i.make_index.ensures,
-      ),
-    )
+    let t = s.args.table.now in record { ready = record { noted = n.prepare.ensures.ready; keeps = checked-keeps t _ s.requires }; in_bounds = (omega (arith, z.if-stream-eq0.false), z.if-stream-gt-STREAM_LIMIT.false); hints = made-hints t _ s.requires i.empty_index-index.ensures i.make_index.ensures }

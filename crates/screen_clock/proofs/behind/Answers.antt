@@ -46,17 +46,17 @@ bytes c =
 pub overflow_add-result : goal.overflow_add-result
 overflow_add-result c =
     let s = start (body c.before) in
-    omega (arith, s.pre, s.good)
+    omega (arith, s.requires, s.well_formed)
 
 pub overflow_add-result-in-Bytes : goal.overflow_add-result-in-Bytes
 overflow_add-result-in-Bytes c =
     let s = start (body c.before) in
-    omega (arith, (bytes c.before).1, s.pre, s.good)
+    omega (arith, (bytes c.before).1, s.requires, s.well_formed)
 
 pub overflow_add-result-in-Unknown : goal.overflow_add-result-in-Unknown
 overflow_add-result-in-Unknown c =
     let s = start c.before.before in
-    omega (arith, s.pre, s.good)
+    omega (arith, s.requires, s.well_formed)
 
 pub returns-in-Bytes : goal.returns-in-Bytes
 returns-in-Bytes c = sym (behind-next c.args.table.now c.args.at ∙ (bytes c.before).0)

@@ -22,8 +22,8 @@ pub returns : goal.returns
 returns c =
     let a = c.args in
     let put = c.put_right in
-    both (shown-as
+    let both = both (shown-as
     (then
     (one_byte a.out.now a.at blank)
     (laid (set a.out.now a.at blank) put.new.out (a.at + 1) put.result (right a.width (decimal a.n)) put.ensures))
-    (column-is a.width (decimal a.n)))
+    (column-is a.width (decimal a.n))) in record { value = both.0; out_after = both.1 }

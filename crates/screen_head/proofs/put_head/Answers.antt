@@ -13,14 +13,14 @@ pub put_column-behind_place-requires : goal.put_column-behind_place-requires
 put_column-behind_place-requires c =
     let a = c.before.before.before.before.before.before in
     let kind = c.put_kind-behind_kind in
-    (omega (arith, a.requires, kind.ensures.value, kind.auto.out, left-length 15 (word a.args.kind), word-length a.args.kind), lit≤ tt)
+    record { at_in_bounds = omega (arith, a.requires, kind.ensures.value, kind.auto.out, left-length 15 (word a.args.kind), word-length a.args.kind); width_bound = lit≤ tt }
 
 pub put_column-behind_bits-requires : goal.put_column-behind_bits-requires
 put_column-behind_bits-requires c =
     let a = c.before.before.before.before.before.before.before.before.before.before in
     let kind = c.put_kind-behind_kind in
-    let column = c.put_column-behind_place in (
-      omega (
+    let column = c.put_column-behind_place in record {
+      at_in_bounds = omega (
         arith,
         a.requires,
         kind.ensures.value,
@@ -30,9 +30,9 @@ put_column-behind_bits-requires c =
         column.ensures.value,
         column.auto.out,
         column-length 10 a.args.place (lit≤ tt),
-      ),
-      lit≤ tt,
-    )
+      );
+      width_bound = lit≤ tt;
+    }
 
 pub put_value-behind_value-requires : goal.put_value-behind_value-requires
 put_value-behind_value-requires c =
@@ -62,8 +62,8 @@ put_column-requires c =
     let kind = c.put_kind-behind_kind in
     let column = c.put_column-behind_place in
     let column2 = c.put_column-behind_bits in
-    let value = c.put_value-behind_value in (
-      omega (
+    let value = c.put_value-behind_value in record {
+      at_in_bounds = omega (
         arith,
         a.requires,
         kind.ensures.value,
@@ -80,9 +80,9 @@ put_column-requires c =
         value.ensures.value,
         value.auto.out,
         value-length a.args.kind a.args.value,
-      ),
-      lit≤ tt,
-    )
+      );
+      width_bound = lit≤ tt;
+    }
 
 pub returns : goal.returns
 unfolding head
@@ -93,10 +93,10 @@ returns c =
     let bits = c.put_column-behind_bits in
     let value = c.put_value-behind_value in
     let number = c.put_column in
-    both
+    let both = both
     (then (then (then (then
     (laid a.out.now kind.new.out a.at kind.result (left 15 (word a.kind)) kind.ensures)
     (laid kind.new.out place.new.out kind.result place.result (column 10 (decimal a.place)) place.ensures))
     (laid place.new.out bits.new.out place.result bits.result (column 9 (decimal a.bits)) bits.ensures))
     (laid bits.new.out value.new.out bits.result value.result (column 21 (value_of_kind a.kind a.value)) value.ensures))
-    (laid value.new.out number.new.out value.result number.result (column 5 (decimal a.number)) number.ensures))
+    (laid value.new.out number.new.out value.result number.result (column 5 (decimal a.number)) number.ensures)) in record { value = both.0; out_after = both.1 }

@@ -23,13 +23,13 @@ pub returns-then-has_sign : goal.returns-then-has_sign
 returns-then-has_sign c =
     let a = c.args in
     let put = c.put_signed_right in
-    both (shown-as
+    let both = both (shown-as
     (then
     (one_byte a.out.now a.at blank)
     (laid (set a.out.now a.at blank) put.new.out (a.at + 1) put.result (right 21 (signed_decimal a.value)) put.ensures))
     (column-is 21 (signed_decimal a.value) ∙ ap (λ x. column 21 x)
     (value-signed a.kind a.value (sym c.has_sign.ensures
-    ∙ c.if-has_sign.true))))
+    ∙ c.if-has_sign.true)))) in record { value = both.0; out_after = both.1 }
 
 pub put_right-requires : goal.put_right-requires
 put_right-requires c =
@@ -45,10 +45,10 @@ pub returns : goal.returns
 returns c =
     let a = c.args in
     let put = c.put_right in
-    both (shown-as
+    let both = both (shown-as
     (then
     (one_byte a.out.now a.at blank)
     (laid (set a.out.now a.at blank) put.new.out (a.at + 1) put.result (right 21 (decimal a.value)) put.ensures))
     (column-is 21 (decimal a.value) ∙ ap (λ x. column 21 x)
     (value-plain a.kind a.value (sym c.has_sign.ensures
-    ∙ c.if-has_sign.false))))
+    ∙ c.if-has_sign.false)))) in record { value = both.0; out_after = both.1 }

@@ -32,7 +32,7 @@ put_meaning-b-requires c =
 
 pub put_bytes-requires : goal.put_bytes-requires
 put_bytes-requires c =
-    let at-put-meaning = c.before.before.before.before.before in
+    let at-put-meaning = c.before.before.before.before.before.before in
     let at-put-head = at-put-meaning.before.before.before.before in
     let s = at-put-head.before.before.before.before in
     omega (
@@ -52,10 +52,10 @@ pub returns : goal.returns
 unfolding line bytes
 returns c =
     let at-put-bytes = c.before.before.before in
-    let at-put-meaning = at-put-bytes.before.before.before.before.before in
+    let at-put-meaning = at-put-bytes.before.before.before.before.before.before in
     let at-put-head = at-put-meaning.before.before.before.before in
     let s = at-put-head.before.before.before.before in
-    both (shown-as
+    let both = both (shown-as
     (then
     (then
     (laid s.args.out.now at-put-head.put_head-a.new.out (0) at-put-head.put_head-a.result
@@ -74,4 +74,4 @@ returns c =
     (same-meaning s.args.sort s.args.stream.now s.args.frequency s.args.kind s.args.place s.args.bits
     s.args.value s.args.number ∙ meant-by s.args.stream.now s.args.frequency
     (five s.args.kind s.args.place s.args.bits s.args.value s.args.number) s.args.sort s.requires.sort_value
-    s.requires.sort_value.1)))
+    s.requires.sort_value.1))) in record { value = both.0; out_after = both.1 }

@@ -20,7 +20,7 @@ put_head-a-requires c =
 
 pub put_bytes-requires : goal.put_bytes-requires
 put_bytes-requires c =
-    let at-put-head = c.before.before.before.before.before in
+    let at-put-head = c.before.before.before.before.before.before in
     let s = at-put-head.before.before.before.before.before in
     omega (
       arith,
@@ -35,10 +35,10 @@ pub returns-then-i-eq0 : goal.returns-then-i-eq0
 unfolding bytes
 returns-then-i-eq0 c =
     let at-put-bytes = c.before.before.before in
-    let at-put-head = at-put-bytes.before.before.before.before.before in
+    let at-put-head = at-put-bytes.before.before.before.before.before.before in
     let at-if1 = at-put-head.before.before in
     let s = at-if1.before.before.before in
-    both (shown-as
+    let both = both (shown-as
     (then
     (laid s.args.out.now at-put-head.put_head-a.new.out (0) at-put-head.put_head-a.result
     (head (five s.args.kind s.args.place s.args.bits s.args.value s.args.number)) (at-put-head.put_head-a.ensures.value, at-put-head.put_head-a.ensures.out_after))
@@ -47,7 +47,7 @@ returns-then-i-eq0 c =
     (bytes "  \"") (at-put-bytes.put_bytes.ensures.value, at-put-bytes.put_bytes.ensures.out_after)))
     (piece-opens (five s.args.kind s.args.place s.args.bits s.args.value s.args.number)
     (bytes_of s.args.stream.now (five s.args.kind s.args.place s.args.bits s.args.value s.args.number))
-    s.args.i at-if1.if-i-eq0.true))
+    s.args.i at-if1.if-i-eq0.true)) in record { value = both.0; out_after = both.1 }
 
 pub overflow_sub-i : goal.overflow_sub-i
 overflow_sub-i c =
@@ -57,16 +57,16 @@ overflow_sub-i c =
 pub put_text_part-requires : goal.put_text_part-requires
 put_text_part-requires c =
     let at-from-of = c.before.before in
-    let s = at-from-of.before.before.before.before.before in (
-      s.requires,
-      omega (
+    let s = at-from-of.before.before.before.before.before in record {
+      in_bounds = s.requires;
+      bytes_in_bounds = omega (
         arith,
         at-from-of.from_of.ensures,
         c.bytes_of.ensures,
         bytes_fit (length s.args.stream.now)
             s.args.place s.args.value,
-      ),
-    )
+      );
+    }
 
 pub returns : goal.returns
 unfolding bytes
@@ -76,7 +76,7 @@ returns c =
     let at-from-of = at-bytes-of.before in
     let at-if1 = at-from-of.before.before in
     let s = at-if1.before.before.before in
-    both (shown-as
+    let both = both (shown-as
     (laid s.args.out.now at-put-text-part.put_text_part.new.out (0) at-put-text-part.put_text_part.result
     (text_part (take at-bytes-of.bytes_of.result (drop at-from-of.from_of.result s.args.stream.now)) (s.args.i - 1))
     (at-put-text-part.put_text_part.ensures.value, at-put-text-part.put_text_part.ensures.out_after))
@@ -87,4 +87,4 @@ returns c =
     (five s.args.kind s.args.place s.args.bits s.args.value s.args.number))
     ∙ piece-behind (five s.args.kind s.args.place s.args.bits s.args.value s.args.number)
     (bytes_of s.args.stream.now (five s.args.kind s.args.place s.args.bits s.args.value s.args.number))
-    s.args.i at-if1.if-i-eq0.false))
+    s.args.i at-if1.if-i-eq0.false)) in record { value = both.0; out_after = both.1 }

@@ -11,7 +11,7 @@ use Rattle.screen_list.proofs.fill.Tie as tie
 use Rattle.screen_list.proofs.fill.Reads as reads
 
 -- The way back from where the entries are counted
-abbrev start : lts.After-entries_in tie.the-claims reads.Pre reads.Post goal.the-invariant-loop-at goal.the-decreases-loop-at → lts.Start tie.the-claims reads.Pre reads.Post goal.the-invariant-loop-at goal.the-decreases-loop-at
+abbrev start : lts.After-entries_in tie.the-claims reads.Pre reads.Post tie.handed_clauses goal.the-invariant-loop-at goal.the-decreases-loop-at → lts.Start tie.the-claims reads.Pre reads.Post tie.handed_clauses goal.the-invariant-loop-at goal.the-decreases-loop-at
 start c = c.before.before.before.before.before
 
 pub loop-at-init : goal.loop-at-init
@@ -47,10 +47,10 @@ returns-else-put c =
     let turn = at-put.before.before in
     let at-entries = turn.before.before in
     let a = at-entries.args in
-    came a.table.now a.stream.now a.list.now a.entries (length a.out.now) a.mark at-entries.entries_in-count.result
+    let both = came a.table.now a.stream.now a.list.now a.entries (length a.out.now) a.mark at-entries.entries_in-count.result
     a.out.now at-put.put_entry-put.new.out _ at-entries.entries_in-count.ensures
     (filling-part turn.loop-at.invariant turn.loop-at-test.true at-put.put_entry-put.ensures.value at-put.put_entry-put.ensures.out_after
-    c.if-put.false)
+    c.if-put.false) in record { value = both.0; out_after = both.1 }
 
 pub loop-at-preserved : goal.loop-at-preserved
 loop-at-preserved c =
@@ -66,6 +66,6 @@ pub returns : goal.returns
 returns c =
     let at-entries = c.before.before.before in
     let a = at-entries.args in
-    came a.table.now a.stream.now a.list.now a.entries (length a.out.now) a.mark at-entries.entries_in-count.result
+    let both = came a.table.now a.stream.now a.list.now a.entries (length a.out.now) a.mark at-entries.entries_in-count.result
     a.out.now c.loop-at.out _ at-entries.entries_in-count.ensures
-    (filling-end c.loop-at.invariant c.loop-at-test.false)
+    (filling-end c.loop-at.invariant c.loop-at-test.false) in record { value = both.0; out_after = both.1 }

@@ -27,7 +27,7 @@ returns c =
     let at-put-piece = c.before.before.before in
     let s = at-put-piece.before.before.before.before in
     let e = five s.args.kind s.args.place s.args.bits s.args.value s.args.number in
-    laid-behind s.args.out.now at-put-piece.put_piece-more.new.out s.args.used at-put-piece.put_piece-more.result
+    let both = laid-behind s.args.out.now at-put-piece.put_piece-more.new.out s.args.used at-put-piece.put_piece-more.result
     (piece s.args.stream.now s.args.frequency e s.args.i) s.requires
     (piece-length s.args.stream.now s.args.frequency e s.args.i) at-put-piece.put_piece-more.ensures.value
-    at-put-piece.put_piece-more.ensures.out_after
+    at-put-piece.put_piece-more.ensures.out_after in record { value = both.0; out_after = both.1 }

@@ -20,7 +20,7 @@ pub shape_of-out-then-out-end-lt-PIECE_ROOM : goal.shape_of-out-then-out-end-lt-
 shape_of-out-then-out-end-lt-PIECE_ROOM c = c.loop-i.invariant.same
 
 pub returns-then-out-end-lt-PIECE_ROOM : goal.returns-then-out-end-lt-PIECE_ROOM
-returns-then-out-end-lt-PIECE_ROOM c = lays-full c.loop-i.invariant c.loop-i-test.true c.if-out-end-lt-PIECE_ROOM.true
+returns-then-out-end-lt-PIECE_ROOM c = let both = lays-full c.loop-i.invariant c.loop-i-test.true c.if-out-end-lt-PIECE_ROOM.true in record { piece_value = both.0; out_after = both.1 }
 
 pub put_at-end-requires : goal.put_at-end-requires
 put_at-end-requires c =
@@ -39,4 +39,4 @@ pub shape_of-out : goal.shape_of-out
 shape_of-out c = c.loop-i.invariant.same
 
 pub returns : goal.returns
-returns c = lays-end c.loop-i.invariant c.loop-i-test.false
+returns c = let both = lays-end c.loop-i.invariant c.loop-i-test.false in record { piece_value = both.0; out_after = both.1 }

@@ -27,6 +27,6 @@ returns c =
     ≡ hidden at_a.byte_before-a.result at_b.byte_before-b.result at_1.byte_at-c.result at-2.byte_at-d.result
     at-3.byte_at-e.result =
     at-hidden.hidden.ensures in
-    same_text a.out.now put.new.out a.at put.result (escaped at-hidden.hidden.result at_1.byte_at-c.result)
+    let both = same_text a.out.now put.new.out a.at put.result (escaped at-hidden.hidden.result at_1.byte_at-c.result)
     (shown_at t a.i)
-    (shown_by t a.i _ _ _ _ _ _ ea eb ec ed ee eh) put.ensures
+    (shown_by t a.i _ _ _ _ _ _ ea eb ec ed ee eh) put.ensures in record { value = both.0; out_after = both.1 }

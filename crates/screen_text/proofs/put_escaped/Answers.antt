@@ -1,7 +1,7 @@
 -- By its digits, behind a backslash, or as it is.
 use mathlib.Core.Path.{◌≡◌, sym, ap, ◌∙◌}
 use native.Mathlib.Omega.{arith}
-use mathlib.Core.List.{◌∷◌, ◌++◌}
+use mathlib.Core.List.{[], ◌∷◌, ◌++◌}
 use Prim.Native.Nat.{◌+◌}
 use lib.ListN.{set, length-set}
 use Rattle.screen_number.specs.Number.{hex}
@@ -34,9 +34,9 @@ returns-then-hidden c =
     let one_on : a.at + 1 + 1 ≡ a.at + 2 = omega arith in
     let first : Laid a.out.now two a.at (a.at + 2) ((92 ∷ []) ++ (120 ∷ [])) =
     rw one_on at (then (one_byte a.out.now a.at 92) (one_byte (set a.out.now a.at 92) (a.at + 1) 120)) in
-    both (shown-as
+    let both = both (shown-as
     (then first (laid two put.new.out (a.at + 2) put.result (hex 2 a.c) put.ensures))
-    (by_digits a.c ∙ ap (λ h. escaped h a.c) (sym c.if-hidden.true)))
+    (by_digits a.c ∙ ap (λ h. escaped h a.c) (sym c.if-hidden.true))) in record { value = both.0; out_after = both.1 }
 
 pub bounds-out-at-then-marked-2 : goal.bounds-out-at-then-marked-2
 bounds-out-at-then-marked-2 c =
@@ -50,13 +50,13 @@ returns-then-marked c =
     let one_on : a.at + 1 + 1 ≡ a.at + 2 = omega arith in
     let first : Laid a.out.now two a.at (a.at + 2) ((92 ∷ []) ++ (a.c ∷ [])) =
     rw one_on at (then (one_byte a.out.now a.at 92) (one_byte (set a.out.now a.at 92) (a.at + 1) a.c)) in
-    both (shown-as first
+    let both = both (shown-as first
     (behind-backslash a.c (sym c.marked.ensures ∙ c.if-marked.true) ∙ ap (λ h. escaped h a.c)
-    (sym c.if-hidden.false)))
+    (sym c.if-hidden.false))) in record { value = both.0; out_after = both.1 }
 
 pub returns : goal.returns
 returns c =
     let a = c.args in
-    both (shown-as
+    let both = both (shown-as
     (one_byte a.out.now a.at a.c)
-    (as-it-is a.c (sym c.marked.ensures ∙ c.if-marked.false) ∙ ap (λ h. escaped h a.c) (sym c.if-hidden.false)))
+    (as-it-is a.c (sym c.marked.ensures ∙ c.if-marked.false) ∙ ap (λ h. escaped h a.c) (sym c.if-hidden.false))) in record { value = both.0; out_after = both.1 }

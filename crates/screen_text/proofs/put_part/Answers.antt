@@ -28,8 +28,8 @@ pub put_byte-end-requires : goal.put_byte-end-requires
 put_byte-end-requires c =
     let at-loop = c.before.before.before in
     let s = at-loop.before.before.before in
-    let a = s.args in (
-      omega (
+    let a = s.args in record {
+      at_in_bounds = omega (
         arith,
         s.requires.n_in_bounds,
         c.loop-shown-test.true,
@@ -37,9 +37,9 @@ put_byte-end-requires c =
         at-loop.loop-shown.invariant.3,
         part_length
             (take a.bytes (drop a.from a.stream.now)) a.done at-loop.loop-shown.shown,
-      ),
-      (s.requires.bytes_in_bounds, omega (arith, s.requires.bytes_in_bounds, c.loop-shown-test.true)),
-    )
+      );
+      bytes_in_bounds = (s.requires.bytes_in_bounds, omega (arith, s.requires.bytes_in_bounds, c.loop-shown-test.true));
+    }
 
 pub overflow_add-shown : goal.overflow_add-shown
 overflow_add-shown c =
@@ -70,8 +70,8 @@ pub returns : goal.returns
 returns c =
     let at-loop = c.before.before in
     let a = at-loop.args in
-    let all : at-loop.loop-shown.shown ≡ a.n = omega (arith, c.loop-shown-test.false, at-loop.loop-shown.invariant.2) in (
-      at-loop.loop-shown.invariant.0 ∙ ap (λ k. a.at + length (part (take a.bytes (drop a.from a.stream.now)) a.done k)) all,
-      at-loop.loop-shown.invariant.1 ∙ ap (λ k. sets a.out.now a.at (part (take a.bytes (drop a.from a.stream.now)) a.done k))
-          all,
-    )
+    let all : at-loop.loop-shown.shown ≡ a.n = omega (arith, c.loop-shown-test.false, at-loop.loop-shown.invariant.2) in record {
+      value = at-loop.loop-shown.invariant.0 ∙ ap (λ k. a.at + length (part (take a.bytes (drop a.from a.stream.now)) a.done k)) all;
+      out_after = at-loop.loop-shown.invariant.1 ∙ ap (λ k. sets a.out.now a.at (part (take a.bytes (drop a.from a.stream.now)) a.done k))
+          all;
+    }

@@ -9,7 +9,7 @@ use Rattle.screen_verdict.proofs.put_accepted.Goals as goal
 pub put_decimal-b-requires : goal.put_decimal-b-requires
 put_decimal-b-requires c =
     let at-p1 = c.before.before.before in
-    let s = at-p1.before.before.before.before in
+    let s = at-p1.before.before.before.before.before in
     let a = s.args in
     omega (
       arith,
@@ -21,9 +21,9 @@ put_decimal-b-requires c =
 
 pub put_bytes-c-requires : goal.put_bytes-c-requires
 put_bytes-c-requires c =
-    let at-p2 = c.before.before.before.before in
+    let at-p2 = c.before.before.before.before.before in
     let at-p1 = at-p2.before.before.before.before in
-    let s = at-p1.before.before.before.before in
+    let s = at-p1.before.before.before.before.before in
     let a = s.args in
     omega (
       arith,
@@ -38,9 +38,9 @@ put_bytes-c-requires c =
 pub put_decimal-d-requires : goal.put_decimal-d-requires
 put_decimal-d-requires c =
     let at-p3 = c.before.before.before in
-    let at-p2 = at-p3.before.before.before.before.before in
+    let at-p2 = at-p3.before.before.before.before.before.before in
     let at-p1 = at-p2.before.before.before.before in
-    let s = at-p1.before.before.before.before in
+    let s = at-p1.before.before.before.before.before in
     let a = s.args in
     omega (
       arith,
@@ -57,11 +57,11 @@ put_decimal-d-requires c =
 
 pub put_bytes-requires : goal.put_bytes-requires
 put_bytes-requires c =
-    let at-p4 = c.before.before.before.before in
+    let at-p4 = c.before.before.before.before.before in
     let at-p3 = at-p4.before.before.before.before in
-    let at-p2 = at-p3.before.before.before.before.before in
+    let at-p2 = at-p3.before.before.before.before.before.before in
     let at-p1 = at-p2.before.before.before.before in
-    let s = at-p1.before.before.before.before in
+    let s = at-p1.before.before.before.before.before in
     let a = s.args in
     omega (
       arith,
@@ -82,18 +82,18 @@ pub returns : goal.returns
 unfolding accepted_line bytes
 returns c =
     let at-p5 = c.before.before.before in
-    let at-p4 = at-p5.before.before.before.before.before in
+    let at-p4 = at-p5.before.before.before.before.before.before in
     let at-p3 = at-p4.before.before.before.before in
-    let at-p2 = at-p3.before.before.before.before.before in
+    let at-p2 = at-p3.before.before.before.before.before.before in
     let at-p1 = at-p2.before.before.before.before in
-    let s = at-p1.before.before.before.before in
+    let s = at-p1.before.before.before.before.before in
     let a = s.args in
     let p1 = at-p1.put_bytes-a in
     let p2 = at-p2.put_decimal-b in
     let p3 = at-p3.put_bytes-c in
     let p4 = at-p4.put_decimal-d in
     let p5 = at-p5.put_bytes in
-    both
+    let both = both
     (then
     (then
     (then
@@ -107,4 +107,4 @@ returns c =
     (laid p3.new.out p4.new.out p3.result p4.result
     (decimal a.place) p4.ensures))
     (laid p4.new.out p5.new.out p4.result p5.result
-    (bytes " bits\n") p5.ensures))
+    (bytes " bits\n") p5.ensures)) in record { value = both.0; out_after = both.1 }

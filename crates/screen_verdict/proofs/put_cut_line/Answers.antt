@@ -24,7 +24,7 @@ put_reason-b-requires c =
 
 pub put_bytes-requires : goal.put_bytes-requires
 put_bytes-requires c =
-    let at-p2 = c.before.before.before.before in
+    let at-p2 = c.before.before.before.before.before in
     let at-p1 = at-p2.before.before.before.before in
     let s = at-p1.before.before.before in
     let a = s.args in
@@ -43,16 +43,16 @@ pub returns : goal.returns
 unfolding cut_refused bytes
 returns c =
     let at-p3 = c.before.before.before in
-    let at-p2 = at-p3.before.before.before.before.before in
+    let at-p2 = at-p3.before.before.before.before.before.before in
     let at-p1 = at-p2.before.before.before.before in
     let s = at-p1.before.before.before in
     let a = s.args in
     let p1 = at-p1.put_refused_at-a in
     let p2 = at-p2.put_reason-b in
     let p3 = at-p3.put_bytes in
-    both
+    let both = both
     (then
     (then
     (laid a.out.now p1.new.out (0) p1.result (refused_at 20 (unit 20) a.byte) p1.ensures)
     (laid p1.new.out p2.new.out p1.result p2.result (reason 20 a.byte a.number 0) p2.ensures))
-    (laid p2.new.out p3.new.out p2.result p3.result (bytes "\n") p3.ensures))
+    (laid p2.new.out p3.new.out p2.result p3.result (bytes "\n") p3.ensures)) in record { value = both.0; out_after = both.1 }

@@ -49,7 +49,7 @@ returns c =
     let p1 = at-p1.put_refused_at-a in
     let p2 = at-p2.put_reason-b in
     let p3 = at-p3.put_listed in
-    both
+    let both = both
     (then
     (then
     (laid a.out.now p1.new.out (0) p1.result
@@ -57,4 +57,4 @@ returns c =
     (laid p1.new.out p2.new.out p1.result p2.result
     (reason a.number a.place a.first a.second) p2.ensures))
     (laid p2.new.out p3.new.out p2.result p3.result
-    (listed a.entries) p3.ensures))
+    (listed a.entries) p3.ensures)) in record { value = both.0; out_after = both.1 }

@@ -10,7 +10,7 @@ use Rattle.screen_verdict.proofs.put_refused_at.Goals as goal
 pub put_decimal-b-requires : goal.put_decimal-b-requires
 put_decimal-b-requires c =
     let at-p1 = c.before.before.before in
-    let s = at-p1.before.before.before.before in
+    let s = at-p1.before.before.before.before.before in
     let a = s.args in
     omega (
       arith,
@@ -24,7 +24,7 @@ pub put_unit-c-requires : goal.put_unit-c-requires
 put_unit-c-requires c =
     let at-p2 = c.before.before.before in
     let at-p1 = at-p2.before.before.before.before in
-    let s = at-p1.before.before.before.before in
+    let s = at-p1.before.before.before.before.before in
     let a = s.args in
     omega (
       arith,
@@ -42,7 +42,7 @@ put_decimal-d-requires c =
     let at-p3 = c.before.before.before in
     let at-p2 = at-p3.before.before.before.before in
     let at-p1 = at-p2.before.before.before.before in
-    let s = at-p1.before.before.before.before in
+    let s = at-p1.before.before.before.before.before in
     let a = s.args in
     omega (
       arith,
@@ -60,11 +60,11 @@ put_decimal-d-requires c =
 
 pub put_bytes-requires : goal.put_bytes-requires
 put_bytes-requires c =
-    let at-p4 = c.before.before.before.before in
+    let at-p4 = c.before.before.before.before.before in
     let at-p3 = at-p4.before.before.before.before in
     let at-p2 = at-p3.before.before.before.before in
     let at-p1 = at-p2.before.before.before.before in
-    let s = at-p1.before.before.before.before in
+    let s = at-p1.before.before.before.before.before in
     let a = s.args in
     omega (
       arith,
@@ -86,18 +86,18 @@ pub returns : goal.returns
 unfolding refused_at bytes
 returns c =
     let at-p5 = c.before.before.before in
-    let at-p4 = at-p5.before.before.before.before.before in
+    let at-p4 = at-p5.before.before.before.before.before.before in
     let at-p3 = at-p4.before.before.before.before in
     let at-p2 = at-p3.before.before.before.before in
     let at-p1 = at-p2.before.before.before.before in
-    let s = at-p1.before.before.before.before in
+    let s = at-p1.before.before.before.before.before in
     let a = s.args in
     let p1 = at-p1.put_bytes-a in
     let p2 = at-p2.put_decimal-b in
     let p3 = at-p3.put_unit-c in
     let p4 = at-p4.put_decimal-d in
     let p5 = at-p5.put_bytes in
-    both
+    let both = both
     (then
     (then
     (then
@@ -111,4 +111,4 @@ returns c =
     (laid p3.new.out p4.new.out p3.result p4.result
     (decimal a.place) p4.ensures))
     (laid p4.new.out p5.new.out p4.result p5.result
-    (bytes ": ") p5.ensures))
+    (bytes ": ") p5.ensures)) in record { value = both.0; out_after = both.1 }

@@ -11,7 +11,7 @@ use Rattle.screen_verdict.proofs.put_refused_table.Goals as goal
 pub put_decimal-b-requires : goal.put_decimal-b-requires
 put_decimal-b-requires c =
     let at-p1 = c.before.before.before in
-    let s = at-p1.before.before.before.before in
+    let s = at-p1.before.before.before.before.before in
     let a = s.args in
     omega (
       arith,
@@ -23,9 +23,9 @@ put_decimal-b-requires c =
 
 pub put_bytes-c-requires : goal.put_bytes-c-requires
 put_bytes-c-requires c =
-    let at-p2 = c.before.before.before.before in
+    let at-p2 = c.before.before.before.before.before in
     let at-p1 = at-p2.before.before.before.before in
-    let s = at-p1.before.before.before.before in
+    let s = at-p1.before.before.before.before.before in
     let a = s.args in
     omega (
       arith,
@@ -40,9 +40,9 @@ put_bytes-c-requires c =
 pub put_decimal-d-requires : goal.put_decimal-d-requires
 put_decimal-d-requires c =
     let at-p3 = c.before.before.before in
-    let at-p2 = at-p3.before.before.before.before.before in
+    let at-p2 = at-p3.before.before.before.before.before.before in
     let at-p1 = at-p2.before.before.before.before in
-    let s = at-p1.before.before.before.before in
+    let s = at-p1.before.before.before.before.before in
     let a = s.args in
     omega (
       arith,
@@ -59,11 +59,11 @@ put_decimal-d-requires c =
 
 pub put_bytes-e-requires : goal.put_bytes-e-requires
 put_bytes-e-requires c =
-    let at-p4 = c.before.before.before.before in
+    let at-p4 = c.before.before.before.before.before in
     let at-p3 = at-p4.before.before.before.before in
-    let at-p2 = at-p3.before.before.before.before.before in
+    let at-p2 = at-p3.before.before.before.before.before.before in
     let at-p1 = at-p2.before.before.before.before in
-    let s = at-p1.before.before.before.before in
+    let s = at-p1.before.before.before.before.before in
     let a = s.args in
     omega (
       arith,
@@ -83,11 +83,11 @@ put_bytes-e-requires c =
 pub put_fault-f-requires : goal.put_fault-f-requires
 put_fault-f-requires c =
     let at-p5 = c.before.before.before in
-    let at-p4 = at-p5.before.before.before.before.before in
+    let at-p4 = at-p5.before.before.before.before.before.before in
     let at-p3 = at-p4.before.before.before.before in
-    let at-p2 = at-p3.before.before.before.before.before in
+    let at-p2 = at-p3.before.before.before.before.before.before in
     let at-p1 = at-p2.before.before.before.before in
-    let s = at-p1.before.before.before.before in
+    let s = at-p1.before.before.before.before.before in
     let a = s.args in
     omega (
       arith,
@@ -109,13 +109,13 @@ put_fault-f-requires c =
 
 pub put_bytes-requires : goal.put_bytes-requires
 put_bytes-requires c =
-    let at-p6 = c.before.before.before.before in
+    let at-p6 = c.before.before.before.before.before in
     let at-p5 = at-p6.before.before.before.before in
-    let at-p4 = at-p5.before.before.before.before.before in
+    let at-p4 = at-p5.before.before.before.before.before.before in
     let at-p3 = at-p4.before.before.before.before in
-    let at-p2 = at-p3.before.before.before.before.before in
+    let at-p2 = at-p3.before.before.before.before.before.before in
     let at-p1 = at-p2.before.before.before.before in
-    let s = at-p1.before.before.before.before in
+    let s = at-p1.before.before.before.before.before in
     let a = s.args in
     omega (
       arith,
@@ -141,13 +141,13 @@ pub returns : goal.returns
 unfolding refused_table refused_at bytes
 returns c =
     let at-p7 = c.before.before.before in
-    let at-p6 = at-p7.before.before.before.before.before in
+    let at-p6 = at-p7.before.before.before.before.before.before in
     let at-p5 = at-p6.before.before.before.before in
-    let at-p4 = at-p5.before.before.before.before.before in
+    let at-p4 = at-p5.before.before.before.before.before.before in
     let at-p3 = at-p4.before.before.before.before in
-    let at-p2 = at-p3.before.before.before.before.before in
+    let at-p2 = at-p3.before.before.before.before.before.before in
     let at-p1 = at-p2.before.before.before.before in
-    let s = at-p1.before.before.before.before in
+    let s = at-p1.before.before.before.before.before in
     let a = s.args in
     let p1 = at-p1.put_bytes-a in
     let p2 = at-p2.put_decimal-b in
@@ -156,7 +156,7 @@ returns c =
     let p5 = at-p5.put_bytes-e in
     let p6 = at-p6.put_fault-f in
     let p7 = at-p7.put_bytes in
-    both
+    let both = both
     (then
     (then
     (then
@@ -176,4 +176,4 @@ returns c =
     (laid p5.new.out p6.new.out p5.result p6.result
     (fault a.number) p6.ensures))
     (laid p6.new.out p7.new.out p6.result p7.result
-    (bytes "\n") p7.ensures))
+    (bytes "\n") p7.ensures)) in record { value = both.0; out_after = both.1 }

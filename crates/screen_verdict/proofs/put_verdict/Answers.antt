@@ -4,7 +4,7 @@ use Rattle.screen_verdict.proofs.Lines.{too_small, line-laid, verdict-accepted, 
 use Rattle.screen_verdict.proofs.put_verdict.Goals as goal
 
 pub returns-then-out-lt-LINE_ROOM : goal.returns-then-out-lt-LINE_ROOM
-returns-then-out-lt-LINE_ROOM c = too_small c.args.out.now (verdict c.args.r) c.if-out-lt-LINE_ROOM.true
+returns-then-out-lt-LINE_ROOM c = let both = too_small c.args.out.now (verdict c.args.r) c.if-out-lt-LINE_ROOM.true in record { value = both.0; out_after = both.1 }
 
 pub returns-then-r-eq0 : goal.returns-then-r-eq0
 returns-then-r-eq0 c =
@@ -12,8 +12,8 @@ returns-then-r-eq0 c =
     let at-if1 = at-if2.before.before in
     let a = at-if1.args in
     let put = c.put_accepted in
-    line-laid a.out.now put.new.out (accepted_line a.r.entries a.r.place) (verdict a.r) put.result
-    at-if1.if-out-lt-LINE_ROOM.false (verdict-accepted a.r at-if2.if-r-eq0.true) put.ensures
+    let both = line-laid a.out.now put.new.out (accepted_line a.r.entries a.r.place) (verdict a.r) put.result
+    at-if1.if-out-lt-LINE_ROOM.false (verdict-accepted a.r at-if2.if-r-eq0.true) put.ensures in record { value = both.0; out_after = both.1 }
 
 pub returns : goal.returns
 returns c =
@@ -21,6 +21,6 @@ returns c =
     let at-if1 = at-if2.before.before in
     let a = at-if1.args in
     let put = c.put_refused in
-    line-laid a.out.now put.new.out (refused_line a.r.number a.r.entries a.r.place a.r.first a.r.second)
+    let both = line-laid a.out.now put.new.out (refused_line a.r.number a.r.entries a.r.place a.r.first a.r.second)
     (verdict a.r) put.result
-    at-if1.if-out-lt-LINE_ROOM.false (verdict-refused a.r at-if2.if-r-eq0.false) put.ensures
+    at-if1.if-out-lt-LINE_ROOM.false (verdict-refused a.r at-if2.if-r-eq0.false) put.ensures in record { value = both.0; out_after = both.1 }

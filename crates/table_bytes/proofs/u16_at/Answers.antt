@@ -21,4 +21,4 @@ returns c =
     let low = c.wide.ensures in
     let high = c.wide-2.ensures in
     let s = start (first c.before) in
-    (omega (arith, two s.args.table.now s.args.at s.pre, low.0, high.0), omega (arith, low.1, high.1))
+    (omega (arith, two s.args.table.now s.args.at s.requires, low.0, high.0), omega (arith, low.1, high.1))

@@ -72,13 +72,13 @@ returns c =
     let s = start a in
     omega (
       arith,
-      eight s.args.table.now s.args.at s.pre,
+      eight s.args.table.now s.args.at s.requires,
       a.wide64.ensures.0,
-      b.wide642.ensures.0,
-      d.wide643.ensures.0,
-      e.wide644.ensures.0,
-      f.wide645.ensures.0,
-      g.wide646.ensures.0,
-      h.wide647.ensures.0,
+      b.wide64-2.ensures.0,
+      d.wide64-3.ensures.0,
+      e.wide64-4.ensures.0,
+      f.wide64-5.ensures.0,
+      g.wide64-6.ensures.0,
+      h.wide64-7.ensures.0,
       c.wide64-8.ensures.0,
     )

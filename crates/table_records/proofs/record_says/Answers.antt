@@ -99,8 +99,8 @@ last-kind : (c : AtLast) → c.byte-k.result ≡ 32
 unfolding None
 last-kind c =
     let k = kind (read c) in
-    let p = (start k).pre.1 in
-    omega (arith, none_above 16 k.byte.result (rw k.byte.ensures p.0) c.in_default.in_default-own.rest, k.byte.ensures, p.1)
+    let p = k.requires.1 in
+    omega (arith, none_above 16 k.byte-k.result (rw k.byte-k.ensures p.0) c.in_default.in_default-own.rest, k.byte-k.ensures, p.1)
 
 -- The bytes
 

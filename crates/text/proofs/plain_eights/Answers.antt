@@ -46,10 +46,10 @@ eight_plain-requires c = omega arith
 pub returns-else-eight_plain : goal.returns-else-eight_plain
 returns-else-eight_plain c =
     let turn = to-turn c.before.before in
-    let a = (to_start turn).args in
-    let inv = turn.before.loop.inv in
+    let a = turn.args in
+    let inv = turn.loop-passed.invariant in
     let few = sym c.eight_plain.ensures ∙ c.if-eight_plain.false in
-    eights-few a.stream.now a.from a.bytes _ inv.2 inv.1 turn.loop-test.taken few
+    eights-few a.stream.now a.from a.bytes _ inv.2 inv.1 turn.loop-passed-test.true few
 
 pub overflow_add-passed : goal.overflow_add-passed
 overflow_add-passed c = omega arith
@@ -60,10 +60,10 @@ loop-passed-smaller c = omega arith
 pub loop-passed-preserved : goal.loop-passed-preserved
 loop-passed-preserved c =
     let turn = to-turn c.before.before in
-    let a = (to_start turn).args in
-    let inv = turn.before.loop.inv in
+    let a = turn.args in
+    let inv = turn.loop-passed.invariant in
     let all = sym c.eight_plain.ensures ∙ c.if-eight_plain.true in
-    (omega arith, omega arith, eight-more a.stream.now a.from a.bytes _ inv.2 turn.loop-test.taken all)
+    (omega arith, omega arith, eight-more a.stream.now a.from a.bytes _ inv.2 turn.loop-passed-test.true all)
 
 pub returns : goal.returns
 returns c =

@@ -65,7 +65,7 @@ bounds-stream-from-in-loop-passed c = omega arith
 pub returns-then-stream-from-ge128 : goal.returns-then-stream-from-ge128
 returns-then-stream-from-ge128 c =
     let turn = to-turn c.before.before.before in
-    passed-high _ _ _ (given turn).pre _ turn.loop-test.taken turn.before.loop.inv.1 c.if-stream-from-ge128.true
+    passed-high _ _ _ turn.requires _ turn.loop-passed-test.true turn.loop-passed.invariant.1 c.if-stream-from-ge128.true
 
 pub overflow_add-passed : goal.overflow_add-passed
 overflow_add-passed c = omega arith
@@ -78,7 +78,7 @@ loop-passed-preserved c =
     let there = c.before.before.before in
     let turn = to-turn there in (
       omega arith,
-      passed-more _ _ _ (given turn).pre _ turn.loop-test.taken turn.before.loop.inv.1 there.if-stream-from-eq0.false c.if-stream-from-ge128.false,
+      passed-more _ _ _ turn.requires _ turn.loop-passed-test.true turn.loop-passed.invariant.1 there.if-stream-from-eq0.false c.if-stream-from-ge128.false,
     )
 
 pub returns : goal.returns

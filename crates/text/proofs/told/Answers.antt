@@ -63,20 +63,20 @@ plain_in c =
 rest_in : (c : AtRest) → c.text_from-rest.result ≤ c.args.bytes - c.plain_from-plain.result
 rest_in c =
     let plain = passed c in
-    let a = (to_start plain).args in
-    let n = plain.plain-from.result in
+    let a = plain.args in
+    let n = plain.plain_from-plain.result in
     text-fits a.stream.now (a.at + n) (a.bytes - n) _ c.text_from-rest.ensures
 
 -- What was tried says what the text is
 
-reads_as : (c : AtFormed) → let rest = to-rest c in let plain = passed rest in let a = (to_start plain).args in
-    record { count = byte_length (plain.plain-from.result + rest.text-from.result); formed = c.formed.result }
+reads_as : (c : AtFormed) → let rest = to-rest c in let plain = passed rest in let a = plain.args in
+    record { count = byte_length (plain.plain_from-plain.result + rest.text_from-rest.result); formed = c.formed.result }
     ≡ text_of (part a.stream.now a.at a.bytes)
 reads_as c =
     let rest = to-rest c in
     let plain = passed rest in
-    let a = (to_start plain).args in
-    plain-before a.stream.now a.at a.bytes _ plain.plain-from.ensures _ _ rest.text-from.ensures c.formed.ensures
+    let a = plain.args in
+    plain-before a.stream.now a.at a.bytes _ plain.plain_from-plain.ensures _ _ rest.text_from-rest.ensures c.formed.ensures
 
 -- The needs: the plain bytes
 
@@ -97,9 +97,9 @@ returns-then-stream-from-eq0 c =
     let plain = to-plain c.before.before.before in
     let start = to_start plain in
     let a = start.args in
-    let more : plain.plain-from.result < a.bytes = omega (arith, plain_in plain) in
+    let more : plain.plain_from-plain.result < a.bytes = omega (arith, plain_in plain) in
     text-counted _ _ _ true
-    (plain-ended a.stream.now a.at a.bytes _ plain.plain-from.ensures start.pre more c.if-stream-from-eq0.true) refl
+    (plain-ended a.stream.now a.at a.bytes _ plain.plain_from-plain.ensures start.requires more c.if-stream-from-eq0.true) refl
 
 -- The rest
 
@@ -123,12 +123,12 @@ returns-then-formed c =
 pub overflow_add-result : goal.overflow_add-result
 overflow_add-result c =
     let rest = to-rest c.before.before in
-    omega (arith, (to_start (passed rest)).well-formed, (to_start (passed rest)).requires)
+    omega (arith, rest.well_formed, rest.requires)
 
 pub overflow_add-result-2 : goal.overflow_add-result-2
 overflow_add-result-2 c =
     let rest = to-rest c.before.before in
-    omega (arith, (to_start (passed rest)).well-formed, (to_start (passed rest)).requires, plain_in (passed rest), rest_in rest)
+    omega (arith, rest.well_formed, rest.requires, plain_in (passed rest), rest_in rest)
 
 pub returns : goal.returns
 returns c =

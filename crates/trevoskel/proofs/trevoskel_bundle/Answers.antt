@@ -8,7 +8,7 @@ use Rattle.trevoskel.proofs.trevoskel_bundle.Tie as tie
 use Rattle.trevoskel.proofs.trevoskel_bundle.Reads as reads
 
 -- the bundle, where its answer is taken apart
-abbrev called : lts.After-slice_known5 tie.the-claims reads.Pre reads.Post → lts.After-bundle tie.the-claims reads.Pre reads.Post
+abbrev called : lts.After-slice_known5 tie.the-claims reads.Pre reads.Post tie.handed_clauses → lts.After-bundle tie.the-claims reads.Pre reads.Post tie.handed_clauses
 called c = c.before.before.before.before
 
 pub returns-in-Written : goal.returns-in-Written

@@ -10,11 +10,11 @@ unfolding checked_words checked_number checked_byte
 returns-in-Accepted c =
     let at-check = c.before.before.before.before.before.before in
     let at-answer = c.before.before.before in
-    answered _ _ _ (sym at-check.check.ensures ∙ c.in-Accepted.is) (at-answer.answer_check.ensures.number, at-answer.answer_check.ensures.res)
+    let both = answered _ _ _ (sym at-check.check.ensures ∙ c.in-Accepted.is) (at-answer.answer_check.ensures.number, at-answer.answer_check.ensures.res) in record { number = both.0; res = both.1 }
 
 pub returns-in-Refused : goal.returns-in-Refused
 unfolding checked_words checked_number checked_byte
 returns-in-Refused c =
     let at-check = c.before.before.before.before.before.before in
     let at-answer = c.before.before.before in
-    answered _ _ _ (sym at-check.check.ensures ∙ c.in-Refused.is) (at-answer.answer_check-in-Refused.ensures.number, at-answer.answer_check-in-Refused.ensures.res)
+    let both = answered _ _ _ (sym at-check.check.ensures ∙ c.in-Refused.is) (at-answer.answer_check-in-Refused.ensures.number, at-answer.answer_check-in-Refused.ensures.res) in record { number = both.0; res = both.1 }

@@ -10,4 +10,4 @@ unfolding result_words
 returns c =
     let at_read = c.before.before.before.before.before.before.before.before.before.before in
     let told = at_read.read-r.ensures in
-    (ap (λ (r : Result). r.number) told.0, (told.1, resulted _ _ _ told.0 c.write.ensures))
+    record { number = ap (λ (r : Result). r.number) told.0; list = told.1; res = resulted _ _ _ told.0 c.write.ensures }

@@ -7,14 +7,13 @@ use lib.ListN.{length, get_or, set, length-set}
 use Rattle.trevoskel_words.proofs.Front.{front-more, front-words, front-room}
 use Rattle.trevoskel_words.proofs.write.Goals as goal
 use Rattle.trevoskel_words.proofs.write.Lts as lts
-use Rattle.trevoskel_words.proofs.write.Tie as tie
 use Rattle.trevoskel_words.proofs.write.Reads as reads
 
-room : (c : lts.Then1 tie.the-claims reads.Pre reads.Post goal.the-invariant-loop-i goal.the-decreases-loop-i → c.before.before.loop.i < length c.before.before.loop.result
-room c = ltb-true _ _ c.if1.true
+room : (c : lts.Then1 reads.Pre reads.Post goal.the-invariant-loop-i goal.the-decreases-loop-i) → c.loop-i.i < length c.loop-i.result
+room c = ltb-true _ _ c.if-i-res.true
 
-full : (c : lts.Else1 tie.the-claims reads.Pre reads.Post goal.the-invariant-loop-i goal.the-decreases-loop-i → length c.before.before.before.args.res.now ≤ c.before.before.loop.i
-full c = omega (arith, ltb-false c.before.before.loop.i (length c.before.before.loop.result) c.if1.false)
+full : (c : lts.Else1 reads.Pre reads.Post goal.the-invariant-loop-i goal.the-decreases-loop-i) → length c.args.res.now ≤ c.loop-i.i
+full c = omega (arith, ltb-false c.loop-i.i (length c.loop-i.result) c.if-i-res.false)
 
 pub loop-i-init : goal.loop-i-init
 loop-i-init c = (refl, omega arith, omega arith, refl)

@@ -13,7 +13,7 @@ shape_of-homes-else-is_a c = c.loop-todo.invariant.0 ∙ sym c.requires.1
 pub returns-else-is_a : goal.returns-else-is_a
 returns-else-is_a c =
     let l = c.before.before.before.before in
-    roots-stopped _ _ _ _ l.left_from-todo.ensures _ _ _ l.loop-todo.invariant.1 (sym c.is_a.ensures ∙ c.if-is_a.false)
+    let both = roots-stopped _ _ _ _ l.left_from-todo.ensures _ _ _ l.loop-todo.invariant.1 (sym c.is_a.ensures ∙ c.if-is_a.false) in record { place = both.0; set = both.1 }
 
 pub overflow_add-next : goal.overflow_add-next
 overflow_add-next c =
@@ -46,4 +46,4 @@ pub shape_of-homes : goal.shape_of-homes
 shape_of-homes c = c.loop-todo.invariant.0 ∙ sym c.requires.1
 
 pub returns : goal.returns
-returns c = let l = c.before.before in roots-ended _ _ _ _ l.left_from-todo.ensures _ _ _ l.loop-todo.invariant.1 c.loop-todo-test.false
+returns c = let l = c.before.before in let both = roots-ended _ _ _ _ l.left_from-todo.ensures _ _ _ l.loop-todo.invariant.1 c.loop-todo-test.false in record { place = both.0; set = both.1 }

@@ -17,37 +17,37 @@ use Rattle.field_inside.proofs.look.look.Reads as reads
 -- array, and its alignment was; of a dynamic one, its slot holds a length, and its alignment was; of an optional; of a variant
 
 abbrev AtStart : Type 0
-AtStart = lts.Start tie.the-claims reads.Pre reads.Post
+AtStart = lts.Start tie.the-claims reads.Pre reads.Post tie.handed_clauses
 
 abbrev AtKind : Type 0
-AtKind = lts.After-shared_slice_known4 tie.the-claims reads.Pre reads.Post
+AtKind = lts.After-shared_slice_known4 tie.the-claims reads.Pre reads.Post tie.handed_clauses
 
 abbrev AtStructure : Type 0
-AtStructure = lts.Past-At-match-keys1 tie.the-claims reads.Pre reads.Post
+AtStructure = lts.Past-At-match-keys1 tie.the-claims reads.Pre reads.Post tie.handed_clauses
 
 abbrev AtStructureAlign : Type 0
-AtStructureAlign = lts.After-align_of tie.the-claims reads.Pre reads.Post
+AtStructureAlign = lts.After-align_of tie.the-claims reads.Pre reads.Post tie.handed_clauses
 
 abbrev AtArray : Type 0
-AtArray = lts.Past-At-match-keys2 tie.the-claims reads.Pre reads.Post
+AtArray = lts.Past-At-match-keys2 tie.the-claims reads.Pre reads.Post tie.handed_clauses
 
 abbrev AtArrayAlign : Type 0
-AtArrayAlign = lts.After-align_of2 tie.the-claims reads.Pre reads.Post
+AtArrayAlign = lts.After-align_of2 tie.the-claims reads.Pre reads.Post tie.handed_clauses
 
 abbrev AtDynamic : Type 0
-AtDynamic = lts.Past-At-match-keys3 tie.the-claims reads.Pre reads.Post
+AtDynamic = lts.Past-At-match-keys3 tie.the-claims reads.Pre reads.Post tie.handed_clauses
 
 abbrev AtLength : Type 0
-AtLength = lts.Past-After-known_told2 tie.the-claims reads.Pre reads.Post
+AtLength = lts.Past-After-known_told2 tie.the-claims reads.Pre reads.Post tie.handed_clauses
 
 abbrev AtLengthAlign : Type 0
-AtLengthAlign = lts.After-align_of3 tie.the-claims reads.Pre reads.Post
+AtLengthAlign = lts.After-align_of3 tie.the-claims reads.Pre reads.Post tie.handed_clauses
 
 abbrev AtOptional : Type 0
-AtOptional = lts.Past-At-match-keys4 tie.the-claims reads.Pre reads.Post
+AtOptional = lts.Past-At-match-keys4 tie.the-claims reads.Pre reads.Post tie.handed_clauses
 
 abbrev AtVariant : Type 0
-AtVariant = lts.Past-At-match-rest tie.the-claims reads.Pre reads.Post
+AtVariant = lts.Past-At-match-rest tie.the-claims reads.Pre reads.Post tie.handed_clauses
 
 -- The way back from each to the one before
 
@@ -196,14 +196,14 @@ unfolding u8 align_noted
 returns-in-28 c =
     let d = to-structure c.before.before in
     rw (c.members.ensures, c.align_of.ensures.0, c.count_at.ensures.0)
-    (inside-structure _ (noted (structure-kind d)) _ _ _ _ d.match.keys1)
+    (inside-structure _ (noted (structure-kind d)) _ _ _ _ d.in-28.is)
 
 pub returns-in-29 : goal.returns-in-29
 unfolding u8 align_noted
 returns-in-29 c =
     let d = to-array c.before.before in
     rw (c.elements.ensures, c.align_of-in-29.ensures.0, c.u16_at.ensures.0)
-    (inside-array _ (noted (array_kind d)) _ _ _ _ d.match.keys2)
+    (inside-array _ (noted (array_kind d)) _ _ _ _ d.in-29.is)
 
 pub returns-in-NotOf : goal.returns-in-NotOf
 unfolding u8
@@ -218,8 +218,8 @@ returns-in-Of c =
     let n = to-length c.before.before in
     let d = to-dynamic n in
     rw (c.elements-in-Of.ensures, c.align_of-in-Of.ensures.0)
-    (inside-dynamic _ (noted (dynamic-kind d)) _ _ _ _ _ d.match.keys3
-    (sym n.before.before.before.length-of.ensures ∙ n.before.n.given.1))
+    (inside-dynamic _ (noted (dynamic-kind d)) _ _ _ _ _ d.in-30.is
+    (sym n.length_of.ensures ∙ n.in-Of.is))
 
 pub returns-in-31 : goal.returns-in-31
 unfolding u8

@@ -15,31 +15,31 @@ use Rattle.field_inside.proofs.opening.enter_structure.Reads as reads
 -- not past it; the count was read; the number was; the entry is written
 
 abbrev AtStart : Type 0
-AtStart = lts.Start tie.the-claims reads.Pre reads.Post
+AtStart = lts.Start tie.the-claims reads.Pre reads.Post tie.handed_clauses
 
 abbrev AtNoted : Type 0
-AtNoted = lts.After-shared_slice_known3 tie.the-claims reads.Pre reads.Post
+AtNoted = lts.After-shared_slice_known3 tie.the-claims reads.Pre reads.Post tie.handed_clauses
 
 abbrev AtAlignment : Type 0
-AtAlignment = lts.After-align_of tie.the-claims reads.Pre reads.Post
+AtAlignment = lts.After-align_of tie.the-claims reads.Pre reads.Post tie.handed_clauses
 
 abbrev AtAligned : Type 0
-AtAligned = lts.After-align tie.the-claims reads.Pre reads.Post
+AtAligned = lts.After-align tie.the-claims reads.Pre reads.Post tie.handed_clauses
 
 abbrev AtBound : Type 0
-AtBound = lts.After-struct_known2 tie.the-claims reads.Pre reads.Post
+AtBound = lts.After-struct_known2 tie.the-claims reads.Pre reads.Post tie.handed_clauses
 
 abbrev AtWithin : Type 0
-AtWithin = lts.Else1 tie.the-claims reads.Pre reads.Post
+AtWithin = lts.Else1 tie.the-claims reads.Pre reads.Post tie.handed_clauses
 
 abbrev AtCount : Type 0
-AtCount = lts.After-wide64 tie.the-claims reads.Pre reads.Post
+AtCount = lts.After-wide64 tie.the-claims reads.Pre reads.Post tie.handed_clauses
 
 abbrev AtNumber : Type 0
-AtNumber = lts.After-number_of tie.the-claims reads.Pre reads.Post
+AtNumber = lts.After-number_of tie.the-claims reads.Pre reads.Post tie.handed_clauses
 
 abbrev AtListed : Type 0
-AtListed = lts.After-list_holder tie.the-claims reads.Pre reads.Post
+AtListed = lts.After-list_holder tie.the-claims reads.Pre reads.Post tie.handed_clauses
 
 -- The way back from each to the one before
 
@@ -108,8 +108,8 @@ align-place-requires c =
 pub returns-then-bound-place : goal.returns-then-bound-place
 returns-then-bound-place c =
     let d = to-aligned c.before.before in
-    let a = (aligned-start d).args in
-    entered-past a.frame (bits (aligned-start d)) a.from _ _ a.list.now (placed d) c.if-bound-place.true
+    let a = d.args in
+    let both = entered-past a.frame (bits (aligned-start d)) a.from _ _ a.list.now (placed d) c.if-bound-place.true in record { value = both.0; list_after = both.1 }
 
 -- Its entry
 
@@ -134,6 +134,6 @@ returns c =
     let l = c.before.before.before in
     let n = to_number l in
     let w = to-within (to-count n) in
-    let a = (within-start w).args in
-    entered-fits a.frame (bits (within-start w)) a.from _ _ a.list.now (placed (to-aligned (to-bound w))) w.if1.left
-    (to-count n).wide64.ensures.0 (numbered n) l.list_holder.ensures
+    let a = w.args in
+    let both = entered-fits a.frame (bits (within-start w)) a.from _ _ a.list.now (placed (to-aligned (to-bound w))) w.if-bound-place.false
+    n.wide64.ensures.0 (numbered n) l.list_holder.ensures in record { value = both.0; list_after = both.1 }

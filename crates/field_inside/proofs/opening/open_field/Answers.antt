@@ -15,34 +15,34 @@ use Rattle.field_inside.proofs.opening.open_field.Reads as reads
 -- holds members, and its entry is written; or elements, its entry is written, and what is forgotten around each is told
 
 abbrev AtStart : Type 0
-AtStart = lts.Start tie.the-claims reads.Pre reads.Post
+AtStart = lts.Start tie.the-claims reads.Pre reads.Post tie.handed_clauses
 
 abbrev AtKind : Type 0
-AtKind = lts.After-shared_slice_known4 tie.the-claims reads.Pre reads.Post
+AtKind = lts.After-shared_slice_known4 tie.the-claims reads.Pre reads.Post tie.handed_clauses
 
 abbrev AtNumber : Type 0
-AtNumber = lts.After-number_of tie.the-claims reads.Pre reads.Post
+AtNumber = lts.After-number_of tie.the-claims reads.Pre reads.Post tie.handed_clauses
 
 abbrev AtTold : Type 0
-AtTold = lts.After-look tie.the-claims reads.Pre reads.Post
+AtTold = lts.After-look tie.the-claims reads.Pre reads.Post tie.handed_clauses
 
 abbrev AtRefused : Type 0
-AtRefused = lts.Past-After-stop tie.the-claims reads.Pre reads.Post
+AtRefused = lts.After-stop tie.the-claims reads.Pre reads.Post tie.handed_clauses
 
 abbrev AtMembers : Type 0
-AtMembers = lts.Past-After-there tie.the-claims reads.Pre reads.Post
+AtMembers = lts.After-there tie.the-claims reads.Pre reads.Post tie.handed_clauses
 
 abbrev AtMembersListed : Type 0
-AtMembersListed = lts.After-list_holder tie.the-claims reads.Pre reads.Post
+AtMembersListed = lts.After-list_holder tie.the-claims reads.Pre reads.Post tie.handed_clauses
 
 abbrev AtElements : Type 0
-AtElements = lts.Past-After-there2 tie.the-claims reads.Pre reads.Post
+AtElements = lts.After-there2 tie.the-claims reads.Pre reads.Post tie.handed_clauses
 
 abbrev AtElementsListed : Type 0
-AtElementsListed = lts.After-list_holder2 tie.the-claims reads.Pre reads.Post
+AtElementsListed = lts.After-list_holder2 tie.the-claims reads.Pre reads.Post tie.handed_clauses
 
 abbrev AtForgotten : Type 0
-AtForgotten = lts.After-forgotten_around tie.the-claims reads.Pre reads.Post
+AtForgotten = lts.After-forgotten_around tie.the-claims reads.Pre reads.Post tie.handed_clauses
 
 -- The way back from each to the one before
 
@@ -59,18 +59,18 @@ abbrev told-start : AtTold → AtStart
 told-start c = c.before.before.before.before.before.before.before.before
 
 abbrev refused-told : AtRefused → AtTold
-refused-told c = c.before
+refused-told c = c.before.before
 
 abbrev members-told : AtMembers → AtTold
-members-told c = c.before
+members-told c = c.before.before
 
-abbrev to-members : AtMembersListed → AtMembers
+abbrev to-members : AtMembersListed → AtMembersListed
 to-members c = c
 
 abbrev elements-told : AtElements → AtTold
-elements-told c = c.before
+elements-told c = c.before.before
 
-abbrev to-elements : AtElementsListed → AtElements
+abbrev to-elements : AtElementsListed → AtElementsListed
 to-elements c = c
 
 abbrev to-listed : AtForgotten → AtElementsListed
@@ -95,7 +95,7 @@ bounds-aligns-at c =
     omega (arith, record-there h, h.aligns)
 
 pub look-requires : goal.look-requires
-look-requires c = (c.requires.holder_stands, c.requires.start_le_place)
+look-requires c = record { holder_stands = c.requires.holder_stands; start_le_place = c.requires.start_le_place }
 
 -- It holds members
 
@@ -113,7 +113,7 @@ pub returns-in-Refused : goal.returns-in-Refused
 unfolding opened_as list_opened
 returns-in-Refused c =
     let d = c.before in
-    opened-by _ _ _ _ (numbered (to_number (refused-told d))) d.look.ensures d.in-Refused.is
+    let both = opened-by _ _ _ _ (numbered (to_number (refused-told d))) d.look.ensures d.in-Refused.is in record { value = both.0; list_after = both.1 }
 
 pub shape_of-list-in-Members : goal.shape_of-list-in-Members
 shape_of-list-in-Members c = c.list_holder.auto.list
@@ -123,8 +123,8 @@ unfolding opened_as list_opened u8
 returns-in-Members c =
     let l = c.before.before.before.before in
     let m = to-members l in
-    let q = opened-by _ _ _ _ (numbered (to_number (members-told m))) (members-told m).look.ensures m.there.given.1 in
-    (c.went_in.ensures ∙ q.0, l.list_holder.ensures ∙ q.1)
+    let q = opened-by _ _ _ _ (numbered (to_number (members-told m))) m.look.ensures m.in-Members.is in
+    record { value = c.went_in.ensures ∙ q.0; list_after = l.list_holder.ensures ∙ q.1 }
 
 pub shape_of-list-in-Elements : goal.shape_of-list-in-Elements
 shape_of-list-in-Elements c = c.list_holder-in-Elements.auto.list
@@ -134,5 +134,5 @@ unfolding opened_as list_opened u8
 returns-in-Elements c =
     let l = to-listed c.before.before in
     let m = to-elements l in
-    let q = opened-by _ _ _ _ (numbered (to_number (elements-told m))) (elements-told m).look.ensures m.there2.given.1 in
-    (rw c.forgotten_around-forgets.ensures at c.went_in-in-Elements.ensures ∙ q.0, l.list-holder2.ensures ∙ q.1)
+    let q = opened-by _ _ _ _ (numbered (to_number (elements-told m))) m.look.ensures m.in-Elements.is in
+    record { value = rw c.forgotten_around-forgets.ensures at c.went_in-in-Elements.ensures ∙ q.0; list_after = l.list_holder-in-Elements.ensures ∙ q.1 }

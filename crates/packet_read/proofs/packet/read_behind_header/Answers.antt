@@ -16,28 +16,28 @@ use Rattle.packet_read.proofs.packet.read_behind_header.Reads as reads
 -- Places of the code, in its order, and the way back from each to the one before
 
 abbrev AtStart : Type 0
-AtStart = lts.Start tie.the-claims reads.Pre reads.Post
+AtStart = lts.Start tie.the-claims reads.Pre reads.Post tie.handed_clauses
 
 abbrev AtAsked : Type 0
-AtAsked = lts.After-differs tie.the-claims reads.Pre reads.Post
+AtAsked = lts.After-differs tie.the-claims reads.Pre reads.Post tie.handed_clauses
 
 abbrev AtSame : Type 0
-AtSame = lts.Else1 tie.the-claims reads.Pre reads.Post
+AtSame = lts.Else1 tie.the-claims reads.Pre reads.Post tie.handed_clauses
 
 abbrev AtFull : Type 0
-AtFull = lts.Then2 tie.the-claims reads.Pre reads.Post
+AtFull = lts.Then2 tie.the-claims reads.Pre reads.Post tie.handed_clauses
 
 abbrev AtRoom : Type 0
-AtRoom = lts.Else2 tie.the-claims reads.Pre reads.Post
+AtRoom = lts.Else2 tie.the-claims reads.Pre reads.Post tie.handed_clauses
 
 abbrev AtFound : Type 0
-AtFound = lts.After-find_stream_class tie.the-claims reads.Pre reads.Post
+AtFound = lts.After-find_stream_class tie.the-claims reads.Pre reads.Post tie.handed_clauses
 
 abbrev AtListed : Type 0
-AtListed = lts.After-write tie.the-claims reads.Pre reads.Post
+AtListed = lts.After-write tie.the-claims reads.Pre reads.Post tie.handed_clauses
 
 abbrev AtRead : Type 0
-AtRead = lts.After-read_of_stream tie.the-claims reads.Pre reads.Post
+AtRead = lts.After-read_of_stream tie.the-claims reads.Pre reads.Post tie.handed_clauses
 
 abbrev to_start : AtAsked → AtStart
 to_start c = c.before.before.before.before.before.before.before.before.before
@@ -88,16 +88,16 @@ pub returns-then-is_full : goal.returns-then-is_full
 returns-then-is_full c =
     let same = full-same c.before.before in
     let asked = same_asked same in
-    let a = (to_start asked).args in
+    let a = asked.args in
     rw c.refused-then-is_full.ensures (header-ran-full a.table.now a.stream.now a.start a.first a.st a.slots a.list.now
-    asked.differs.result asked.differs.ensures same.if1.left (no_room c.before.before))
+    asked.differs.result asked.differs.ensures same.if-differs.false (no_room c.before.before))
 
 pub find_stream_class-requires : goal.find_stream_class-requires
 find_stream_class-requires c =
     let room = c.before in
     let asked = to-asked room in
     let start = to_start asked in
-    start.pre.0.ready.noted.sized
+    start.requires.readable.ready.noted.sized
 
 pub write-requires : goal.write-requires
 write-requires c = has_room (to_room c.before.before.before)
@@ -115,8 +115,8 @@ read_of_stream-r-requires c =
     let room = to_room found in
     let asked = to-asked room in
     let start = to_start asked in
-    let g = start.pre.0 in
-    (g, (sym found.find-stream-class.ensures ∙ listed.in-At.is, (start.pre.1.0, start.pre.1.1)))
+    let g = start.requires.readable in
+    record { readable = g; id_value = sym found.find_stream_class.ensures ∙ listed.in-At.is; framed = start.requires.framed; hints = start.requires.hints; slots_value = start.requires.slots_value }
 
 pub with_last-requires : goal.with_last-requires
 with_last-requires c =
@@ -130,10 +130,10 @@ with_last-requires c =
     omega (
       arith,
       ran-room _ (header-part a.table.now a.stream.now a.start a.first a.st a.slots a.list.now
-          asked.differs.result asked.differs.ensures (to_same room).if1.left (has_room room) found.find-stream-class.result
-          found.find-stream-class.ensures _ listed.before.before.before.class.given.1 listed.write.ensures)
+          asked.differs.result asked.differs.ensures room.if-differs.false (has_room room) found.find_stream_class.result
+          found.find_stream_class.ensures _ listed.in-At.is listed.write.ensures)
           c.read_of_stream-r.ensures,
-      start.good,
+      start.well_formed,
     )
 
 pub returns-in-Nothing : goal.returns-in-Nothing
@@ -144,7 +144,7 @@ returns-in-Nothing c =
     let start = to_start asked in
     let a = start.args in
     rw c.refused-in-Nothing.ensures (header-ran-unknown a.table.now a.stream.now a.start a.first a.st a.slots a.list.now
-    asked.differs.result asked.differs.ensures (to_same room).if1.left (has_room room)
+    asked.differs.result asked.differs.ensures room.if-differs.false (has_room room)
     c.find_stream_class.result c.find_stream_class.ensures
     c.in-Nothing.is)
 
@@ -152,9 +152,9 @@ pub shape_of-list : goal.shape_of-list
 shape_of-list c =
     let read = c.before.before.before.before in
     let listed = to-listed read in
-    same_len_mid words_per_entry (length listed.write.last.0 - words_per_entry) listed.write.last.0
+    same_len_mid words_per_entry (length listed.write.new.list - words_per_entry) listed.write.new.list
     c.read_of_stream-r.new.list
-    c.read_of_stream-r.auto.list ∙ listed.write.kept.0
+    c.read_of_stream-r.auto.list ∙ listed.write.auto.list
 
 pub returns-in-At : goal.returns-in-At
 returns-in-At c =
@@ -167,6 +167,6 @@ returns-in-At c =
     let a = start.args in
     rw c.with_last.ensures (ran-last _
     (header-part a.table.now a.stream.now a.start a.first a.st a.slots a.list.now asked.differs.result
-    asked.differs.ensures (to_same room).if1.left (has_room room) found.find-stream-class.result
-    found.find-stream-class.ensures _ listed.before.before.before.class.given.1 listed.write.ensures)
+    asked.differs.ensures room.if-differs.false (has_room room) found.find_stream_class.result
+    found.find_stream_class.ensures _ listed.in-At.is listed.write.ensures)
     c.read_of_stream-r.ensures _)

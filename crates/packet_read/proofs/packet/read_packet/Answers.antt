@@ -30,31 +30,31 @@ use Rattle.packet_read.proofs.packet.read_packet.Reads as reads
 -- unset; the header was read; the rest is left; it was read
 
 abbrev AtStart : Type 0
-AtStart = lts.Start tie.the-claims reads.Pre reads.Post
+AtStart = lts.Start tie.the-claims reads.Pre reads.Post tie.handed_clauses
 
 abbrev AtFull : Type 0
-AtFull = lts.Then1 tie.the-claims reads.Pre reads.Post
+AtFull = lts.Then1 tie.the-claims reads.Pre reads.Post tie.handed_clauses
 
 abbrev AtRoom : Type 0
-AtRoom = lts.Else1 tie.the-claims reads.Pre reads.Post
+AtRoom = lts.Else1 tie.the-claims reads.Pre reads.Post tie.handed_clauses
 
 abbrev AtListed : Type 0
-AtListed = lts.After-write tie.the-claims reads.Pre reads.Post
+AtListed = lts.After-write tie.the-claims reads.Pre reads.Post tie.handed_clauses
 
 abbrev AtFrame : Type 0
-AtFrame = lts.After-whole_frame tie.the-claims reads.Pre reads.Post
+AtFrame = lts.After-whole_frame tie.the-claims reads.Pre reads.Post tie.handed_clauses
 
 abbrev AtSlots : Type 0
-AtSlots = lts.After-no_slots tie.the-claims reads.Pre reads.Post
+AtSlots = lts.After-no_slots tie.the-claims reads.Pre reads.Post tie.handed_clauses
 
 abbrev AtHeader : Type 0
-AtHeader = lts.After-read_root tie.the-claims reads.Pre reads.Post
+AtHeader = lts.After-read_root tie.the-claims reads.Pre reads.Post tie.handed_clauses
 
 abbrev AtRest : Type 0
-AtRest = lts.After-slots tie.the-claims reads.Pre reads.Post
+AtRest = lts.After-slots tie.the-claims reads.Pre reads.Post tie.handed_clauses
 
 abbrev AtBehind : Type 0
-AtBehind = lts.After-read_behind_header tie.the-claims reads.Pre reads.Post
+AtBehind = lts.After-read_behind_header tie.the-claims reads.Pre reads.Post tie.handed_clauses
 
 -- The way back from each to the one before
 
@@ -182,7 +182,7 @@ returns-then-is_full c =
     record {
       at = λ l. rw c.refused.ensures
           (packet-ran-full a.table.now (notes a.sizes.now a.aligns.now) a.uuid.now a.stream.now a.header
-          start.pre.0 a.number a.first a.begun a.list.now l (no_room c.before.before));
+          start.requires.lent a.number a.first a.begun a.list.now l (no_room c.before.before));
     }
 
 -- Entry 1, and the header
@@ -201,14 +201,12 @@ unfolding fresh_state
 read_root-h-requires c =
     let start = to_start (to-listed (to-frame c.before.before)) in
     let a = start.args in
-    let g = start.pre.0 in (
-      g.stands,
-      (
-        g.ready.noted,
-        rw (c.whole_frame-frame.ensures, c.fresh.ensures)
-            (start-framed a.stream.now a.begun.place g.small start.pre.1.0),
-      ),
-    )
+    let g = start.requires.lent in record {
+      root_stands = g.stands;
+      prepared = g.ready.noted;
+      framed = rw (c.whole_frame-frame.ensures, c.fresh.ensures)
+          (start-framed a.stream.now a.begun.place g.small start.requires.starts);
+    }
 
 pub overflow_add-used : goal.overflow_add-used
 overflow_add-used c =
@@ -249,24 +247,24 @@ slice_bounds-read_behind_header-start c =
 pub read_behind_header-r-requires : goal.read_behind_header-r-requires
 read_behind_header-r-requires c =
     let r = to-header c.before.before in
-    let p = (given r).pre in
-    let g = p.0 in
+    let p = r.requires in
+    let g = p.lent in
     let on = c.in-On.is in
-    (record { ready = g.ready; uuid = g.uuid; small = g.small }, (held-framed r on, (p.1.1, held-unset r on)))
+    record { readable = record { ready = g.ready; uuid = g.uuid; small = g.small }; framed = held-framed r on; hints = p.hints; slots_value = held-unset r on }
 
 pub with_last-requires : goal.with_last-requires
 with_last-requires c =
     let behind = c.before.before.before in
     let rest = to-rest behind in
-    omega (arith, ran-room _ (rest-left rest no_slots) behind.read_behind_header-r.ensures, (given (to-header rest)).well-formed)
+    omega (arith, ran-room _ (rest-left rest no_slots) behind.read_behind_header-r.ensures, rest.well_formed)
 
 pub shape_of-list : goal.shape_of-list
 shape_of-list c =
     let behind = c.before.before.before.before in
     let rest = to-rest behind in
     let header = to-header rest in
-    let m = merged words_per_entry (listed_of header).write.last.0 header.read-root.last.1.1.1.1.1.1.1.1.1.0 in
-    same_len_mid (words_per_entry + header.read-root.result.used) (length m - (words_per_entry + header.read-root.result.used)) m
+    let m = merged words_per_entry header.write.new.list header.read_root-h.new.list in
+    same_len_mid (words_per_entry + header.read_root-h.result.used) (length m - (words_per_entry + header.read_root-h.result.used)) m
     behind.read_behind_header-r.new.list
     behind.read_behind_header-r.auto.list ∙ part_length (rest-left rest no_slots)
 

@@ -8,7 +8,7 @@ use Rattle.screen_head.proofs.kinds.put_kind_number.Goals as goal
 
 pub put_decimal-requires : goal.put_decimal-requires
 put_decimal-requires c =
-    let s = c.before.before.before.before.before.before.before in
+    let s = c.before.before.before.before.before.before.before.before in
     omega (
       arith,
       s.requires,
@@ -24,6 +24,6 @@ returns c =
     let a = c.args in
     let word = c.put_bytes-end in
     let number = c.put_decimal in
-    both (then
+    let both = both (then
     (laid a.out.now word.new.out a.at word.result (bytes "kind-") word.ensures)
-    (laid word.new.out number.new.out word.result number.result (decimal a.kind) number.ensures))
+    (laid word.new.out number.new.out word.result number.result (decimal a.kind) number.ensures)) in record { value = both.0; out_after = both.1 }

@@ -13,5 +13,5 @@ bounds-row c = omega (arith, c.if-kind-gt32.false)
 
 pub returns : goal.returns
 returns c =
-    let s = c.before in
+    let s = c.before.before.before in
     sort-at s.args.kind (omega (arith, c.if-kind-gt32.false))

@@ -11,7 +11,7 @@ use Rattle.screen_meaning.proofs.blob.put_bit_array.Goals as goal
 pub put_hex-requires : goal.put_hex-requires
 put_hex-requires c =
     let at-put-bytes = c.before.before.before in
-    let at-digits-of = at-put-bytes.before.before.before in
+    let at-digits-of = at-put-bytes.before.before.before.before in
     let s = at-digits-of.before.before in
     omega (
       arith,
@@ -27,12 +27,12 @@ unfolding bit_array bytes
 returns c =
     let at-put-hex = c.before.before.before in
     let at-put-bytes = at-put-hex.before.before.before.before in
-    let at-digits-of = at-put-bytes.before.before.before in
+    let at-digits-of = at-put-bytes.before.before.before.before in
     let s = at-digits-of.before.before in
-    both (shown-as
+    let both = both (shown-as
     (then
     (laid s.args.out.now at-put-bytes.put_bytes-end.new.out s.args.at at-put-bytes.put_bytes-end.result
     (bytes "0x") (at-put-bytes.put_bytes-end.ensures.value, at-put-bytes.put_bytes-end.ensures.out_after))
     (laid at-put-bytes.put_bytes-end.new.out at-put-hex.put_hex.new.out at-put-bytes.put_bytes-end.result at-put-hex.put_hex.result
     (hex at-digits-of.digits_of-digits.result s.args.value) (at-put-hex.put_hex.ensures.value, at-put-hex.put_hex.ensures.out_after)))
-    (ap (λ k. bytes "0x" ++ hex k s.args.value) at-digits-of.digits_of-digits.ensures))
+    (ap (λ k. bytes "0x" ++ hex k s.args.value) at-digits-of.digits_of-digits.ensures)) in record { value = both.0; out_after = both.1 }

@@ -100,8 +100,8 @@ returns c =
     let p = take a.n (drop a.from a.stream.now) in
     let all : at-loop.loop-shown.shown ≡ a.n = omega (arith, c.loop-shown-test.false, at-loop.loop-shown.invariant.2) in
     let whole : take at-loop.loop-shown.shown p ≡ p = take_all at-loop.loop-shown.shown p
-    (omega (arith, all, length_part a.stream.now a.from a.n s.requires.n_in_bounds_2)) in (
-      at-loop.loop-shown.invariant.0 ∙ ap (λ x. a.at + length (hexes x)) whole,
-      at-loop.loop-shown.invariant.1
-          ∙ ap (λ x. sets a.out.now a.at (hexes x)) whole,
-    )
+    (omega (arith, all, length_part a.stream.now a.from a.n s.requires.n_in_bounds_2)) in record {
+      value = at-loop.loop-shown.invariant.0 ∙ ap (λ x. a.at + length (hexes x)) whole;
+      out_after = at-loop.loop-shown.invariant.1
+          ∙ ap (λ x. sets a.out.now a.at (hexes x)) whole;
+    }

@@ -17,10 +17,10 @@ returns-then-raised-eq-TOP_32 c =
     let at-put-special = c.before.before.before in
     let at-if1 = at-put-special.before.before in
     let s = at-if1.before.before in
-    both (shown-as
+    let both = both (shown-as
     (laid s.args.out.now at-put-special.put_special.new.out s.args.at at-put-special.put_special.result
     (special s.args.negative s.args.fraction) (at-put-special.put_special.ensures.value, at-put-special.put_special.ensures.out_after))
-    (top_32 s.args.negative s.args.raised s.args.fraction at-if1.if-raised-eq-TOP_32.true))
+    (top_32 s.args.negative s.args.raised s.args.fraction at-if1.if-raised-eq-TOP_32.true)) in record { value = both.0; out_after = both.1 }
 
 pub overflow_mul-fraction : goal.overflow_mul-fraction
 overflow_mul-fraction c =
@@ -30,15 +30,15 @@ overflow_mul-fraction c =
 pub put_finite-requires : goal.put_finite-requires
 put_finite-requires c =
     let s = c.before.before.before in
-    (s.requires.at_in_bounds, (lit≤ tt, (omega (arith, s.requires.raised_bound), omega (arith, s.requires.raised_bound))))
+    record { at_in_bounds = s.requires.at_in_bounds; digits_bound = (lit≤ tt, (omega (arith, s.requires.raised_bound), omega (arith, s.requires.raised_bound))) }
 
 pub returns : goal.returns
 returns c =
     let at-put-finite = c.before.before.before in
     let at-if1 = at-put-finite.before.before in
     let s = at-if1.before.before in
-    both (shown-as
+    let both = both (shown-as
     (laid s.args.out.now at-put-finite.put_finite.new.out s.args.at at-put-finite.put_finite.result
     (finite (format 6 127 8388608 150) s.args.negative s.args.raised s.args.fraction (s.args.fraction * 2))
     (at-put-finite.put_finite.ensures.value, at-put-finite.put_finite.ensures.out_after))
-    (finite-32 s.args.negative s.args.raised s.args.fraction at-if1.if-raised-eq-TOP_32.false))
+    (finite-32 s.args.negative s.args.raised s.args.fraction at-if1.if-raised-eq-TOP_32.false)) in record { value = both.0; out_after = both.1 }

@@ -10,14 +10,14 @@ use Rattle.screen_meaning.proofs.float.put_exact.Goals as goal
 pub put_lead-b-requires : goal.put_lead-b-requires
 put_lead-b-requires c =
     let at-put-bytes = c.before.before.before in
-    let s = at-put-bytes.before.before.before.before in
+    let s = at-put-bytes.before.before.before.before.before in
     omega (arith, s.requires, at-put-bytes.put_bytes-a.ensures.value, at-put-bytes.put_bytes-a.auto.out, lead-length s.args.raised)
 
 pub put_bytes-c-requires : goal.put_bytes-c-requires
 put_bytes-c-requires c =
-    let at-put-lead = c.before.before.before.before in
+    let at-put-lead = c.before.before.before.before.before in
     let at-put-bytes = at-put-lead.before.before.before.before in
-    let s = at-put-bytes.before.before.before.before in
+    let s = at-put-bytes.before.before.before.before.before in
     omega (
       arith,
       s.requires,
@@ -31,9 +31,9 @@ put_bytes-c-requires c =
 pub put_hex-d-requires : goal.put_hex-d-requires
 put_hex-d-requires c =
     let at-put-bytes2 = c.before.before.before in
-    let at-put-lead = at-put-bytes2.before.before.before.before.before in
+    let at-put-lead = at-put-bytes2.before.before.before.before.before.before in
     let at-put-bytes = at-put-lead.before.before.before.before in
-    let s = at-put-bytes.before.before.before.before in
+    let s = at-put-bytes.before.before.before.before.before in
     omega (
       arith,
       s.requires,
@@ -49,11 +49,11 @@ put_hex-d-requires c =
 
 pub put_bytes-e-requires : goal.put_bytes-e-requires
 put_bytes-e-requires c =
-    let at-put-hex = c.before.before.before.before in
+    let at-put-hex = c.before.before.before.before.before in
     let at-put-bytes2 = at-put-hex.before.before.before.before in
-    let at-put-lead = at-put-bytes2.before.before.before.before.before in
+    let at-put-lead = at-put-bytes2.before.before.before.before.before.before in
     let at-put-bytes = at-put-lead.before.before.before.before in
-    let s = at-put-bytes.before.before.before.before in
+    let s = at-put-bytes.before.before.before.before.before in
     omega (
       arith,
       s.requires,
@@ -73,12 +73,12 @@ put_bytes-e-requires c =
 pub put_exponent-requires : goal.put_exponent-requires
 put_exponent-requires c =
     let at-put-bytes3 = c.before.before.before in
-    let at-put-hex = at-put-bytes3.before.before.before.before.before in
+    let at-put-hex = at-put-bytes3.before.before.before.before.before.before in
     let at-put-bytes2 = at-put-hex.before.before.before.before in
-    let at-put-lead = at-put-bytes2.before.before.before.before.before in
+    let at-put-lead = at-put-bytes2.before.before.before.before.before.before in
     let at-put-bytes = at-put-lead.before.before.before.before in
-    let s = at-put-bytes.before.before.before.before in (
-      omega (
+    let s = at-put-bytes.before.before.before.before.before in record {
+      at_in_bounds = omega (
         arith,
         s.requires,
         at-put-bytes.put_bytes-a.ensures.value,
@@ -94,21 +94,21 @@ put_exponent-requires c =
             s.args.filled,
         at-put-bytes3.put_bytes-e.ensures.value,
         at-put-bytes3.put_bytes-e.auto.out,
-      ),
-      s.requires.digits_bound.1,
-    )
+      );
+      fraction_bound = s.requires.digits_bound.1;
+    }
 
 pub returns : goal.returns
 unfolding exact bytes
 returns c =
     let at-put-exponent = c.before.before.before in
     let at-put-bytes3 = at-put-exponent.before.before.before.before in
-    let at-put-hex = at-put-bytes3.before.before.before.before.before in
+    let at-put-hex = at-put-bytes3.before.before.before.before.before.before in
     let at-put-bytes2 = at-put-hex.before.before.before.before in
-    let at-put-lead = at-put-bytes2.before.before.before.before.before in
+    let at-put-lead = at-put-bytes2.before.before.before.before.before.before in
     let at-put-bytes = at-put-lead.before.before.before.before in
-    let s = at-put-bytes.before.before.before.before in
-    both
+    let s = at-put-bytes.before.before.before.before.before in
+    let both = both
     (then
     (then
     (then
@@ -130,4 +130,4 @@ returns c =
     (bytes "p") (at-put-bytes3.put_bytes-e.ensures.value, at-put-bytes3.put_bytes-e.ensures.out_after)))
     (laid at-put-bytes3.put_bytes-e.new.out at-put-exponent.put_exponent.new.out at-put-bytes3.put_bytes-e.result
     at-put-exponent.put_exponent.result
-    (exponent s.args.bias s.args.raised s.args.fraction) (at-put-exponent.put_exponent.ensures.value, at-put-exponent.put_exponent.ensures.out_after)))
+    (exponent s.args.bias s.args.raised s.args.fraction) (at-put-exponent.put_exponent.ensures.value, at-put-exponent.put_exponent.ensures.out_after))) in record { value = both.0; out_after = both.1 }

@@ -13,10 +13,7 @@ use Rattle.screen_meaning.proofs.float.put_finite.Goals as goal
 pub put_exact-b-requires : goal.put_exact-b-requires
 put_exact-b-requires c =
     let at-put-sign = c.before.before.before in
-    let s = at-put-sign.before.before.before in (
-      omega (arith, s.requires, at-put-sign.put_sign-a.ensures.value, at-put-sign.put_sign-a.auto.out, sign-length s.args.negative),
-      (s.requires.digits_bound, omega (arith, s.requires.digits_bound.1)),
-    )
+    let s = at-put-sign.before.before.before in record { at_in_bounds = omega (arith, s.requires, at-put-sign.put_sign-a.ensures.value, at-put-sign.put_sign-a.auto.out, sign-length s.args.negative); digits_bound = (s.requires.digits_bound, omega (arith, s.requires.digits_bound.1)) }
 
 pub significand-m-requires : goal.significand-m-requires
 significand-m-requires c =
@@ -30,8 +27,8 @@ put_decimals-requires c =
     let at-power-of = at-significand.before in
     let at-put-exact = at-power-of.before.before.before in
     let at-put-sign = at-put-exact.before.before.before.before in
-    let s = at-put-sign.before.before.before in (
-      omega (
+    let s = at-put-sign.before.before.before in record {
+      at_in_bounds = omega (
         arith,
         s.requires,
         at-put-sign.put_sign-a.ensures.value,
@@ -41,13 +38,13 @@ put_decimals-requires c =
         at-put-exact.put_exact-b.auto.out,
         exact-length s.args.digits s.args.full
             s.args.bias s.args.raised s.args.fraction,
-      ),
-      (
+      );
+      m_bound = (
         rw at-significand.significand-m.ensures (significand-room s.args.unit s.args.raised s.args.fraction
             s.requires.digits_bound.1.0),
         rw (at-lacking.lacking.ensures, c.lacking-2.ensures) (one_way at-power-of.power_of-power.result s.args.low),
-      ),
-    )
+      );
+    }
 
 pub returns : goal.returns
 unfolding finite
@@ -60,7 +57,7 @@ returns c =
     let at-put-exact = at-power-of.before.before.before in
     let at-put-sign = at-put-exact.before.before.before.before in
     let s = at-put-sign.before.before.before in
-    both (shown-as
+    let both = both (shown-as
     (then
     (then
     (laid s.args.out.now at-put-sign.put_sign-a.new.out s.args.at at-put-sign.put_sign-a.result
@@ -78,4 +75,4 @@ returns c =
       at-lacking.lacking.ensures,
       at-lacking2.lacking-2.ensures,
       at-power-of.power_of-power.ensures,
-    ))))
+    )))) in record { value = both.0; out_after = both.1 }

@@ -49,7 +49,7 @@ returns c =
     let at-put-sign = at-put-six.before.before.before.before in
     let at-put-mark = at-put-sign.before.before.before.before in
     let s = at-put-mark.before.before.before in
-    both
+    let both = both
     (then
     (then
     (laid s.args.out.now at-put-mark.put_mark-a.new.out s.args.at at-put-mark.put_mark-a.result
@@ -57,4 +57,4 @@ returns c =
     (laid at-put-mark.put_mark-a.new.out at-put-sign.put_sign-b.new.out at-put-mark.put_mark-a.result at-put-sign.put_sign-b.result
     (sign s.args.negative) (at-put-sign.put_sign-b.ensures.value, at-put-sign.put_sign-b.ensures.out_after)))
     (laid at-put-sign.put_sign-b.new.out at-put-six.put_six.new.out at-put-sign.put_sign-b.result at-put-six.put_six.result
-    (six_decimals s.args.q) (at-put-six.put_six.ensures.value, at-put-six.put_six.ensures.out_after)))
+    (six_decimals s.args.q) (at-put-six.put_six.ensures.value, at-put-six.put_six.ensures.out_after))) in record { value = both.0; out_after = both.1 }

@@ -16,7 +16,7 @@ put_decimal-a-requires c =
 
 pub put_bytes-b-requires : goal.put_bytes-b-requires
 put_bytes-b-requires c =
-    let at-put-decimal = c.before.before.before.before in
+    let at-put-decimal = c.before.before.before.before.before in
     let s = at-put-decimal.before.before.before in
     omega (
       arith,
@@ -30,7 +30,7 @@ put_bytes-b-requires c =
 pub put_zeros-requires : goal.put_zeros-requires
 put_zeros-requires c =
     let at-put-bytes = c.before.before.before in
-    let at-put-decimal = at-put-bytes.before.before.before.before.before in
+    let at-put-decimal = at-put-bytes.before.before.before.before.before.before in
     let s = at-put-decimal.before.before.before in
     omega (
       arith,
@@ -50,9 +50,9 @@ unfolding six_decimals bytes
 returns c =
     let at-put-zeros = c.before.before.before in
     let at-put-bytes = at-put-zeros.before.before.before.before in
-    let at-put-decimal = at-put-bytes.before.before.before.before.before in
+    let at-put-decimal = at-put-bytes.before.before.before.before.before.before in
     let s = at-put-decimal.before.before.before in
-    both
+    let both = both
     (then
     (then
     (laid s.args.out.now at-put-decimal.put_decimal-a.new.out s.args.at at-put-decimal.put_decimal-a.result
@@ -62,4 +62,4 @@ returns c =
     (bytes ".") (at-put-bytes.put_bytes-b.ensures.value, at-put-bytes.put_bytes-b.ensures.out_after)))
     (laid at-put-bytes.put_bytes-b.new.out at-put-zeros.put_zeros.new.out at-put-bytes.put_bytes-b.result
     at-put-zeros.put_zeros.result
-    (zeros 6 (s.args.q % 1000000)) (at-put-zeros.put_zeros.ensures.value, at-put-zeros.put_zeros.ensures.out_after)))
+    (zeros 6 (s.args.q % 1000000)) (at-put-zeros.put_zeros.ensures.value, at-put-zeros.put_zeros.ensures.out_after))) in record { value = both.0; out_after = both.1 }

@@ -21,16 +21,16 @@ returns-then-below_up c =
     let at-if1 = at-whole.before.before in
     let at-below-up = at-if1.before in
     let s = at-below-up.before.before in
-    both (shown-as
+    let both = both (shown-as
     (laid s.args.out.now at-put-marked.put_marked.new.out s.args.at at-put-marked.put_marked.result
     (marked true s.args.negative at-whole.whole.result) (at-put-marked.put_marked.ensures.value, at-put-marked.put_marked.ensures.out_after))
     (decimals-some s.args.negative s.args.m s.args.up 0 true at-whole.whole.result
-    (sym at-below-up.below_up.ensures ∙ at-if1.if-below_up.true) (whole-exact s.args.m s.args.up) at-whole.whole.ensures))
+    (sym at-below-up.below_up.ensures ∙ at-if1.if-below_up.true) (whole-exact s.args.m s.args.up) at-whole.whole.ensures)) in record { value = both.0; out_after = both.1 }
 
 pub returns : goal.returns
 returns c =
     let at-below-up = c.before.before in
     let s = at-below-up.before.before in
-    both (shown-as
+    let both = both (shown-as
     (laid_none s.args.out.now s.args.at)
-    (decimals-none s.args.negative s.args.m s.args.up 0 (sym at-below-up.below_up.ensures ∙ c.if-below_up.false)))
+    (decimals-none s.args.negative s.args.m s.args.up 0 (sym at-below-up.below_up.ensures ∙ c.if-below_up.false))) in record { value = both.0; out_after = both.1 }

@@ -13,9 +13,9 @@ use Rattle.screen_meaning.proofs.seconds.put_seconds.Goals as goal
 pub returns-then-frequency-eq0 : goal.returns-then-frequency-eq0
 returns-then-frequency-eq0 c =
     let s = c.before.before.before in
-    both (shown-as
+    let both = both (shown-as
     (laid_none s.args.out.now s.args.at)
-    (no-seconds s.args.frequency s.args.clock c.if-frequency-eq0.true))
+    (no-seconds s.args.frequency s.args.clock c.if-frequency-eq0.true)) in record { value = both.0; out_after = both.1 }
 
 pub nonzero_rem-clock : goal.nonzero_rem-clock
 nonzero_rem-clock c = omega (arith, c.if-frequency-eq0.false)
@@ -37,7 +37,7 @@ put_decimal-a-requires c =
 
 pub put_bytes-b-requires : goal.put_bytes-b-requires
 put_bytes-b-requires c =
-    let at-put-decimal = c.before.before.before.before in
+    let at-put-decimal = c.before.before.before.before.before in
     let s = at-put-decimal.before.before.before.before.before in
     omega (
       arith,
@@ -51,7 +51,7 @@ put_bytes-b-requires c =
 pub put_zeros-c-requires : goal.put_zeros-c-requires
 put_zeros-c-requires c =
     let at-put-bytes = c.before.before.before in
-    let at-put-decimal = at-put-bytes.before.before.before.before.before in
+    let at-put-decimal = at-put-bytes.before.before.before.before.before.before in
     let at-nanos = at-put-decimal.before.before in
     let s = at-nanos.before.before.before in
     omega (
@@ -69,9 +69,9 @@ put_zeros-c-requires c =
 
 pub put_bytes-requires : goal.put_bytes-requires
 put_bytes-requires c =
-    let at-put-zeros = c.before.before.before.before in
+    let at-put-zeros = c.before.before.before.before.before in
     let at-put-bytes = at-put-zeros.before.before.before.before in
-    let at-put-decimal = at-put-bytes.before.before.before.before.before in
+    let at-put-decimal = at-put-bytes.before.before.before.before.before.before in
     let at-nanos = at-put-decimal.before.before in
     let s = at-nanos.before.before.before in
     omega (
@@ -92,13 +92,13 @@ pub returns : goal.returns
 unfolding bytes
 returns c =
     let at-put-bytes2 = c.before.before.before in
-    let at-put-zeros = at-put-bytes2.before.before.before.before.before in
+    let at-put-zeros = at-put-bytes2.before.before.before.before.before.before in
     let at-put-bytes = at-put-zeros.before.before.before.before in
-    let at-put-decimal = at-put-bytes.before.before.before.before.before in
+    let at-put-decimal = at-put-bytes.before.before.before.before.before.before in
     let at-nanos = at-put-decimal.before.before in
     let at-if1 = at-nanos.before in
     let s = at-if1.before.before in
-    both (shown-as
+    let both = both (shown-as
     (then
     (then
     (then
@@ -113,4 +113,4 @@ returns c =
     (laid at-put-zeros.put_zeros-c.new.out at-put-bytes2.put_bytes.new.out at-put-zeros.put_zeros-c.result
     at-put-bytes2.put_bytes.result
     (bytes " s") (at-put-bytes2.put_bytes.ensures.value, at-put-bytes2.put_bytes.ensures.out_after)))
-    (some-seconds s.args.frequency s.args.clock at-nanos.nanos-cut.result at-if1.if-frequency-eq0.false at-nanos.nanos-cut.ensures))
+    (some-seconds s.args.frequency s.args.clock at-nanos.nanos-cut.result at-if1.if-frequency-eq0.false at-nanos.nanos-cut.ensures)) in record { value = both.0; out_after = both.1 }

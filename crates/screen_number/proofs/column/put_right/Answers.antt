@@ -12,7 +12,7 @@ use Rattle.screen_number.proofs.column.put_right.Reads as reads
 
 -- Places of the code, and what is known at them
 abbrev AtBlanks : Type 0
-AtBlanks = lts.After-lacking tie.the-claims reads.Pre reads.Post
+AtBlanks = lts.After-lacking tie.the-claims reads.Pre reads.Post tie.handed_clauses
 
 filled : (c : AtBlanks) → c.lacking-blanks.result ≡ c.args.width - length
     (decimal c.args.n)
@@ -45,8 +45,8 @@ returns c =
     let a = blanks.args in
     let put = c.put_times-from in
     let last = c.put_decimal in
-    both (shown-as
+    let both = both (shown-as
     (then
     (laid a.out.now put.new.out a.at put.result (times blanks.lacking-blanks.result blank) put.ensures)
     (laid put.new.out last.new.out put.result last.result (decimal a.n) last.ensures))
-    (fills-right a.width blanks.lacking-blanks.result (decimal a.n) (filled blanks)))
+    (fills-right a.width blanks.lacking-blanks.result (decimal a.n) (filled blanks))) in record { value = both.0; out_after = both.1 }

@@ -12,7 +12,7 @@ use Rattle.screen_number.proofs.column.put_signed_right.Reads as reads
 
 -- Places of the code, and what is known at them
 abbrev AtBlanks : Type 0
-AtBlanks = lts.After-lacking tie.the-claims reads.Pre reads.Post
+AtBlanks = lts.After-lacking tie.the-claims reads.Pre reads.Post tie.handed_clauses
 
 filled : (c : AtBlanks) → c.lacking-free.result ≡ c.args.width - length
     (signed_decimal c.args.word)
@@ -44,8 +44,8 @@ returns c =
     let a = blanks.args in
     let put = c.put_times-from in
     let last = c.put_signed in
-    both (shown-as
+    let both = both (shown-as
     (then
     (laid a.out.now put.new.out a.at put.result (times blanks.lacking-free.result blank) put.ensures)
     (laid put.new.out last.new.out put.result last.result (signed_decimal a.word) last.ensures))
-    (fills-right a.width blanks.lacking-free.result (signed_decimal a.word) (filled blanks)))
+    (fills-right a.width blanks.lacking-free.result (signed_decimal a.word) (filled blanks))) in record { value = both.0; out_after = both.1 }

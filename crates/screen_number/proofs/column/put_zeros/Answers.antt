@@ -12,7 +12,7 @@ use Rattle.screen_number.proofs.column.put_zeros.Reads as reads
 
 -- Places of the code, and what is known at them
 abbrev AtMissing : Type 0
-AtMissing = lts.After-lacking tie.the-claims reads.Pre reads.Post
+AtMissing = lts.After-lacking tie.the-claims reads.Pre reads.Post tie.handed_clauses
 
 filled : (c : AtMissing) → c.lacking-missing.result ≡ c.args.width - length
     (decimal c.args.n)
@@ -45,8 +45,8 @@ returns c =
     let a = missing.args in
     let put = c.put_times-behind in
     let last = c.put_decimal in
-    both (shown-as
+    let both = both (shown-as
     (then
     (laid a.out.now put.new.out a.at put.result (times missing.lacking-missing.result 48) put.ensures)
     (laid put.new.out last.new.out put.result last.result (decimal a.n) last.ensures))
-    (fills-zeros a.width missing.lacking-missing.result a.n (filled missing)))
+    (fills-zeros a.width missing.lacking-missing.result a.n (filled missing))) in record { value = both.0; out_after = both.1 }

@@ -43,7 +43,4 @@ shape_of-out c = c.loop-done.invariant.2
 pub returns : goal.returns
 returns c =
     let a = c.args in
-    let all : c.loop-done.done ≡ length a.given.now = omega arith in (
-      ap (λ k. a.at + k) all,
-      c.loop-done.invariant.0 ∙ ap (λ x. sets a.out.now a.at x) (take_all c.loop-done.done a.given.now (omega arith)),
-    )
+    let all : c.loop-done.done ≡ length a.given.now = omega arith in record { value = ap (λ k. a.at + k) all; out_after = c.loop-done.invariant.0 ∙ ap (λ x. sets a.out.now a.at x) (take_all c.loop-done.done a.given.now (omega arith)) }

@@ -42,8 +42,8 @@ shape_of-out c = c.loop-i.invariant.2
 pub returns : goal.returns
 returns c =
     let a = c.args in
-    let all : c.loop-i.i ≡ c.args.n = omega arith in (
-      ap (λ k. a.at + k) (sym (length-times a.n a.b)),
-      c.loop-i.invariant.0 ∙ ap
-          (λ k. sets a.out.now a.at (times k a.b)) all,
-    )
+    let all : c.loop-i.i ≡ c.args.n = omega arith in record {
+      value = ap (λ k. a.at + k) (sym (length-times a.n a.b));
+      out_after = c.loop-i.invariant.0 ∙ ap
+          (λ k. sets a.out.now a.at (times k a.b)) all;
+    }

@@ -9,13 +9,13 @@ returns-then-number-lt1 c =
     let at-if = c.before.before.before.before.before in
     let a = at-if.args in
     let put = c.put_no_words in
-    same_text a.out.now put.new.out a.at put.result no_words (fault a.number)
-    (fault-first a.number at-if.if-number-lt1.true) put.ensures
+    let both = same_text a.out.now put.new.out a.at put.result no_words (fault a.number)
+    (fault-first a.number at-if.if-number-lt1.true) put.ensures in record { value = both.0; out_after = both.1 }
 
 pub returns : goal.returns
 returns c =
     let at-if = c.before.before.before.before.before in
     let a = at-if.args in
     let put = c.put_no_words-2 in
-    same_text a.out.now put.new.out a.at put.result no_words (fault a.number)
-    (fault-behind a.number at-if.if-number-lt16.false) put.ensures
+    let both = same_text a.out.now put.new.out a.at put.result no_words (fault a.number)
+    (fault-behind a.number at-if.if-number-lt16.false) put.ensures in record { value = both.0; out_after = both.1 }

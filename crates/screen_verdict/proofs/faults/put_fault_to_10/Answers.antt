@@ -9,9 +9,9 @@ use Rattle.screen_verdict.proofs.faults.put_fault_to_10.Lts as lts
 use Rattle.screen_verdict.proofs.faults.put_fault_to_10.Tie as tie
 use Rattle.screen_verdict.proofs.faults.put_fault_to_10.Reads as reads
 
-the_last : (c : lts.After-slice_known6 tie.the-claims reads.Pre reads.Post) → 10 ≡ c.args.number
+the_last : (c : lts.After-slice_known6 tie.the-claims reads.Pre reads.Post tie.handed_clauses) → 10 ≡ c.args.number
 the_last c =
-    let at-arm = c.before.before.before.before.before in
+    let at-arm = c.before.before.before.before.before.before in
     omega (
       arith,
       at-arm.requires,
@@ -24,38 +24,38 @@ the_last c =
 pub returns-in-6 : goal.returns-in-6
 unfolding fault faults no_words bytes
 returns-in-6 c =
-    let at-arm = c.before.before.before.before.before.before in
+    let at-arm = c.before.before.before.before.before.before.before in
     let a = at-arm.args in
     let put = c.put_bytes in
-    same_text a.out.now put.new.out a.at put.result (fault 6) (fault a.number)
-    (ap fault (sym at-arm.in-6.is)) put.ensures
+    let both = same_text a.out.now put.new.out a.at put.result (fault 6) (fault a.number)
+    (ap fault (sym at-arm.in-6.is)) put.ensures in record { value = both.0; out_after = both.1 }
 
 pub returns-in-7 : goal.returns-in-7
 unfolding fault faults no_words bytes
 returns-in-7 c =
-    let at-arm = c.before.before.before.before.before.before in
+    let at-arm = c.before.before.before.before.before.before.before in
     let a = at-arm.args in
     let put = c.put_bytes-in-7 in
-    same_text a.out.now put.new.out a.at put.result (fault 7) (fault a.number)
-    (ap fault (sym at-arm.in-7.is)) put.ensures
+    let both = same_text a.out.now put.new.out a.at put.result (fault 7) (fault a.number)
+    (ap fault (sym at-arm.in-7.is)) put.ensures in record { value = both.0; out_after = both.1 }
 
 pub returns-in-8 : goal.returns-in-8
 unfolding fault faults no_words bytes
 returns-in-8 c =
-    let at-arm = c.before.before.before.before.before.before in
+    let at-arm = c.before.before.before.before.before.before.before in
     let a = at-arm.args in
     let put = c.put_bytes-in-8 in
-    same_text a.out.now put.new.out a.at put.result (fault 8) (fault a.number)
-    (ap fault (sym at-arm.in-8.is)) put.ensures
+    let both = same_text a.out.now put.new.out a.at put.result (fault 8) (fault a.number)
+    (ap fault (sym at-arm.in-8.is)) put.ensures in record { value = both.0; out_after = both.1 }
 
 pub returns-in-9 : goal.returns-in-9
 unfolding fault faults no_words bytes
 returns-in-9 c =
-    let at-arm = c.before.before.before.before.before.before in
+    let at-arm = c.before.before.before.before.before.before.before in
     let a = at-arm.args in
     let put = c.put_bytes-in-9 in
-    same_text a.out.now put.new.out a.at put.result (fault 9) (fault a.number)
-    (ap fault (sym at-arm.in-9.is)) put.ensures
+    let both = same_text a.out.now put.new.out a.at put.result (fault 9) (fault a.number)
+    (ap fault (sym at-arm.in-9.is)) put.ensures in record { value = both.0; out_after = both.1 }
 
 pub returns-in_default : goal.returns-in_default
 unfolding fault faults no_words bytes
@@ -63,5 +63,5 @@ returns-in_default c =
     let at-arm = c.before.before.before.before.before.before in
     let a = at-arm.args in
     let put = c.put_bytes-in_default in
-    same_text a.out.now put.new.out a.at put.result (fault 10) (fault a.number)
-    (ap fault (the_last c.before)) put.ensures
+    let both = same_text a.out.now put.new.out a.at put.result (fault 10) (fault a.number)
+    (ap fault (the_last c.before)) put.ensures in record { value = both.0; out_after = both.1 }

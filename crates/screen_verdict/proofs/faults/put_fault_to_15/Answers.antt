@@ -9,9 +9,9 @@ use Rattle.screen_verdict.proofs.faults.put_fault_to_15.Lts as lts
 use Rattle.screen_verdict.proofs.faults.put_fault_to_15.Tie as tie
 use Rattle.screen_verdict.proofs.faults.put_fault_to_15.Reads as reads
 
-the_last : (c : lts.After-slice_known6 tie.the-claims reads.Pre reads.Post) → 15 ≡ c.args.number
+the_last : (c : lts.After-slice_known6 tie.the-claims reads.Pre reads.Post tie.handed_clauses) → 15 ≡ c.args.number
 the_last c =
-    let at-arm = c.before.before.before.before.before in
+    let at-arm = c.before.before.before.before.before.before in
     omega (
       arith,
       at-arm.requires,
@@ -24,38 +24,38 @@ the_last c =
 pub returns-in-11 : goal.returns-in-11
 unfolding fault faults no_words bytes
 returns-in-11 c =
-    let at-arm = c.before.before.before.before.before.before in
+    let at-arm = c.before.before.before.before.before.before.before in
     let a = at-arm.args in
     let put = c.put_bytes in
-    same_text a.out.now put.new.out a.at put.result (fault 11) (fault a.number)
-    (ap fault (sym at-arm.in-11.is)) put.ensures
+    let both = same_text a.out.now put.new.out a.at put.result (fault 11) (fault a.number)
+    (ap fault (sym at-arm.in-11.is)) put.ensures in record { value = both.0; out_after = both.1 }
 
 pub returns-in-12 : goal.returns-in-12
 unfolding fault faults no_words bytes
 returns-in-12 c =
-    let at-arm = c.before.before.before.before.before.before in
+    let at-arm = c.before.before.before.before.before.before.before in
     let a = at-arm.args in
     let put = c.put_bytes-in-12 in
-    same_text a.out.now put.new.out a.at put.result (fault 12) (fault a.number)
-    (ap fault (sym at-arm.in-12.is)) put.ensures
+    let both = same_text a.out.now put.new.out a.at put.result (fault 12) (fault a.number)
+    (ap fault (sym at-arm.in-12.is)) put.ensures in record { value = both.0; out_after = both.1 }
 
 pub returns-in-13 : goal.returns-in-13
 unfolding fault faults no_words bytes
 returns-in-13 c =
-    let at-arm = c.before.before.before.before.before.before in
+    let at-arm = c.before.before.before.before.before.before.before in
     let a = at-arm.args in
     let put = c.put_bytes-in-13 in
-    same_text a.out.now put.new.out a.at put.result (fault 13) (fault a.number)
-    (ap fault (sym at-arm.in-13.is)) put.ensures
+    let both = same_text a.out.now put.new.out a.at put.result (fault 13) (fault a.number)
+    (ap fault (sym at-arm.in-13.is)) put.ensures in record { value = both.0; out_after = both.1 }
 
 pub returns-in-14 : goal.returns-in-14
 unfolding fault faults no_words bytes
 returns-in-14 c =
-    let at-arm = c.before.before.before.before.before.before in
+    let at-arm = c.before.before.before.before.before.before.before in
     let a = at-arm.args in
     let put = c.put_bytes-in-14 in
-    same_text a.out.now put.new.out a.at put.result (fault 14) (fault a.number)
-    (ap fault (sym at-arm.in-14.is)) put.ensures
+    let both = same_text a.out.now put.new.out a.at put.result (fault 14) (fault a.number)
+    (ap fault (sym at-arm.in-14.is)) put.ensures in record { value = both.0; out_after = both.1 }
 
 pub returns-in_default : goal.returns-in_default
 unfolding fault faults no_words bytes
@@ -63,5 +63,5 @@ returns-in_default c =
     let at-arm = c.before.before.before.before.before.before in
     let a = at-arm.args in
     let put = c.put_bytes-in_default in
-    same_text a.out.now put.new.out a.at put.result (fault 15) (fault a.number)
-    (ap fault (the_last c.before)) put.ensures
+    let both = same_text a.out.now put.new.out a.at put.result (fault 15) (fault a.number)
+    (ap fault (the_last c.before)) put.ensures in record { value = both.0; out_after = both.1 }

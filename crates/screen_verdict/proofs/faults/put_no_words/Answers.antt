@@ -5,4 +5,4 @@ use Rattle.screen_verdict.proofs.faults.put_no_words.Goals as goal
 
 pub returns : goal.returns
 unfolding no_words bytes
-returns c = (c.put_bytes.ensures.value, c.put_bytes.ensures.out_after)
+returns c = record { value = c.put_bytes.ensures.value; out_after = c.put_bytes.ensures.out_after }

@@ -9,43 +9,43 @@ returns-in-20 c =
     let at-arm = c.before.before.before.before.before in
     let a = at-arm.args in
     let put = c.put_table_refused in
-    same_text a.out.now put.new.out a.at put.result (table_refused a.first)
+    let both = same_text a.out.now put.new.out a.at put.result (table_refused a.first)
     (reason a.number a.place a.first a.second)
-    (reason-20 a.number a.place a.first a.second at-arm.in-20.is) put.ensures
+    (reason-20 a.number a.place a.first a.second at-arm.in-20.is) put.ensures in record { value = both.0; out_after = both.1 }
 
 pub returns-in-22 : goal.returns-in-22
 returns-in-22 c =
     let at-arm = c.before.before.before.before.before in
     let a = at-arm.args in
     let put = c.put_bound_crossed in
-    same_text a.out.now put.new.out a.at put.result (bound_crossed a.place)
+    let both = same_text a.out.now put.new.out a.at put.result (bound_crossed a.place)
     (reason a.number a.place a.first a.second)
-    (reason-22 a.number a.place a.first a.second at-arm.in-22.is) put.ensures
+    (reason-22 a.number a.place a.first a.second at-arm.in-22.is) put.ensures in record { value = both.0; out_after = both.1 }
 
 pub returns-in-33 : goal.returns-in-33
 returns-in-33 c =
     let at-arm = c.before.before.before.before.before in
     let a = at-arm.args in
     let put = c.put_no_stream_class in
-    same_text a.out.now put.new.out a.at put.result (no_stream_class a.first)
+    let both = same_text a.out.now put.new.out a.at put.result (no_stream_class a.first)
     (reason a.number a.place a.first a.second)
-    (reason-33 a.number a.place a.first a.second at-arm.in-33.is) put.ensures
+    (reason-33 a.number a.place a.first a.second at-arm.in-33.is) put.ensures in record { value = both.0; out_after = both.1 }
 
 pub returns-in-37 : goal.returns-in-37
 returns-in-37 c =
     let at-arm = c.before.before.before.before.before in
     let a = at-arm.args in
     let put = c.put_no_event_class in
-    same_text a.out.now put.new.out a.at put.result (no_event_class a.first a.second)
+    let both = same_text a.out.now put.new.out a.at put.result (no_event_class a.first a.second)
     (reason a.number a.place a.first a.second)
-    (reason-37 a.number a.place a.first a.second at-arm.in-37.is) put.ensures
+    (reason-37 a.number a.place a.first a.second at-arm.in-37.is) put.ensures in record { value = both.0; out_after = both.1 }
 
 pub returns-in_default : goal.returns-in_default
 returns-in_default c =
     let at-arm = c.before.before.before.before.before in
     let a = at-arm.args in
     let put = c.put_plain_reason in
-    same_text a.out.now put.new.out a.at put.result (plain_reason a.number)
+    let both = same_text a.out.now put.new.out a.at put.result (plain_reason a.number)
     (reason a.number a.place a.first a.second)
     (reason-plain a.number a.place a.first a.second at-arm.in_default.in_default-own.rest.0.0.0.1 at-arm.in_default.in_default-own.rest.0.0.1
-    at-arm.in_default.in_default-own.rest.0.1 at-arm.in_default.in_default-own.rest.1) put.ensures
+    at-arm.in_default.in_default-own.rest.0.1 at-arm.in_default.in_default-own.rest.1) put.ensures in record { value = both.0; out_after = both.1 }

@@ -9,7 +9,7 @@ use Rattle.screen_verdict.proofs.reasons.put_table_refused.Goals as goal
 pub put_decimal-b-requires : goal.put_decimal-b-requires
 put_decimal-b-requires c =
     let at-p1 = c.before.before.before in
-    let s = at-p1.before.before.before.before in
+    let s = at-p1.before.before.before.before.before in
     let a = s.args in
     omega (
       arith,
@@ -21,9 +21,9 @@ put_decimal-b-requires c =
 
 pub put_bytes-c-requires : goal.put_bytes-c-requires
 put_bytes-c-requires c =
-    let at-p2 = c.before.before.before.before in
+    let at-p2 = c.before.before.before.before.before in
     let at-p1 = at-p2.before.before.before.before in
-    let s = at-p1.before.before.before.before in
+    let s = at-p1.before.before.before.before.before in
     let a = s.args in
     omega (
       arith,
@@ -38,9 +38,9 @@ put_bytes-c-requires c =
 pub put_fault-requires : goal.put_fault-requires
 put_fault-requires c =
     let at-p3 = c.before.before.before in
-    let at-p2 = at-p3.before.before.before.before.before in
+    let at-p2 = at-p3.before.before.before.before.before.before in
     let at-p1 = at-p2.before.before.before.before in
-    let s = at-p1.before.before.before.before in
+    let s = at-p1.before.before.before.before.before in
     let a = s.args in
     omega (
       arith,
@@ -59,15 +59,15 @@ unfolding table_refused bytes
 returns c =
     let at-p4 = c.before.before.before in
     let at-p3 = at-p4.before.before.before.before in
-    let at-p2 = at-p3.before.before.before.before.before in
+    let at-p2 = at-p3.before.before.before.before.before.before in
     let at-p1 = at-p2.before.before.before.before in
-    let s = at-p1.before.before.before.before in
+    let s = at-p1.before.before.before.before.before in
     let a = s.args in
     let p1 = at-p1.put_bytes-a in
     let p2 = at-p2.put_decimal-b in
     let p3 = at-p3.put_bytes-c in
     let p4 = at-p4.put_fault in
-    both
+    let both = both
     (then
     (then
     (then
@@ -78,4 +78,4 @@ returns c =
     (laid p2.new.out p3.new.out p2.result p3.result
     (bytes ": ") p3.ensures))
     (laid p3.new.out p4.new.out p3.result p4.result
-    (fault a.fault) p4.ensures))
+    (fault a.fault) p4.ensures)) in record { value = both.0; out_after = both.1 }
