@@ -10,7 +10,7 @@ use Rattle.rules.specs.Class.{bit_array, boolean, unsigned_int, signed_int, floa
 use Rattle.rules.specs.Record.{Shape, bit_field, leb_field, signed_leb_field, zero_string, text, blob, text_of, blob_of, members, elements}
 use Rattle.rules.specs.Record.{elements_of, option?, options, u8}
 use Rattle.class_layout.specs.Trees.{shape_of, ranges_at, sign_at, optional_of, Stood, members_at, class_in, stood_at, class_at, align_members}
-use Rattle.class_layout.specs.Trees.{align_in, align_at, WholeMembers, WholeIn, Whole}
+use Rattle.class_layout.specs.Trees.{align_in, align_at, WholeMembers, WholeIn, IsWhole}
 
 pow-max : (a b : ℕ) → 2 ^ max a b ≡ max (2 ^ a) (2 ^ b)
 pow-max a b = max_cases a b _
@@ -55,7 +55,7 @@ module _ (t : List ℕ) (g : ℕ → Type 0) (f : ℕ → Stood) (h : ℕ → �
       optional-aligned (r ∷ rs) = unfold optional_of in refl
   shape-aligned at options w = (refl, omega arith)
 
-pub aligned : (d : ℕ) (t : List ℕ) (at : ℕ) → Whole d t at → Exponent (align_of (class_at d t at)) (align_at d t at)
-unfolding Whole stood_at align_at
+pub aligned : (d : ℕ) (t : List ℕ) (at : ℕ) → IsWhole d t at → Exponent (align_of (class_at d t at)) (align_at d t at)
+unfolding IsWhole stood_at align_at
 aligned zero t at w = absurd w
-aligned (suc d) t at w = shape-aligned t (Whole d t) (stood_at d t) (align_at d t) (λ p v. aligned d t p v) at (shape_of (u8 t at)) w.parts
+aligned (suc d) t at w = shape-aligned t (IsWhole d t) (stood_at d t) (align_at d t) (λ p v. aligned d t p v) at (shape_of (u8 t at)) w.parts

@@ -6,7 +6,7 @@ use mathlib.Core.List.{List}
 use Rattle.rules.specs.Record.{Shape, bit_field, leb_field, signed_leb_field, zero_string, text, blob, text_of, blob_of, u8}
 use Rattle.rules.specs.Record.{members, elements, elements_of, option?, options}
 use Rattle.class_layout.specs.Trees.{shape_of, option_class, Stood, members_at, behind_members, stood_at}
-use Rattle.class_layout.specs.Trees.{WholeMembers, WholeOptions, WholeIn, Whole}
+use Rattle.class_layout.specs.Trees.{WholeMembers, WholeOptions, WholeIn, IsWhole}
 use Rattle.class_layout.proofs.Announced.{same-kinds}
 use Rattle.class_layout.proofs.One.{one}
 
@@ -51,41 +51,41 @@ module _ (t : List ℕ) (g g' : ℕ → Type 0) (f f' : ℕ → Stood) (also : (
       let a = also at w.0 in let r = same-members (f at).next n w.1 in (rw (← a.1, r.0), rw (← a.1, r.1))
 
 -- one depth more
-pub whole-more : (d : ℕ) (t : List ℕ) (at : ℕ) → Whole d t at → Whole (suc d) t at
-unfolding Whole
+pub whole-more : (d : ℕ) (t : List ℕ) (at : ℕ) → IsWhole d t at → IsWhole (suc d) t at
+unfolding IsWhole
 whole-more zero t at w = absurd w
 whole-more (suc d) t at w = record {
   low = w.low;
   high = w.high;
   there = w.there;
   parts =
-      shape-also t (Whole d t) (Whole (suc d) t) (stood_at d t) (stood_at (suc d) t)
+      shape-also t (IsWhole d t) (IsWhole (suc d) t) (stood_at d t) (stood_at (suc d) t)
       (λ p v. let m = whole-more d t p v in (m, (one d (suc d) t p v m).0)) at (shape_of (u8 t at)) w.parts;
   kinds =
-      same-kinds t (Whole d t) (stood_at d t) (stood_at (suc d) t) (λ p v. ap (λ s. s.next) (one d (suc d) t p v (whole-more d t p v)).0) at
+      same-kinds t (IsWhole d t) (stood_at d t) (stood_at (suc d) t) (λ p v. ap (λ s. s.next) (one d (suc d) t p v (whole-more d t p v)).0) at
       (shape_of (u8 t at)) w.parts w.kinds;
   begins = w.begins;
 }
 
 -- as many depths, or k more
-whole-add : (k d e : ℕ) (t : List ℕ) (at : ℕ) → e ≡ d + k → Whole d t at → Whole e t at
-whole-add zero d e t at h w = let same : d ≡ e = omega arith in subst (λ (n : ℕ). Whole n t at) same w
+whole-add : (k d e : ℕ) (t : List ℕ) (at : ℕ) → e ≡ d + k → IsWhole d t at → IsWhole e t at
+whole-add zero d e t at h w = let same : d ≡ e = omega arith in subst (λ (n : ℕ). IsWhole n t at) same w
 whole-add (suc k) d e t at h w = whole-add k (suc d) e t at (omega arith) (whole-more d t at w)
 
-pub deeper : (d e : ℕ) (t : List ℕ) → d ≤ e → (at : ℕ) → Also (Whole d t) (Whole e t) (stood_at d t) (stood_at e t) at
+pub deeper : (d e : ℕ) (t : List ℕ) → d ≤ e → (at : ℕ) → Also (IsWhole d t) (IsWhole e t) (stood_at d t) (stood_at e t) at
 deeper d e t l at w = let m = whole-add (e - d) d e t at (omega arith) w in (m, (one d e t at w m).0)
 
 -- the same of members one behind the other
 pub record Deeper (d e : ℕ) (t : List ℕ) (at n : ℕ) : Type 0 where
-  pub stand : WholeMembers (Whole e t) (stood_at e t) at n
+  pub stand : WholeMembers (IsWhole e t) (stood_at e t) at n
   pub same : members_at (stood_at d t) at n ≡ members_at (stood_at e t) at n
   pub ends : behind_members (stood_at d t) at n ≡ behind_members (stood_at e t) at n
 
-pub members-deeper : (d e : ℕ) (t : List ℕ) (at n : ℕ) → d ≤ e → WholeMembers (Whole d t) (stood_at d t) at n → Deeper d e t at n
+pub members-deeper : (d e : ℕ) (t : List ℕ) (at n : ℕ) → d ≤ e → WholeMembers (IsWhole d t) (stood_at d t) at n → Deeper d e t at n
 members-deeper d e t at n l w =
-    let s = same-members t (Whole d t) (Whole e t) (stood_at d t) (stood_at e t) (deeper d e t l) at n w in
+    let s = same-members t (IsWhole d t) (IsWhole e t) (stood_at d t) (stood_at e t) (deeper d e t l) at n w in
     record {
-      stand = members-also t (Whole d t) (Whole e t) (stood_at d t) (stood_at e t) (deeper d e t l) at n w;
+      stand = members-also t (IsWhole d t) (IsWhole e t) (stood_at d t) (stood_at e t) (deeper d e t l) at n w;
       same = s.0;
       ends = s.1;
     }

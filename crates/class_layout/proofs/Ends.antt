@@ -7,7 +7,7 @@ use Rattle.rules.specs.Class.{bit_array, boolean, unsigned_int, signed_int, floa
 use Rattle.rules.specs.Record.{Shape, bit_field, leb_field, signed_leb_field, zero_string, text, blob, text_of, blob_of, members, elements}
 use Rattle.rules.specs.Record.{elements_of, option?, options, u8}
 use Rattle.class_layout.specs.Trees.{shape_of, record_size, option_class, Stood, behind_members, behind_options, next_in, stood_at, next_at}
-use Rattle.class_layout.specs.Trees.{WholeMembers, WholeOptions, WholeIn, Whole}
+use Rattle.class_layout.specs.Trees.{WholeMembers, WholeOptions, WholeIn, IsWhole}
 
 -- from a place on, up to the table's end
 pub record Ends (t : List ℕ) (from next : ℕ) : Type 0 where
@@ -56,7 +56,7 @@ module _ (t : List ℕ) (g : ℕ → Type 0) (f : ℕ → Stood) (deeper : (p : 
   shape-ends at option? l w = further-in (omega arith) w.1
   shape-ends at options l w = further (omega arith) (options-end (at + 3) (u8 t (at + 2)) l w.1)
 
-pub whole-ends : (d : ℕ) (t : List ℕ) (p : ℕ) → Whole d t p → Ends t (p + 1) (next_at d t p)
-unfolding Whole stood_at
+pub whole-ends : (d : ℕ) (t : List ℕ) (p : ℕ) → IsWhole d t p → Ends t (p + 1) (next_at d t p)
+unfolding IsWhole stood_at
 whole-ends zero t p w = absurd w
-whole-ends (suc d) t p w = shape-ends t (Whole d t) (stood_at d t) (λ q v. whole-ends d t q v) p (shape_of (u8 t p)) w.there w.parts
+whole-ends (suc d) t p w = shape-ends t (IsWhole d t) (stood_at d t) (λ q v. whole-ends d t q v) p (shape_of (u8 t p)) w.there w.parts

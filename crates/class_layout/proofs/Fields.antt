@@ -7,7 +7,7 @@ use mathlib.Core.Bool.{Bool, true, false}
 use Rattle.rules.specs.Step.{State, Step, go, ◌⨾◌, pass}
 use Rattle.rules.specs.Field.{Env, read, read_members, times}
 use Rattle.class_layout.specs.Numbers.{number_at}
-use Rattle.class_layout.specs.Trees.{Stood, stood_at, class_at, next_at, members_at, Whole}
+use Rattle.class_layout.specs.Trees.{Stood, stood_at, class_at, next_at, members_at, IsWhole}
 use Rattle.class_layout.specs.Fields.{read_fields, WholeFields, onward}
 use Rattle.class_layout.proofs.Standing.{first, no_member_lem}
 use Rattle.class_layout.proofs.NumberedReads.{members-first}
@@ -18,7 +18,7 @@ more-times zero m h = absurd (omega arith)
 more-times (suc n) m h = let e : suc n - 1 ≡ n = omega arith in rw e refl
 
 pub record Foremost (again : Bool) (d : ℕ) (t : List ℕ) (at n : ℕ) : Type 0 where
-  pub stands : Whole d t at
+  pub stands : IsWhole d t at
   pub rest : WholeFields again d t (onward again at (next_at d t at)) (n - 1)
   pub reads : (e : Env)
       → read_fields again d t at n e
@@ -27,7 +27,7 @@ pub record Foremost (again : Bool) (d : ℕ) (t : List ℕ) (at n : ℕ) : Type 
 pub foremost : (again : Bool) (d : ℕ) (t : List ℕ) (at n : ℕ) → 0 < n → WholeFields again d t at n → Foremost again d t at n
 unfolding read_fields WholeFields onward
 foremost false d t at n h w =
-    let m = first (Whole d t) (stood_at d t) at n h w in
+    let m = first (IsWhole d t) (stood_at d t) at n h w in
     record { stands = m.whole; rest = m.rest; reads = λ e. members-first e d t at n h w }
 foremost true d t at n h w = record { stands = w; rest = w; reads = λ e. more-times n (read e (number_at t at) (class_at d t at)) h }
 

@@ -19,7 +19,7 @@ use Rattle.facts.specs.Bytes.{Bytes}
 use Rattle.facts.proofs.Numbers.{lt-or-ge}
 use Rattle.facts.proofs.Truth.{clash}
 use Rattle.class_layout.specs.Trees.{shape_of, option_class, Stood, behind_members, behind_options, next_in, stood_at, next_at, align_members}
-use Rattle.class_layout.specs.Trees.{align_in, align_at, WholeMembers, WholeOptions, WholeIn, Whole}
+use Rattle.class_layout.specs.Trees.{align_in, align_at, WholeMembers, WholeOptions, WholeIn, IsWhole}
 use Rattle.class_layout.specs.Trees.{ranges_at, sign_at, members_at, options_at, class_in, class_at}
 use Rattle.class_layout.specs.Fragments.{behind_fragment, fragments_of, All, AllFragments}
 use Rattle.class_layout.specs.Notes.{Notes, notes, end_noted, align_noted, end_by, align_by, size_to, is_class, note_at, note_below}
@@ -163,10 +163,10 @@ module _ (t : List ℕ) where
   -- the notes have room for the table, and those of the classes from p on are right
   pub record From (p : ℕ) (x : Notes) : Type 0 where
     pub room : (length t ≤ length x.sizes) × (length t ≤ length x.aligns)
-    pub classes : (d q : ℕ) → p ≤ q → Whole d t q → NotedClass t x d q
+    pub classes : (d q : ℕ) → p ≤ q → IsWhole d t q → NotedClass t x d q
 
-  class-kind : (d p : ℕ) → Whole d t p → is_class (u8 t p) ≡ true
-  unfolding Whole is_class
+  class-kind : (d p : ℕ) → IsWhole d t p → is_class (u8 t p) ≡ true
+  unfolding IsWhole is_class
   class-kind zero p w = absurd w
   class-kind (suc d) p w = rw (le-leb 16 (u8 t p) w.low, le-leb (u8 t p) 32 w.high)
 
@@ -175,14 +175,14 @@ module _ (t : List ℕ) where
     align : align_at d t p ≡ align_by t x p
     says : SaysSet (sets_by t x p) (sets (class_at d t p))
 
-  by-notes : (x : Notes) (d p : ℕ) → From (suc p) x → Whole d t p → ByNotes x d p
-  unfolding Whole stood_at align_at end_noted align_noted
+  by-notes : (x : Notes) (d p : ℕ) → From (suc p) x → IsWhole d t p → ByNotes x d p
+  unfolding IsWhole stood_at align_at end_noted align_noted
   by-notes x zero p b w = absurd w
   by-notes x (suc d) p b w =
-      let r = shape-noted t p (Whole d t) (stood_at d t) (end_noted x.sizes) (align_at d t) (align_noted x.aligns)
+      let r = shape-noted t p (IsWhole d t) (stood_at d t) (end_noted x.sizes) (align_at d t) (align_noted x.aligns)
       (λ q v. whole-ends d t q v)
       (λ q l v. let n = b.classes d q l v in (sym n.size, sym n.align)) (shape_of (u8 t p)) w.parts in
-      let says = shape-says t p (Whole d t) (stood_at d t) (end_noted x.sizes) (sets_noted x.aligns) (λ q v. whole-ends d t q v)
+      let says = shape-says t p (IsWhole d t) (stood_at d t) (end_noted x.sizes) (sets_noted x.aligns) (λ q v. whole-ends d t q v)
       (λ q l v. let n = b.classes d q l v in (sym n.size, n.sets)) (shape_of (u8 t p))
       (of-class (u8 t p) w.low w.high).slot w.parts in
       record { end = r.0; align = r.1; says = says }
@@ -192,7 +192,7 @@ module _ (t : List ℕ) where
   sets-small x p bytes =
       shape-small t bytes (end_noted x.sizes) (sets_noted x.aligns) (λ q. sets-of-small (get_or x.aligns q 0)) p (shape_of (u8 t p))
 
-  noted_here : (x : Notes) (d p : ℕ) → Bytes t → From (suc p) x → Whole d t p
+  noted_here : (x : Notes) (d p : ℕ) → Bytes t → From (suc p) x → IsWhole d t p
       → NotedClass t (notes (set x.sizes p (size_to t p (end_by t x p))) (set x.aligns p (word_of (align_by t x p) (sets_by t x p)))) d p
   unfolding size_to align_noted sets_noted
   noted_here x d p bytes b w =
@@ -304,7 +304,7 @@ module _ (t : List ℕ) where
       let b = all_noted x bytes s a in
       let y = note_below t (length t) x in
       let room = b.room.1 in
-      let c : (d p : ℕ) → Whole d t p → NotedClass t (notes_of t x) d p = λ d p w.
+      let c : (d p : ℕ) → IsWhole d t p → NotedClass t (notes_of t x) d p = λ d p w.
       let n = b.classes d p (omega arith) w in
       record {
         size = rw (not-fragment (fragments_of t) y.sizes p h (class-opens-none d t p w)) n.size;

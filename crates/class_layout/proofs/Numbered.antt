@@ -17,7 +17,7 @@ use Rattle.rules.specs.Record.{elements_of, option?, options, u8, size, layouts}
 use Rattle.class_layout.specs.Numbers.{Begins, number_at}
 use Rattle.class_layout.specs.Trees.{shapes, shape_of, record_size, ranges_at, option_class, optional_of, Stood, members_at, behind_members}
 use Rattle.class_layout.specs.Trees.{options_at, behind_options, class_in, next_in, stood_at, class_at, next_at, WholeMembers, WholeOptions}
-use Rattle.class_layout.specs.Trees.{WholeIn, Whole, RangeKinds, OptionKinds, KindsIn}
+use Rattle.class_layout.specs.Trees.{WholeIn, IsWhole, RangeKinds, OptionKinds, KindsIn}
 use Rattle.class_layout.proofs.Numbers.{begins-behind, next-number, number-low, Passed, passed_none, passed-one, passed-both}
 use Rattle.class_layout.proofs.Records.{size-at}
 use Rattle.class_layout.proofs.ClassRecords.{class-size}
@@ -111,39 +111,39 @@ module _ (t : List ℕ) (g : ℕ → Type 0) (f : ℕ → Stood) (deeper : (p : 
 
 -- A class
 
-pub class-opens-none : (d : ℕ) (t : List ℕ) (at : ℕ) → Whole d t at → 5 < u8 t at
-unfolding Whole
+pub class-opens-none : (d : ℕ) (t : List ℕ) (at : ℕ) → IsWhole d t at → 5 < u8 t at
+unfolding IsWhole
 class-opens-none zero t at w = absurd w
 class-opens-none (suc d) t at w = omega (arith, w.low)
 
-pub class-begins : (d : ℕ) (t : List ℕ) (at : ℕ) → Whole d t at → Begins t at
-unfolding Whole
+pub class-begins : (d : ℕ) (t : List ℕ) (at : ℕ) → IsWhole d t at → Begins t at
+unfolding IsWhole
 class-begins zero t at w = absurd w
 class-begins (suc d) t at w = w.begins
 
-pub class-passed : (d : ℕ) (t : List ℕ) (at : ℕ) → Whole d t at → Passed t at (records (class_at d t at)) (next_at d t at)
-unfolding Whole stood_at
+pub class-passed : (d : ℕ) (t : List ℕ) (at : ℕ) → IsWhole d t at → Passed t at (records (class_at d t at)) (next_at d t at)
+unfolding IsWhole stood_at
 class-passed zero t at w = absurd w
 class-passed (suc d) t at w =
-    shape-passed t (Whole d t) (stood_at d t) (λ q v. class-passed d t q v) at (shape_of (u8 t at)) (omega (arith, w.low))
+    shape-passed t (IsWhole d t) (stood_at d t) (λ q v. class-passed d t q v) at (shape_of (u8 t at)) (omega (arith, w.low))
     (class-size t at w.low w.high) w.parts w.kinds
 
 module _ (d : ℕ) (t : List ℕ) (at : ℕ) where
-  pub behind-begins : Whole d t at → Begins t (next_at d t at)
+  pub behind-begins : IsWhole d t at → Begins t (next_at d t at)
   behind-begins w = (class-passed d t at w).begins (class-begins d t at w)
 
-  pub number_small : Whole d t at → length t ≤ 65536 → number_at t at < 65536
+  pub number_small : IsWhole d t at → length t ≤ 65536 → number_at t at < 65536
   number_small w l = omega (arith, number-low (class-begins d t at w), whole-inside d t at w)
 
-  pub number_behind : Whole d t at → 5 < u8 t (next_at d t at) → number_at t (next_at d t at) ≡ number_at t at + records (class_at d t at)
+  pub number_behind : IsWhole d t at → 5 < u8 t (next_at d t at) → number_at t (next_at d t at) ≡ number_at t at + records (class_at d t at)
   number_behind w h = (class-passed d t at w).number (class-begins d t at w) h
 
-  pub members-behind : (n : ℕ) → WholeMembers (Whole d t) (stood_at d t) at n → 5 < u8 t (behind_members (stood_at d t) at n)
+  pub members-behind : (n : ℕ) → WholeMembers (IsWhole d t) (stood_at d t) at n → 5 < u8 t (behind_members (stood_at d t) at n)
       → number_at t (behind_members (stood_at d t) at n) ≡ number_at t at + member_records (members_at (stood_at d t) at n)
   unfolding WholeMembers members_at behind_members records
   members-behind zero w h = omega arith
   members-behind (suc n) w h =
-      (members-passed t (Whole d t) (stood_at d t) (class-passed d t) at (suc n) w).number (class-begins d t at w.0) h
+      (members-passed t (IsWhole d t) (stood_at d t) (class-passed d t) at (suc n) w).number (class-begins d t at w.0) h
 
 -- What it holds, by its kind
 
@@ -161,11 +161,11 @@ record OfKind (d : ℕ) (t : List ℕ) (at k : ℕ) : Type 0 where
   begins : Begins t at
   low : 5 < u8 t at
   bytes : size (drop at t) ≡ record_size (shape_of k)
-  parts : WholeIn (Whole d t) (stood_at d t) t at (shape_of k)
+  parts : WholeIn (IsWhole d t) (stood_at d t) t at (shape_of k)
   kinds : KindsIn (stood_at d t) t at (shape_of k)
 
-of-kind : (d : ℕ) (t : List ℕ) (at k : ℕ) → Whole (suc d) t at → u8 t at ≡ k → OfKind d t at k
-unfolding Whole
+of-kind : (d : ℕ) (t : List ℕ) (at k : ℕ) → IsWhole (suc d) t at → u8 t at ≡ k → OfKind d t at k
+unfolding IsWhole
 of-kind d t at k w e = record {
   begins = w.begins;
   low = omega (arith, w.low);
@@ -174,40 +174,40 @@ of-kind d t at k w e = record {
   kinds = rw e at w.kinds;
 }
 
-pub structure-number : (d : ℕ) (t : List ℕ) (at : ℕ) → Whole d t at → u8 t at ≡ 28 → 5 < u8 t (at + 3)
+pub structure-number : (d : ℕ) (t : List ℕ) (at : ℕ) → IsWhole d t at → u8 t at ≡ 28 → 5 < u8 t (at + 3)
     → number_at t (at + 3) ≡ number_at t at + 1
-unfolding Whole record_size shape_of shapes
+unfolding IsWhole record_size shape_of shapes
 structure-number zero t at w e h = absurd w
 structure-number (suc d) t at w e h = let k = of-kind d t at 28 w e in held_number t at 3 k.begins k.bytes h
 
-pub structure-members : (d : ℕ) (t : List ℕ) (at : ℕ) → Whole (suc d) t at → u8 t at ≡ 28
-    → WholeMembers (Whole d t) (stood_at d t) (at + 3) (u8 t (at + 1))
+pub structure-members : (d : ℕ) (t : List ℕ) (at : ℕ) → IsWhole (suc d) t at → u8 t at ≡ 28
+    → WholeMembers (IsWhole d t) (stood_at d t) (at + 3) (u8 t (at + 1))
 unfolding shape_of shapes WholeIn
 structure-members d t at w e = (of-kind d t at 28 w e).parts.1
 
-pub array-number : (d : ℕ) (t : List ℕ) (at : ℕ) → Whole d t at → u8 t at ≡ 29 → number_at t (at + 4) ≡ number_at t at + 1
-unfolding Whole record_size shape_of shapes WholeIn
+pub array-number : (d : ℕ) (t : List ℕ) (at : ℕ) → IsWhole d t at → u8 t at ≡ 29 → number_at t (at + 4) ≡ number_at t at + 1
+unfolding IsWhole record_size shape_of shapes WholeIn
 array-number zero t at w e = absurd w
 array-number (suc d) t at w e =
     let k = of-kind d t at 29 w e in held_number t at 4 k.begins k.bytes (class-opens-none d t (at + 4) k.parts.1)
 
-pub dynamic-number : (d : ℕ) (t : List ℕ) (at : ℕ) → Whole d t at → u8 t at ≡ 30 → number_at t (at + 3) ≡ number_at t at + 1
-unfolding Whole record_size shape_of shapes WholeIn
+pub dynamic-number : (d : ℕ) (t : List ℕ) (at : ℕ) → IsWhole d t at → u8 t at ≡ 30 → number_at t (at + 3) ≡ number_at t at + 1
+unfolding IsWhole record_size shape_of shapes WholeIn
 dynamic-number zero t at w e = absurd w
 dynamic-number (suc d) t at w e =
     let k = of-kind d t at 30 w e in held_number t at 3 k.begins k.bytes (class-opens-none d t (at + 3) k.parts.1)
 
-pub optional-number : (d : ℕ) (t : List ℕ) (at : ℕ) → Whole d t at → u8 t at ≡ 31
+pub optional-number : (d : ℕ) (t : List ℕ) (at : ℕ) → IsWhole d t at → u8 t at ≡ 31
     → number_at t (at + 3 + 18 * u8 t (at + 2)) ≡ number_at t at + 1 + length (ranges_at t (at + 3) (u8 t (at + 2)))
-unfolding Whole record_size shape_of shapes WholeIn KindsIn
+unfolding IsWhole record_size shape_of shapes WholeIn KindsIn
 optional-number zero t at w e = absurd w
 optional-number (suc d) t at w e =
     let k = of-kind d t at 31 w e in
     let o = at + 3 + 18 * u8 t (at + 2) in
     omega (arith, (optional-passed t at k.low k.bytes k.kinds).number k.begins (class-opens-none d t o k.parts.1))
 
-pub variant-number : (d : ℕ) (t : List ℕ) (at : ℕ) → Whole d t at → u8 t at ≡ 32 → number_at t (at + 3) ≡ number_at t at + 1
-unfolding Whole record_size shape_of shapes WholeIn KindsIn
+pub variant-number : (d : ℕ) (t : List ℕ) (at : ℕ) → IsWhole d t at → u8 t at ≡ 32 → number_at t (at + 3) ≡ number_at t at + 1
+unfolding IsWhole record_size shape_of shapes WholeIn KindsIn
 variant-number zero t at w e = absurd w
 variant-number (suc d) t at w e =
     let k = of-kind d t at 32 w e in
@@ -218,20 +218,20 @@ variant-number (suc d) t at w e =
 
 pub record OptionsStand (d : ℕ) (t : List ℕ) (at n : ℕ) : Type 0 where
   pub begins : Begins t at
-  pub Whole : WholeOptions (Whole d t) (stood_at d t) t at n
+  pub IsWhole : WholeOptions (IsWhole d t) (stood_at d t) t at n
   pub kinds : OptionKinds (stood_at d t) t at n
 
-pub variant-options : (d : ℕ) (t : List ℕ) (at : ℕ) → Whole (suc d) t at → u8 t at ≡ 32 → OptionsStand d t (at + 3) (u8 t (at + 2))
+pub variant-options : (d : ℕ) (t : List ℕ) (at : ℕ) → IsWhole (suc d) t at → u8 t at ≡ 32 → OptionsStand d t (at + 3) (u8 t (at + 2))
 unfolding record_size shape_of shapes WholeIn KindsIn
 variant-options d t at w e =
     let k = of-kind d t at 32 w e in
-    record { begins = begins-behind k.begins 3 k.bytes; Whole = k.parts.1; kinds = k.kinds }
+    record { begins = begins-behind k.begins 3 k.bytes; IsWhole = k.parts.1; kinds = k.kinds }
 
 module _ (d : ℕ) (t : List ℕ) (at n : ℕ) (s : OptionsStand d t at (suc n)) where
   -- an option with its class
   record OptionFirst : Type 0 where
-    class : Whole d t (option_class t at)
-    rest : WholeOptions (Whole d t) (stood_at d t) t (next_at d t (option_class t at)) n
+    class : IsWhole d t (option_class t at)
+    rest : WholeOptions (IsWhole d t) (stood_at d t) t (next_at d t (option_class t at)) n
     kinds : OptionKinds (stood_at d t) t (next_at d t (option_class t at)) n
     row : Passed t at (1 + length (ranges_at t (at + 2) (u8 t (at + 1)))) (option_class t at)
 
@@ -245,7 +245,7 @@ module _ (d : ℕ) (t : List ℕ) (at n : ℕ) (s : OptionsStand d t at (suc n))
   }
 
   pub options-rest : OptionsStand d t (next_at d t (option_class t at)) n
-  options-rest = record { begins = behind-begins d t (option_class t at) first.class; Whole = first.rest; kinds = first.kinds }
+  options-rest = record { begins = behind-begins d t (option_class t at) first.class; IsWhole = first.rest; kinds = first.kinds }
 
   pub option-class-number : number_at t (option_class t at) ≡ number_at t at + 1 + length (ranges_at t (at + 2) (u8 t (at + 1)))
   option-class-number = omega (arith, first.row.number s.begins (class-opens-none d t (option_class t at) first.class))

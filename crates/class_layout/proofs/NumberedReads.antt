@@ -16,7 +16,7 @@ use Rattle.rules.specs.Step.{Step, ◌⨾◌}
 use Rattle.rules.specs.Field.{Env, field, read, read_members, read_option}
 use Rattle.class_layout.specs.Numbers.{number_at}
 use Rattle.class_layout.specs.Trees.{ranges_at, option_class, Stood, members_at, options_at, stood_at, class_at, next_at, WholeMembers}
-use Rattle.class_layout.specs.Trees.{Whole}
+use Rattle.class_layout.specs.Trees.{IsWhole}
 use Rattle.class_layout.proofs.Standing.{first}
 use Rattle.class_layout.proofs.Numbered.{class-opens-none, number_behind, structure-number, OptionsStand, option-class-number}
 use Rattle.class_layout.proofs.Numbered.{option-next-number, structure-members}
@@ -30,22 +30,22 @@ members-numbered e t m f at zero h = refl
 members-numbered e t m f at (suc n) h = ap (λ i. read_members e i (members_at f at (suc n))) (h (omega arith))
 
 -- a member opens no fragment
-member-kind : (d : ℕ) (t : List ℕ) (at n : ℕ) → 0 < n → WholeMembers (Whole d t) (stood_at d t) at n → 5 < u8 t at
-member-kind d t at n h w = class-opens-none d t at (first (Whole d t) (stood_at d t) at n h w).whole
+member-kind : (d : ℕ) (t : List ℕ) (at n : ℕ) → 0 < n → WholeMembers (IsWhole d t) (stood_at d t) at n → 5 < u8 t at
+member-kind d t at n h w = class-opens-none d t at (first (IsWhole d t) (stood_at d t) at n h w).whole
 
-pub members-first : (e : Env) (d : ℕ) (t : List ℕ) (at n : ℕ) → 0 < n → WholeMembers (Whole d t) (stood_at d t) at n
+pub members-first : (e : Env) (d : ℕ) (t : List ℕ) (at n : ℕ) → 0 < n → WholeMembers (IsWhole d t) (stood_at d t) at n
     → read_members e (number_at t at) (members_at (stood_at d t) at n)
     ≡ (read e (number_at t at) (class_at d t at)
     ⨾ read_members e (number_at t (next_at d t at)) (members_at (stood_at d t) (next_at d t at) (n - 1)))
 unfolding read_members
 members-first e d t at n h w =
-    let m = first (Whole d t) (stood_at d t) at n h w in
+    let m = first (IsWhole d t) (stood_at d t) at n h w in
     ap (read_members e (number_at t at)) m.classes
     ∙ ap (λ s. read e (number_at t at) (class_at d t at) ⨾ s)
     (members-numbered e t (number_at t at + records (class_at d t at)) (stood_at d t) (next_at d t at) (n - 1)
     (λ some. sym (number_behind d t at m.whole (member-kind d t (next_at d t at) (n - 1) some m.rest))))
 
-pub structure-reads : (e : Env) (d : ℕ) (t : List ℕ) (at : ℕ) → Whole (suc d) t at → u8 t at ≡ 28
+pub structure-reads : (e : Env) (d : ℕ) (t : List ℕ) (at : ℕ) → IsWhole (suc d) t at → u8 t at ≡ 28
     → read_members e (number_at t at + 1) (members_at (stood_at d t) (at + 3) (u8 t (at + 1)))
     ≡ read_members e (number_at t (at + 3)) (members_at (stood_at d t) (at + 3) (u8 t (at + 1)))
 structure-reads e d t at w k =

@@ -8,7 +8,7 @@ use Rattle.rules.specs.Record.{elements_of, option?, options, u8, u16}
 use Rattle.rules.specs.Class.{bit_array, boolean, unsigned_int, signed_int, float}
 use Rattle.class_layout.specs.Trees.{shape_of, ranges_at, sign_at, option_class, optional_of, Stood, members_at, behind_members, options_at}
 use Rattle.class_layout.specs.Trees.{behind_options, class_in, next_in, stood_at, align_members, align_in, align_at, WholeMembers}
-use Rattle.class_layout.specs.Trees.{WholeOptions, WholeIn, Whole}
+use Rattle.class_layout.specs.Trees.{WholeOptions, WholeIn, IsWhole}
 
 abbrev Same : Stood → Stood → ℕ → ℕ → Type 0
 Same s s' a a' = (s ≡ s') × (a ≡ a')
@@ -69,11 +69,11 @@ module _ (t : List ℕ) (g g' : ℕ → Type 0) (f f' : ℕ → Stood) (h h' : �
       (ap (λ c. record { class = optional_of (u8 t (at + 1)) (sign_at t (at + 3)) rs c.class; next = c.next }) s.0, refl)
   shape_one at options w w' = let r = options-one (at + 3) (u8 t (at + 2)) w.1 w'.1 in (rw (r.0, r.1), refl)
 
-pub one : (d e : ℕ) (t : List ℕ) (at : ℕ) → Whole d t at → Whole e t at
+pub one : (d e : ℕ) (t : List ℕ) (at : ℕ) → IsWhole d t at → IsWhole e t at
     → Same (stood_at d t at) (stood_at e t at) (align_at d t at) (align_at e t at)
-unfolding Whole stood_at align_at
+unfolding IsWhole stood_at align_at
 one zero e t at w w' = absurd w
 one (suc d) zero t at w w' = absurd w'
 one (suc d) (suc e) t at w w' =
-    shape_one t (Whole d t) (Whole e t) (stood_at d t) (stood_at e t) (align_at d t) (align_at e t)
+    shape_one t (IsWhole d t) (IsWhole e t) (stood_at d t) (stood_at e t) (align_at d t) (align_at e t)
     (λ p v v'. one d e t p v v') at (shape_of (u8 t at)) w.parts w'.parts

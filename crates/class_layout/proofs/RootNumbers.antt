@@ -17,7 +17,7 @@ use Rattle.rules.specs.Record.{u8, size, no, layouts}
 use Rattle.rules.specs.Packet.{first_root, root_records, header_number, common_number, payload_number}
 use Rattle.facts.proofs.Cases.{◌▷◌, below}
 use Rattle.class_layout.specs.Numbers.{Begins, number_at}
-use Rattle.class_layout.specs.Trees.{class_at, next_at, Whole}
+use Rattle.class_layout.specs.Trees.{class_at, next_at, IsWhole}
 use Rattle.class_layout.specs.Fragments.{opening_size, roots_of, root_here, root_places, root_place, map_option, root_class, stream_class_at}
 use Rattle.class_layout.specs.Fragments.{event_class_at, behind_roots, behind_fragment, Fragment}
 use Rattle.class_layout.proofs.Numbers.{begins-behind, next-number, opening-number, Passed, passed_none, passed-both}
@@ -40,7 +40,7 @@ module _ (t : List ℕ) where
   none-some h = let z : ◌≡◌ {A = ℕ} 0 1 = cc in omega arith
 
   abbrev Wholes : List (Option ℕ) → Type 0
-  Wholes ps = (i p : ℕ) → get_or ps i none ≡ some p → Whole depth_limit t p
+  Wholes ps = (i p : ℕ) → get_or ps i none ≡ some p → IsWhole depth_limit t p
 
   -- the records of some roots, from a byte on
   roots-row : (ns : List ℕ) (at : ℕ) → Wholes (root_places t at ns)

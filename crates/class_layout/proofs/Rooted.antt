@@ -17,7 +17,7 @@ use Rattle.rules.specs.Faults.{Ids, top, Under, root_fault}
 use Rattle.facts.proofs.Numbers.{lt-or-ge}
 use Rattle.facts.proofs.Truth.{and_left, and_right, and_none}
 use Rattle.class_layout.specs.Numbers.{Begins}
-use Rattle.class_layout.specs.Trees.{class_at, next_at, Whole}
+use Rattle.class_layout.specs.Trees.{class_at, next_at, IsWhole}
 use Rattle.class_layout.specs.Fragments.{root_here, root_places, behind_roots, map_option}
 use Rattle.class_layout.proofs.Numbers.{begins-behind}
 use Rattle.class_layout.proofs.Records.{root-kind, root-record, root-size, behind-at}
@@ -64,7 +64,7 @@ module _ (t : List ℕ) where
 
   pub record RootsStand (ps : List (Option ℕ)) (at next : ℕ) (cs : List (Option Class)) (x : List ℕ) : Type 0 where
     pub classes : cs ≡ map (map_option (class_at depth_limit t)) ps
-    pub wholes : (i p : ℕ) → get_or ps i none ≡ some p → Whole depth_limit t p
+    pub wholes : (i p : ℕ) → get_or ps i none ≡ some p → IsWhole depth_limit t p
     pub rest : x ≡ drop next t
     pub within : next ≤ length t
     pub onward : at ≤ next
@@ -86,8 +86,8 @@ module _ (t : List ℕ) where
     begins = b.begins;
   }
     where
-      wholes : (i p : ℕ) → get_or (some (at + 2) ∷ ps) i none ≡ some p → Whole depth_limit t p
-      wholes zero p e = subst (Whole depth_limit t) (cc) a.stands
+      wholes : (i p : ℕ) → get_or (some (at + 2) ∷ ps) i none ≡ some p → IsWhole depth_limit t p
+      wholes zero p e = subst (IsWhole depth_limit t) (cc) a.stands
       wholes (suc i) p e = b.wholes i p e
 
   root-absent : (at next : ℕ) (ps : List (Option ℕ)) (cs bs : List (Option Class)) (x z : List ℕ) → RootsStand ps at next cs x
@@ -104,7 +104,7 @@ module _ (t : List ℕ) where
         begins = b.begins;
       }
     where
-      wholes : (i p : ℕ) → get_or (none ∷ ps) i none ≡ some p → Whole depth_limit t p
+      wholes : (i p : ℕ) → get_or (none ∷ ps) i none ≡ some p → IsWhole depth_limit t p
       wholes zero p e = absurd (none-some e)
       wholes (suc i) p e = b.wholes i p e
 

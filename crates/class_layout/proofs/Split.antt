@@ -9,7 +9,7 @@ use Rattle.rules.specs.Step.{◌⨾◌, pass}
 use Rattle.rules.specs.Field.{Env, read, read_members}
 use Rattle.facts.proofs.Steps.{seq-assoc, pass-seq}
 use Rattle.class_layout.specs.Numbers.{number_at}
-use Rattle.class_layout.specs.Trees.{Stood, stood_at, class_at, next_at, members_at, behind_members, WholeMembers, Whole}
+use Rattle.class_layout.specs.Trees.{Stood, stood_at, class_at, next_at, members_at, behind_members, WholeMembers, IsWhole}
 use Rattle.class_layout.proofs.Standing.{first}
 use Rattle.class_layout.proofs.NumberedReads.{members-first}
 
@@ -34,7 +34,7 @@ module _ (f : ℕ → Stood) where
 
 -- What reading them is
 
-pub read-split : (e : Env) (d : ℕ) (t : List ℕ) (k n at : ℕ) → WholeMembers (Whole d t) (stood_at d t) at (k + n)
+pub read-split : (e : Env) (d : ℕ) (t : List ℕ) (k n at : ℕ) → WholeMembers (IsWhole d t) (stood_at d t) at (k + n)
     → read_members e (number_at t at) (members_at (stood_at d t) at (k + n))
     ≡ (read_members e (number_at t at) (members_at (stood_at d t) at k)
     ⨾ read_members e (number_at t (behind_members (stood_at d t) at k)) (members_at (stood_at d t) (behind_members (stood_at d t) at k) n))
@@ -47,8 +47,8 @@ read-split e d t (suc k) n at w =
     let last = behind_members (stood_at d t) rest k in
     let less : suc k + n - 1 ≡ k + n = omega arith in
     let none : suc k - 1 ≡ k = omega arith in
-    let all = first (Whole d t) (stood_at d t) at (suc k + n) (omega arith) w in
-    let front = (whole_split (stood_at d t) (Whole d t) (suc k) n at w).0 in
+    let all = first (IsWhole d t) (stood_at d t) at (suc k + n) (omega arith) w in
+    let front = (whole_split (stood_at d t) (IsWhole d t) (suc k) n at w).0 in
     members-first e d t at (suc k + n) (omega arith) w
     ∙ ap (λ m. read e (number_at t at) (class_at d t at) ⨾ m) (rw less (read-split e d t k n rest (rw less at all.rest)))
     ∙ sym (seq-assoc _ _ _)

@@ -7,17 +7,17 @@ use Rattle.rules.specs.Class.{bit_array, boolean, unsigned_int, signed_int, floa
 use Rattle.rules.specs.Record.{Shape, bit_field, leb_field, signed_leb_field, zero_string, text, blob, text_of, blob_of, u8}
 use Rattle.rules.specs.Record.{members, elements, elements_of, option?, options}
 use Rattle.facts.proofs.Cases.{◌▷◌, below}
-use Rattle.class_layout.specs.Trees.{Stood, shapes, shape_of, class_in, class_at, stood_at, members_at, Whole, WholeIn, WholeMembers}
+use Rattle.class_layout.specs.Trees.{Stood, shapes, shape_of, class_in, class_at, stood_at, members_at, IsWhole, WholeIn, WholeMembers}
 use Rattle.class_layout.specs.Trees.{KindsIn}
 
 module _ (t : List ℕ) (p : ℕ) where
-  pub depth-some : (d : ℕ) → Whole d t p → d ≡ suc (d - 1)
-  unfolding Whole
+  pub depth-some : (d : ℕ) → IsWhole d t p → d ≡ suc (d - 1)
+  unfolding IsWhole
   depth-some zero w = absurd w
   depth-some (suc d) w = omega arith
 
-  pub kind-high : (d : ℕ) → Whole d t p → u8 t p ≤ 32
-  unfolding Whole
+  pub kind-high : (d : ℕ) → IsWhole d t p → u8 t p ≤ 32
+  unfolding IsWhole
   kind-high zero w = absurd w
   kind-high (suc d) w = w.high
 
@@ -100,20 +100,20 @@ module _ (f f' : ℕ → Stood) (t : List ℕ) (p : ℕ) where
   leaf-kinds options h = absurd h
 
 module _ (t : List ℕ) (p : ℕ) where
-  pub leaf-whole : (d : ℕ) → Whole d t p → u8 t p < 28 → Whole 1 t p
-  unfolding Whole
+  pub leaf-whole : (d : ℕ) → IsWhole d t p → u8 t p < 28 → IsWhole 1 t p
+  unfolding IsWhole
   leaf-whole zero w h = absurd w
   leaf-whole (suc d) w h = record {
     low = w.low;
     high = w.high;
     there = w.there;
-    parts = leaf-stands (stood_at d t) (stood_at 0 t) t p (Whole d t) (Whole 0 t) (shape_of (u8 t p)) (leafy (u8 t p) h) w.parts;
+    parts = leaf-stands (stood_at d t) (stood_at 0 t) t p (IsWhole d t) (IsWhole 0 t) (shape_of (u8 t p)) (leafy (u8 t p) h) w.parts;
     kinds = leaf-kinds (stood_at d t) (stood_at 0 t) t p (shape_of (u8 t p)) (leafy (u8 t p) h);
     begins = w.begins;
   }
 
-  pub leaf-class : (d : ℕ) → Whole d t p → u8 t p < 28 → class_at d t p ≡ class_at 1 t p
-  unfolding Whole stood_at
+  pub leaf-class : (d : ℕ) → IsWhole d t p → u8 t p < 28 → class_at d t p ≡ class_at 1 t p
+  unfolding IsWhole stood_at
   leaf-class zero w h = absurd w
   leaf-class (suc d) w h = leaf-in (stood_at d t) (stood_at 0 t) t p (shape_of (u8 t p)) (leafy (u8 t p) h)
 
@@ -121,7 +121,7 @@ module _ (t : List ℕ) (p : ℕ) where
 
 module _ (g : ℕ → Type 0) (f : ℕ → Stood) (at : ℕ) where
   pub record First (n : ℕ) : Type 0 where
-    pub Whole : g at
+    pub IsWhole : g at
     pub rest : WholeMembers g f (f at).next (n - 1)
     pub classes : members_at f at n ≡ member (f at).class (members_at f (f at).next (n - 1))
 
@@ -130,7 +130,7 @@ module _ (g : ℕ → Type 0) (f : ℕ → Stood) (at : ℕ) where
   first zero h w = absurd (omega arith)
   first (suc n) h w =
       let e : suc n - 1 ≡ n = omega arith in
-      record { Whole = w.0; rest = rw e w.1; classes = rw e refl }
+      record { IsWhole = w.0; rest = rw e w.1; classes = rw e refl }
 
 pub no_member_lem : (f : ℕ → Stood) (at n : ℕ) → n ≤ 0 → members_at f at n ≡ no_member
 unfolding members_at

@@ -22,7 +22,7 @@ use Rattle.facts.proofs.Truth.{or-false, clash}
 use Rattle.class_layout.specs.Numbers.{Begins}
 use Rattle.class_layout.specs.Trees.{shape_of, record_size, ranges_at, sign_at, option_class, optional_of, Stood, members_at, behind_members}
 use Rattle.class_layout.specs.Trees.{options_at, behind_options, class_in, next_in, stood_at, class_at, next_at, WholeMembers, WholeOptions}
-use Rattle.class_layout.specs.Trees.{WholeIn, Whole, RangeKinds, OptionKinds, KindsIn}
+use Rattle.class_layout.specs.Trees.{WholeIn, IsWhole, RangeKinds, OptionKinds, KindsIn}
 use Rattle.class_layout.proofs.Numbers.{begins-behind}
 use Rattle.class_layout.proofs.Records.{range_at, option-at}
 use Rattle.class_layout.proofs.ClassRecords.{said_at, class-at}
@@ -326,11 +326,11 @@ module _ (t : List ℕ) where
 -- A class
 
 abbrev pub Stands : ℕ → List ℕ → ℕ → Class → List ℕ → Type 0
-Stands d t at c x = Took t (Whole d t at) (class_at d t at) (at + 1) (next_at d t at) c x
+Stands d t at c x = Took t (IsWhole d t at) (class_at d t at) (at + 1) (next_at d t at) c x
 
 pub stands : (q : Ids) (u : Under) (d : ℕ) (z : Spot) (t : List ℕ) (at : ℕ) (c : Class) (x : List ℕ) → Begins t at
     → parse_class q u d z (drop at t) ≡ good c x → Stands d t at c x
-unfolding parse_class class_fault parse_body Whole stood_at
+unfolding parse_class class_fault parse_body IsWhole stood_at
 stands q u zero z t at c x begun e = absurd (bad-good (one-good q _ _ t at c x e).rest)
 stands q u (suc d) z t at c x begun e =
     let k = one-good q _ _ t at c x e in
@@ -346,7 +346,7 @@ stands q u (suc d) z t at c x begun e =
     by rec (option j) e n m k = absurd (omega arith)
     by rec (class y) e n m k =
         let a = class-at t at y e in
-        let s = shape-stands t q (parse_class q u d) (Whole d t) (stood_at d t) rec z at (shape_of (u8 t at)) c x
+        let s = shape-stands t q (parse_class q u d) (IsWhole d t) (stood_at d t) rec z at (shape_of (u8 t at)) c x
         (rw a.says at (class-sane u z false y n)) (omega (arith, a.bytes)) (begins-behind begun _ a.bytes)
         (rw (a.bytes, a.says) at k) in
         record {

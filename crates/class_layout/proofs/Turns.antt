@@ -12,13 +12,13 @@ use Rattle.rules.specs.Record.{u8}
 use Rattle.facts.proofs.Numbers.{lt-or-ge}
 use Rattle.class_layout.specs.declared.TablePlace.TheVariants.{At, Nothing}
 use Rattle.class_layout.specs.declared.openings.Opening.{Opening}
-use Rattle.class_layout.specs.Trees.{next_at, Whole}
+use Rattle.class_layout.specs.Trees.{next_at, IsWhole}
 use Rattle.class_layout.specs.Fragments.{root_here, root_places, behind_roots, root_place, behind_fragment, Fragment}
 use Rattle.class_layout.specs.Sizes.{found_of, SizedRoots, SizedFragment, numbered, OpeningOf, behind_root, SizedRoot}
 
 -- a class that stands whole begins before the table's end, past which every byte reads as 0
-pub whole-inside : (d : ℕ) (t : List ℕ) (p : ℕ) → Whole d t p → p < length t
-unfolding Whole u8
+pub whole-inside : (d : ℕ) (t : List ℕ) (p : ℕ) → IsWhole d t p → p < length t
+unfolding IsWhole u8
 whole-inside zero t p w = absurd w
 whole-inside (suc d) t p w = ⊎_elim
     (λ (l : p < length t). l)
@@ -55,7 +55,7 @@ pub record Turn (t s : List ℕ) (o turn at number left : ℕ) : Type 0 where
   pub enough : left < more
   pub same : root_place t o turn ≡ get_or (root_places t at (numbered number more)) left none
   pub roots : (j p : ℕ) → get_or (root_places t at (numbered number more)) j none ≡ some p
-      → Whole depth_limit t p × (p + get_or s p 0 ≡ next_at depth_limit t p)
+      → IsWhole depth_limit t p × (p + get_or s p 0 ≡ next_at depth_limit t p)
 
 module _ (t : List ℕ) (o turn : ℕ) {r : Opening} (e : OpeningOf (u8 t o) r) where
   places-are : (j : ℕ) → root_place t o j ≡ get_or (root_places t (o + r.size) (numbered r.first r.count)) j none
@@ -90,7 +90,7 @@ module _ {t s : List ℕ} {o turn at number left : ℕ} (h : Turn t s o turn at 
   next = by h.more left h.enough h.same h.roots
     where
       Roots : List (Option ℕ) → Type 0
-      Roots ps = (j p : ℕ) → get_or ps j none ≡ some p → Whole depth_limit t p × (p + get_or s p 0 ≡ next_at depth_limit t p)
+      Roots ps = (j p : ℕ) → get_or ps j none ≡ some p → IsWhole depth_limit t p × (p + get_or s p 0 ≡ next_at depth_limit t p)
 
       behind : ℕ → List (Option ℕ)
       behind more = root_places t (behind_root t at number) (numbered (number + 1) more)
@@ -142,7 +142,7 @@ behind-cons t at n ns = by (root_here t at n)
 pub record RootsLeft (t s : List ℕ) (o at number left : ℕ) : Type 0 where
   pub same : behind_fragment t o ≡ behind_roots t at (numbered number left)
   pub roots : (j p : ℕ) → get_or (root_places t at (numbered number left)) j none ≡ some p
-      → Whole depth_limit t p × (p + get_or s p 0 ≡ next_at depth_limit t p)
+      → IsWhole depth_limit t p × (p + get_or s p 0 ≡ next_at depth_limit t p)
 
 module _ {t s : List ℕ} {o : ℕ} where
   pub roots-start : {r : Opening} → Fragment t o → SizedRoots t s o → OpeningOf (u8 t o) r → RootsLeft t s o (o + r.size) r.first r.count

@@ -8,7 +8,7 @@ use Rattle.rules.specs.Record.{u8, u64}
 use Rattle.rules.specs.Table.{StreamClass, EventClass, Asked}
 use Rattle.rules.specs.Parse.{uuid_of}
 use Rattle.class_layout.specs.Numbers.{Begins}
-use Rattle.class_layout.specs.Trees.{class_at, next_at, Whole}
+use Rattle.class_layout.specs.Trees.{class_at, next_at, IsWhole}
 
 -- Kinds of fragments, by their number
 
@@ -130,7 +130,7 @@ pub record Fragment (t : List ℕ) (o : ℕ) : Type 0 where
   pub low : 2 ≤ u8 t o
   pub high : u8 t o ≤ 5
   pub there : o + opening_size (u8 t o) ≤ length t
-  pub roots : (i p : ℕ) → root_place t o i ≡ some p → Whole depth_limit t p
+  pub roots : (i p : ℕ) → root_place t o i ≡ some p → IsWhole depth_limit t p
   pub onward : o < behind_fragment t o
   pub within : behind_fragment t o ≤ length t
   pub begins : Begins t o

@@ -8,7 +8,7 @@ use Rattle.rules.specs.Record.{Shape, bit_field, leb_field, signed_leb_field, ze
 use Rattle.rules.specs.Record.{elements_of, option?, options}
 use Rattle.class_layout.specs.declared.Reach.{Reach}
 use Rattle.class_layout.specs.Trees.{shape_of, option_class, Stood, behind_members, behind_options, next_in, class_at, next_at, align_members}
-use Rattle.class_layout.specs.Trees.{align_in, align_at, Whole}
+use Rattle.class_layout.specs.Trees.{align_in, align_at, IsWhole}
 use Rattle.table_records.specs.Named.{named_at}
 use Rattle.class_layout.specs.Numbers.{next_record, number_behind, number_at}
 use Rattle.class_layout.specs.Words.{word_of, align_of_word, sets_of_word, number_of_word, numbered_word, sets_one, sets_both, SaysSet}
@@ -115,11 +115,11 @@ notes_of t x =
 
 -- the sizes of all classes that stand whole are right
 abbrev pub SizedClasses : List ℕ → List ℕ → Type 0
-SizedClasses t s = (d p : ℕ) → Whole d t p → p + get_or s p 0 ≡ next_at d t p
+SizedClasses t s = (d p : ℕ) → IsWhole d t p → p + get_or s p 0 ≡ next_at d t p
 
 -- and its record's number
 abbrev pub NumberedClasses : List ℕ → List ℕ → Type 0
-NumberedClasses t a = (d p : ℕ) → Whole d t p → number_noted a p ≡ number_at t p
+NumberedClasses t a = (d p : ℕ) → IsWhole d t p → number_noted a p ≡ number_at t p
 
 -- the notes of the class at a byte are right
 pub record NotedClass (t : List ℕ) (x : Notes) (d p : ℕ) : Type 0 where
@@ -131,7 +131,7 @@ pub record NotedClass (t : List ℕ) (x : Notes) (d p : ℕ) : Type 0 where
 pub record Prepared (t : List ℕ) (x : Notes) : Type 0 where
   pub sized : Sized t x.sizes
   pub room : length t ≤ length x.aligns
-  pub classes : (d p : ℕ) → Whole d t p → NotedClass t x d p
+  pub classes : (d p : ℕ) → IsWhole d t p → NotedClass t x d p
   pub numbers : NumberedClasses t x.aligns
 
 -- What the code finds of a class, and of members

@@ -221,6 +221,6 @@ pub record Whole (g : ℕ → Type 0) (f : ℕ → Stood) (t : List ℕ) (at : �
   pub kinds : KindsIn f t at (shape_of (u8 t at))
   pub begins : Begins t at
 
-unfoldable pub Whole : ℕ → List ℕ → ℕ → Type 0
-Whole zero t at = ⊥
-Whole (suc d) t at = Whole (Whole d t) (stood_at d t) t at
+unfoldable pub IsWhole : ℕ → List ℕ → ℕ → Type 0
+IsWhole zero t at = ⊥
+IsWhole (suc d) t at = Whole (IsWhole d t) (stood_at d t) t at

@@ -18,7 +18,7 @@ use Rattle.rules.specs.Step.{change, with_slots}
 use Rattle.rules.specs.Field.{forget}
 use Rattle.table_offsets.specs.Bodies.{known, mark, body_mark}
 use Rattle.class_layout.specs.Trees.{shape_of, record_size, option_class, Stood, members_at, behind_members, options_at}
-use Rattle.class_layout.specs.Trees.{behind_options, class_in, next_in, stood_at, class_at, next_at, WholeMembers, WholeOptions, WholeIn, Whole}
+use Rattle.class_layout.specs.Trees.{behind_options, class_in, next_in, stood_at, class_at, next_at, WholeMembers, WholeOptions, WholeIn, IsWhole}
 use Rattle.class_layout.specs.Trees.{RangeKinds, OptionKinds, KindsIn}
 use Rattle.table_records.specs.Named.{slot_place}
 use Rattle.class_layout.proofs.Named.{place_in, of-class, named_in, named-in, optional-sets}
@@ -125,14 +125,14 @@ module _ (t : List ℕ) (g : ℕ → Type 0) (f : ℕ → Stood) (deeper : (p : 
 
 -- A class
 
-class-passed : (d : ℕ) (t : List ℕ) (p : ℕ) → Whole d t p → Passed t p (sets (class_at d t p)) (next_at d t p)
-unfolding Whole stood_at
+class-passed : (d : ℕ) (t : List ℕ) (p : ℕ) → IsWhole d t p → Passed t p (sets (class_at d t p)) (next_at d t p)
+unfolding IsWhole stood_at
 class-passed zero t p w = absurd w
 class-passed (suc d) t p w =
     let k = of-class (u8 t p) w.low w.high in
-    shape-passed t (Whole d t) (stood_at d t) (λ q v. class-passed d t q v) p (shape_of (u8 t p)) k.slot k.bytes w.parts w.kinds
+    shape-passed t (IsWhole d t) (stood_at d t) (λ q v. class-passed d t q v) p (shape_of (u8 t p)) k.slot k.bytes w.parts w.kinds
 
-module _ (d : ℕ) (t s : List ℕ) (p : ℕ) (w : Whole d t p) (h : p + get_or s p 0 ≡ next_at d t p) where
+module _ (d : ℕ) (t s : List ℕ) (p : ℕ) (w : IsWhole d t p) (h : p + get_or s p 0 ≡ next_at d t p) where
   pub slots-of : slots_of t s p ≡ sets (class_at d t p)
   slots-of =
       let q = next_at d t p in

@@ -9,7 +9,7 @@ use Rattle.rules.specs.Packet.{read_root}
 use Rattle.class_layout.specs.declared.TablePlace.{TablePlace}
 use Rattle.class_layout.specs.declared.TablePlace.TheVariants.{At, Nothing}
 use Rattle.class_layout.specs.Numbers.{number_at}
-use Rattle.class_layout.specs.Trees.{class_at, stood_at, Whole, WholeMembers}
+use Rattle.class_layout.specs.Trees.{class_at, stood_at, IsWhole, WholeMembers}
 use Rattle.class_layout.specs.Fragments.{map_option, root_class, root_place, Fragment}
 use Rattle.class_layout.specs.Sizes.{found_of}
 use Rattle.event_turns.specs.Roots.{class_of, number_of, Numbered, RootStands}
@@ -47,6 +47,6 @@ numbered-reads t e Nothing m h = refl
 numbered-reads t e (At p) m h = ap (λ i. read e i (class_at depth_limit t p)) h
 
 pub one-member : (t : List ℕ) (root : TablePlace) (p : ℕ) → root ≡ At p → RootStands t root
-    → WholeMembers (Whole depth_limit t) (stood_at depth_limit t) p 1
+    → WholeMembers (IsWhole depth_limit t) (stood_at depth_limit t) p 1
 unfolding RootStands WholeMembers
 one-member t root p e w = (rw (e) at w, tt)

@@ -10,7 +10,7 @@ use Rattle.rules.specs.Packet.{read_root, first_root, common_number, payload_num
 use Rattle.class_layout.specs.declared.TablePlace.{TablePlace}
 use Rattle.class_layout.specs.declared.TablePlace.TheVariants.{At, Nothing}
 use Rattle.class_layout.specs.Numbers.{number_at}
-use Rattle.class_layout.specs.Trees.{class_at, Whole}
+use Rattle.class_layout.specs.Trees.{class_at, IsWhole}
 
 -- the class
 unfoldable pub class_of : List ℕ → TablePlace → Option Class
@@ -29,7 +29,7 @@ Numbered t (At p) m = number_at t p ≡ m
 -- that it stands whole
 unfoldable pub RootStands : List ℕ → TablePlace → Type 0
 RootStands t Nothing = Unit {0}
-RootStands t (At p) = Whole depth_limit t p
+RootStands t (At p) = IsWhole depth_limit t p
 
 -- common, specific, payload
 unfoldable pub parts_of : Env → StreamClass → EventClass → Step

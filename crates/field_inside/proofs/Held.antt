@@ -21,7 +21,7 @@ use Rattle.frame.specs.declared.Frame.{Frame}
 use Rattle.frame.specs.Framed.{Framed, aligned_at}
 use Rattle.slots.specs.Taken.{length_of, number_of}
 use Rattle.class_layout.specs.Trees.{shape_of, shapes, record_size, ranges_at, sign_at, option_class, Stood, stood_at, next_at, behind_members}
-use Rattle.class_layout.specs.Trees.{WholeMembers, WholeOptions, WholeIn, Whole}
+use Rattle.class_layout.specs.Trees.{WholeMembers, WholeOptions, WholeIn, IsWhole}
 use Rattle.class_layout.specs.Notes.{Notes, Prepared}
 use Rattle.class_layout.proofs.InPlace.{structure-in-place, optional-in-place}
 use Rattle.field_choice.specs.declared.Choice.{Choice}
@@ -120,13 +120,13 @@ module _ (b : List ℕ) (f : Frame) (d : ℕ) (t : List ℕ) (x : Notes) (at : �
   -- where the class at the byte is of the kind k
   abbrev Has : (Inside → Type 0) → ℕ → Type 0
   Has P k =
-      WholeIn (Whole d t) (stood_at d t) t at (shape_of k) → at + record_size (shape_of k) ≤ length t → P (inside_in t x at f from c (shape_of k))
+      WholeIn (IsWhole d t) (stood_at d t) t at (shape_of k) → at + record_size (shape_of k) ≤ length t → P (inside_in t x at f from c (shape_of k))
 
   abbrev Here : Inside → Type 0
   Here = Held d t f from
 
-  pub inside-whole : Whole (suc d) t at → 28 ≤ u8 t at → Framed b f from → Prepared t x → Held d t f from (inside_of t x at f from c)
-  unfolding Whole inside_of inside_in WholeIn shape_of shapes optional_at Held WholeMembers
+  pub inside-whole : IsWhole (suc d) t at → 28 ≤ u8 t at → Framed b f from → Prepared t x → Held d t f from (inside_of t x at f from c)
+  unfolding IsWhole inside_of inside_in WholeIn shape_of shapes optional_at Held WholeMembers
   inside-whole w k framed ready =
       five (Has Here)
       (λ p l. standing-has Here (λ v. tt) f _ from _ (λ h. record { place = aligned h; classes = p.1 }))
@@ -136,7 +136,7 @@ module _ (b : List ℕ) (f : Frame) (d : ℕ) (t : List ℕ) (x : Notes) (at : �
       (λ p l. optional-has Here (λ v. tt) from (behind_noted x at) (optional_class t at) (record { place = here; classes = (p.1, tt) })
       (record { place = here; classes = tt }) c (sign_at t (at + 3)) (ranges_at t (at + 3) (u8 t (at + 2))))
       (λ p l. rw (variant-noted d t x at c ready p.1)
-      (variant-has Here (λ v. tt) from (Whole d t) (stood_at d t) t at c p.1 (λ class i u h. record { place = here; classes = (u, tt) })))
+      (variant-has Here (λ v. tt) from (IsWhole d t) (stood_at d t) t at c p.1 (λ class i u h. record { place = here; classes = (u, tt) })))
       (u8 t at) k w.high w.parts w.there
     where
       aligned : (aligned_at f (bits_noted x at) from).0 ≤ f.bound.0 → Placed f from (aligned_at f (bits_noted x at) from)
@@ -153,16 +153,16 @@ Ends d t at k (Members p v from n) = (k ≡ 32 → n ≡ 1) × ((k ≡ 32 → �
 Ends d t at k (Elements p v from n) = (k ≡ 28 → ⊥) × (k ≡ 31 → ⊥)
 Ends d t at k (Refused v) = Unit {0}
 
-module _ (f : Frame) (d : ℕ) (t : List ℕ) (x : Notes) (at : ℕ) (c : Content) (from : BitPlace) (w : Whole (suc d) t at) (ready : Prepared t x)
+module _ (f : Frame) (d : ℕ) (t : List ℕ) (x : Notes) (at : ℕ) (c : Content) (from : BitPlace) (w : IsWhole (suc d) t at) (ready : Prepared t x)
   where
     abbrev Here-ends : ℕ → Inside → Type 0
     Here-ends k = Ends (suc d) t at k
 
     abbrev Ending : ℕ → Type 0
-    Ending k = u8 t at ≡ k → WholeIn (Whole d t) (stood_at d t) t at (shape_of k) → Here-ends k (inside_in t x at f from c (shape_of k))
+    Ending k = u8 t at ≡ k → WholeIn (IsWhole d t) (stood_at d t) t at (shape_of k) → Here-ends k (inside_in t x at f from c (shape_of k))
 
     pub inside-ends : 28 ≤ u8 t at → Here-ends (u8 t at) (inside_of t x at f from c)
-    unfolding Whole inside_of inside_in WholeIn shape_of shapes optional_at Ends behind_members
+    unfolding IsWhole inside_of inside_in WholeIn shape_of shapes optional_at Ends behind_members
     inside-ends k =
         five Ending
         (λ e p. standing-has (Here-ends 28) (λ v. tt) f _ from _
@@ -175,6 +175,6 @@ module _ (f : Frame) (d : ℕ) (t : List ℕ) (x : Notes) (at : ℕ) (c : Conten
         (λ z. absurd (omega arith), λ z. (ready.classes (suc d) at w).size)
         c (sign_at t (at + 3)) (ranges_at t (at + 3) (u8 t (at + 2))))
         (λ e p. rw (variant-noted d t x at c ready p.1)
-        (variant-has (Here-ends 32) (λ v. tt) from (Whole d t) (stood_at d t) t at c p.1
+        (variant-has (Here-ends 32) (λ v. tt) from (IsWhole d t) (stood_at d t) t at c p.1
         (λ class i u h. (λ z. refl, λ z. absurd (z refl)))))
         (u8 t at) k w.high refl w.parts

@@ -11,7 +11,7 @@ use Rattle.rules.specs.Record.{elements_of, option?, options, u8}
 use Rattle.rules.specs.Class.{Sign, any_holds}
 use Rattle.facts.proofs.Cases.{◌▷◌, below}
 use Rattle.class_layout.specs.Trees.{shape_of, shapes, record_size, ranges_at, option_class, Stood, stood_at, next_at}
-use Rattle.class_layout.specs.Trees.{WholeMembers, WholeOptions, WholeIn, Whole, KindsIn}
+use Rattle.class_layout.specs.Trees.{WholeMembers, WholeOptions, WholeIn, IsWhole, KindsIn}
 use Rattle.class_layout.specs.Notes.{Notes, end_noted, Prepared}
 use Rattle.class_layout.proofs.Announced.{same-kinds}
 use Rattle.class_layout.proofs.Turns.{whole-inside}
@@ -64,23 +64,23 @@ module _ (t : List ℕ) (g g' : ℕ → Type 0) (f f' : ℕ → Stood) (each : (
 
 module _ (t : List ℕ) (x : Notes) (r : Prepared t x) where
   -- the notes say where a class ends
-  pub end_same : (d p : ℕ) → Whole d t p → next_at d t p ≡ (end_noted x.sizes p).next
+  pub end_same : (d p : ℕ) → IsWhole d t p → next_at d t p ≡ (end_noted x.sizes p).next
   unfolding end_noted
   end_same d p w = sym (r.classes d p w).size
 
-  parts-too : (d at : ℕ) → Whole (suc d) t at → WholeIn (InTable t) (end_noted x.sizes) t at (shape_of (u8 t at))
-  unfolding Whole
+  parts-too : (d at : ℕ) → IsWhole (suc d) t at → WholeIn (InTable t) (end_noted x.sizes) t at (shape_of (u8 t at))
+  unfolding IsWhole
   parts-too d at w =
-      shape-too t (Whole d t) (InTable t) (stood_at d t) (end_noted x.sizes) (λ p v. whole-inside d t p v) (end_same d) at
+      shape-too t (IsWhole d t) (InTable t) (stood_at d t) (end_noted x.sizes) (λ p v. whole-inside d t p v) (end_same d) at
       (shape_of (u8 t at)) w.parts
 
-  kinds-too : (d at : ℕ) → Whole (suc d) t at → KindsIn (end_noted x.sizes) t at (shape_of (u8 t at))
-  unfolding Whole
+  kinds-too : (d at : ℕ) → IsWhole (suc d) t at → KindsIn (end_noted x.sizes) t at (shape_of (u8 t at))
+  unfolding IsWhole
   kinds-too d at w =
-      same-kinds t (Whole d t) (stood_at d t) (end_noted x.sizes) (end_same d) at (shape_of (u8 t at)) w.parts w.kinds
+      same-kinds t (IsWhole d t) (stood_at d t) (end_noted x.sizes) (end_same d) at (shape_of (u8 t at)) w.parts w.kinds
 
-  pub opens : (d at : ℕ) → Whole d t at → 28 ≤ u8 t at → HolderStands t x at
-  unfolding Whole
+  pub opens : (d at : ℕ) → IsWhole d t at → 28 ≤ u8 t at → HolderStands t x at
+  unfolding IsWhole
   opens zero at w k = absurd w
   opens (suc d) at w k = record {
     limit = r.sized.limit;
@@ -108,7 +108,7 @@ held-size k l h = at-28 (k - 28) (omega arith) k (omega arith)
         (below (λ i. 2 ≤ record_size (shape_of (28 + i))) 5 (omega arith ▷ omega arith ▷ omega arith ▷ omega arith ▷ omega arith ▷ tt) i h)
 
 -- so the slot that such a class reads stands in the table
-pub slot-within : (t : List ℕ) (at d : ℕ) → Whole d t at → 28 ≤ u8 t at → at + 2 ≤ length t
-unfolding Whole
+pub slot-within : (t : List ℕ) (at d : ℕ) → IsWhole d t at → 28 ≤ u8 t at → at + 2 ≤ length t
+unfolding IsWhole
 slot-within t at zero w k = absurd w
 slot-within t at (suc d) w k = omega (arith, w.there, held-size (u8 t at) k w.high)

@@ -29,7 +29,7 @@ use Rattle.slots.specs.Taken.{length_of, number_of}
 use Rattle.listing.proofs.Checks.{check-stops, check-goes, check_at-stops, check_at-goes, room-first}
 use Rattle.class_layout.specs.Numbers.{number_at}
 use Rattle.class_layout.specs.Trees.{shape_of, shapes, ranges_at, sign_at, option_class, optional_of, Stood, members_at, options_at, class_in}
-use Rattle.class_layout.specs.Trees.{stood_at, class_at, next_at, WholeOptions, WholeIn, Whole}
+use Rattle.class_layout.specs.Trees.{stood_at, class_at, next_at, WholeOptions, WholeIn, IsWhole}
 use Rattle.class_layout.specs.Notes.{Notes, end_noted, Prepared}
 use Rattle.class_layout.proofs.Turns.{whole-inside}
 use Rattle.class_layout.proofs.Aligned as aligned
@@ -247,11 +247,11 @@ number_same (NotOf r) m m' h = refl
 
 -- the notes find the option that the tree has
 pub variant-noted : (d : ℕ) (t : List ℕ) (x : Notes) (at : ℕ) (c : Content) → Prepared t x
-    → WholeOptions (Whole d t) (stood_at d t) t (at + 3) (u8 t (at + 2)) → variant_at t x.sizes at c ≡ variant_in (stood_at d t) t at c
+    → WholeOptions (IsWhole d t) (stood_at d t) t (at + 3) (u8 t (at + 2)) → variant_at t x.sizes at c ≡ variant_in (stood_at d t) t at c
 unfolding variant_in
 variant-noted d t x at c r w =
     number_same (number_of (sign_at t (at + 5)) c) _ _
-    (λ v. option-same t (Whole d t) (InTable t) (stood_at d t) (end_noted x.sizes) (λ p u. whole-inside d t p u)
+    (λ v. option-same t (IsWhole d t) (InTable t) (stood_at d t) (end_noted x.sizes) (λ p u. whole-inside d t p u)
     (λ p u. end_same t x r d p u) _ v 0 (at + 3) (u8 t (at + 2)) w)
 
 module _ (b uuid : List ℕ) (f : Frame) (d : ℕ) (t : List ℕ) (x : Notes) (at : ℕ) (c : Content) (s : State) where
@@ -262,14 +262,14 @@ module _ (b uuid : List ℕ) (f : Frame) (d : ℕ) (t : List ℕ) (x : Notes) (a
   abbrev Reads : ℕ → Type 0
   Reads k =
       u8 t at ≡ k → align_of (class_in (stood_at d t) t at (shape_of k)) ≡ bits_noted x at
-      → WholeIn (Whole d t) (stood_at d t) t at (shape_of k) → c ≡ slot_at s.slots (slot_read_in t at (shape_of k))
+      → WholeIn (IsWhole d t) (stood_at d t) t at (shape_of k) → c ≡ slot_at s.slots (slot_read_in t at (shape_of k))
       → read env (number_at t at) (class_in (stood_at d t) t at (shape_of k)) s
       ≡ opened env (number_at t at) k d t (inside_in t x at f s.place c (shape_of k)) s
 
-  pub inside-read : Whole (suc d) t at → 28 ≤ u8 t at → words_per_entry ≤ s.room → c ≡ slot_at s.slots (slot_read_at t at)
+  pub inside-read : IsWhole (suc d) t at → 28 ≤ u8 t at → words_per_entry ≤ s.room → c ≡ slot_at s.slots (slot_read_at t at)
       → Framed b f s.place → Prepared t x → read env (number_at t at) (class_at (suc d) t at) s
       ≡ opened env (number_at t at) (u8 t at) d t (inside_of t x at f s.place c) s
-  unfolding Whole stood_at slot_read_at inside_of class_in inside_in slot_read_in WholeIn shape_of shapes optional_at variant_in
+  unfolding IsWhole stood_at slot_read_at inside_of class_in inside_in slot_read_in WholeIn shape_of shapes optional_at variant_in
   inside-read w k room told framed ready =
       five Reads
       (λ h a p q. structure-opened b uuid f s d t m room (u8 t (at + 2)) (at + 3) (u8 t (at + 1)) _ a (structure-reads env d t at w h))

@@ -2,7 +2,7 @@
 use Rattle.std.specs.Prelude.{ℕ, ◌≤◌, List}
 use Rattle.rules.specs.declared.BitPlace.{BitPlace}
 use Rattle.frame.specs.declared.Frame.{Frame}
-use Rattle.class_layout.specs.Trees.{stood_at, WholeMembers, Whole}
+use Rattle.class_layout.specs.Trees.{stood_at, WholeMembers, IsWhole}
 use Rattle.field_inside.specs.declared.look.Inside.{Inside}
 use Rattle.field_inside.specs.declared.look.Inside.TheVariants.{Members, Elements, Refused}
 
@@ -14,11 +14,11 @@ pub record Placed (f : Frame) (from p : BitPlace) : Type 0 where
 
 pub record HeldMembers (d : ℕ) (t : List ℕ) (f : Frame) (from p : BitPlace) (at n : ℕ) : Type 0 where
   pub place : Placed f from p
-  pub classes : WholeMembers (Whole d t) (stood_at d t) at n
+  pub classes : WholeMembers (IsWhole d t) (stood_at d t) at n
 
 pub record HeldElements (d : ℕ) (t : List ℕ) (f : Frame) (from p : BitPlace) (at : ℕ) : Type 0 where
   pub place : Placed f from p
-  pub class : Whole d t at
+  pub class : IsWhole d t at
 
 unfoldable pub Held : ℕ → List ℕ → Frame → BitPlace → Inside → Type 0
 Held d t f from (Members p v at n) = HeldMembers d t f from p at n

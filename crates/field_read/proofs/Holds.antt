@@ -18,7 +18,7 @@ use Rattle.rules.specs.Class.{sets}
 use Rattle.rules.specs.Step.{State, Step, after, ◌⨾◌, refuse_at, listed}
 use Rattle.facts.proofs.Truth.{clash}
 use Rattle.class_layout.specs.Numbers.{number_at}
-use Rattle.class_layout.specs.Trees.{Whole, WholeMembers, stood_at, class_at}
+use Rattle.class_layout.specs.Trees.{IsWhole, WholeMembers, stood_at, class_at}
 use Rattle.class_layout.specs.Notes.{Notes, Prepared, number_noted}
 use Rattle.field_inside.specs.declared.look.Inside.{Inside}
 use Rattle.field_inside.specs.declared.look.Inside.TheVariants.{Members, Elements, Refused}
@@ -47,7 +47,7 @@ use Rattle.field_read.proofs.Turns.{Call, call, outcome, CallReads, stopped_call
 -- the class at a byte holds fields, and c is the content of the slot that it reads
 pub record Holder (b u : List ℕ) (f : Frame) (t : List ℕ) (x : Notes) (d at : ℕ) (c : Content) (st : Progress) (l : Slots)
     (ws : List ℕ) : Type 0 where
-  pub stands : Whole d t at
+  pub stands : IsWhole d t at
   pub holds : 28 ≤ u8 t at
   pub room : words_per_entry ≤ length ws
   pub small : 8 * length ws < 2 ^ 63
@@ -65,7 +65,7 @@ pub record Closed (w : Call) (ws : List ℕ) (r : Field) : Type 0 where
 
 -- the class of an opened array's elements, and what is forgotten around each
 pub record ElementsStand (d : ℕ) (t : List ℕ) (o : Opened) : Type 0 where
-  pub class : Whole d t o.from
+  pub class : IsWhole d t o.from
   pub forgets : Forgets o.count o.forgets (sets (class_at d t o.from))
 
 -- the same at numbers of the code's own
@@ -87,24 +87,24 @@ module _ {b u : List ℕ} {f : Frame} {t : List ℕ} {x : Notes} {d at : ℕ} {c
   can-look = opens t x h.noted d at h.stands h.holds
 
   -- its own depth is one of those left
-  deep : Whole (suc (d - 1)) t at
-  deep = subst (λ (e : ℕ). Whole e t at) (depth-some t at d h.stands) h.stands
+  deep : IsWhole (suc (d - 1)) t at
+  deep = subst (λ (e : ℕ). IsWhole e t at) (depth-some t at d h.stands) h.stands
 
   held : Held (d - 1) t f st.place (inside_of t x at f st.place c)
   held = inside-whole b f (d - 1) t x at c st.place deep h.holds h.framed h.noted
 
   placed : (p : BitPlace) → Placed f st.place p → Framed b f p
-  placed p q = record { Whole = h.framed.whole; begun = q.begun; within = q.within; ends = h.framed.ends; small = h.framed.small }
+  placed p q = record { IsWhole = h.framed.whole; begun = q.begun; within = q.within; ends = h.framed.ends; small = h.framed.small }
 
   pub members-held : {o : Inside} {p : BitPlace} {v at' n : ℕ} → o ≡ inside_of t x at f st.place c → o ≡ Members p v at' n
-      → WholeMembers (Whole (d - 1) t) (stood_at (d - 1) t) at' n × Framed b f p
+      → WholeMembers (IsWhole (d - 1) t) (stood_at (d - 1) t) at' n × Framed b f p
   unfolding Held
   members-held {p = p} {at' = at'} {n = n} look e =
       let q : HeldMembers (d - 1) t f st.place p at' n = rw (sym look ∙ e) at held in
       (q.classes, placed p q.place)
 
   pub elements-held : {o : Inside} {p : BitPlace} {v at' n : ℕ} → o ≡ inside_of t x at f st.place c → o ≡ Elements p v at' n
-      → Whole (d - 1) t at' × Framed b f p
+      → IsWhole (d - 1) t at' × Framed b f p
   unfolding Held
   elements-held {p = p} {at' = at'} look e =
       let q : HeldElements (d - 1) t f st.place p at' = rw (sym look ∙ e) at held in
@@ -180,7 +180,7 @@ module _ {b u : List ℕ} {f : Frame} {t : List ℕ} {x : Notes} {d at : ℕ} {c
 
   members-told : (j : Inside) → told ≡ j →
       let o = opened_as x.aligns j in
-      o.on ≡ true → o.elements ≡ false → WholeMembers (Whole (d - 1) t) (stood_at (d - 1) t) o.from o.count × Framed b f o.place
+      o.on ≡ true → o.elements ≡ false → WholeMembers (IsWhole (d - 1) t) (stood_at (d - 1) t) o.from o.count × Framed b f o.place
   unfolding opened_as went_in
   members-told (Members p v from n) e on one = members-held (sym e) refl
   members-told (Elements p v from n) e on one = absurd (clash (sym one))
@@ -228,7 +228,7 @@ module _ {b u : List ℕ} {f : Frame} {t : List ℕ} {x : Notes} {d at : ℕ} {c
     open-refused off = rw (list, e) (refused-told told refl (rw e at off))
 
     pub open-members : o.on ≡ true → o.elements ≡ false
-        → WholeMembers (Whole (d - 1) t) (stood_at (d - 1) t) o.from o.count × Framed b f o.place
+        → WholeMembers (IsWhole (d - 1) t) (stood_at (d - 1) t) o.from o.count × Framed b f o.place
     open-members on one = rw e (members-told told refl (rw e at on) (rw e at one))
 
     pub open-elements : o.on ≡ true → o.elements ≡ true → ElementsStand (d - 1) t o × Framed b f o.place

@@ -29,7 +29,7 @@ use Rattle.facts.proofs.Truth.{clash}
 use Rattle.facts.proofs.Forgets.{length-unset}
 use Rattle.facts.proofs.Steps.{list_of, onto-nil, after-onto, seq-assoc, pass-seq}
 use Rattle.class_layout.specs.Numbers.{number_at}
-use Rattle.class_layout.specs.Trees.{stood_at, class_at, next_at, behind_members, Whole, WholeMembers}
+use Rattle.class_layout.specs.Trees.{stood_at, class_at, next_at, behind_members, IsWhole, WholeMembers}
 use Rattle.class_layout.specs.Fields.{read_fields, onward}
 use Rattle.class_layout.specs.Notes.{Notes, Prepared, SizedClasses, number_noted}
 use Rattle.class_layout.proofs.Fields.{foremost}
@@ -255,7 +255,7 @@ still-framed b u f m c l {st} {st'} {l'} {n} {ws} h on did =
     let before = full st l (length ws) in
     let behind = full st' l' (length ws - n) in
     let between = read_between (env_of b u f) m c before did.listed behind h.begun h.within (did.out ∙ rw (on) refl) in
-    record { Whole = h.whole; begun = omega (arith, between.0, h.begun); within = between.1; ends = h.ends; small = h.small }
+    record { IsWhole = h.whole; begun = omega (arith, between.0, h.begun); within = between.1; ends = h.ends; small = h.small }
 
 -- The first field's class, and what is left behind it
 
@@ -269,7 +269,7 @@ module _ {w : Loop} {r : Run} {ws : List ℕ} {used : ℕ} {st : Progress} {l : 
   sized : SizedClasses w.table w.notes.sizes
   sized d p v = (h.noted.classes d p v).size
 
-  pub first-there : Whole w.depths w.table (first_at r)
+  pub first-there : IsWhole w.depths w.table (first_at r)
   first-there = (foremost (element r) w.depths w.table (first_at r) (count_of r) some.some
       (sort-stands w.depths w.table r h.stands some.some)).stands
 
@@ -371,7 +371,7 @@ module _ {w : Loop} {r : Run} {ws : List ℕ} {used : ℕ} {st : Progress} {l : 
   pub leaves-some : leaves_of.leaves.on ≡ true → words_per_entry ≤ leaves_of.leaves.used
   leaves-some on = (say.goes on).some
 
-  pub leaves-stand : leaves_of.leaves.on ≡ true → Whole w.depths w.table leaves_of.leaves.at
+  pub leaves-stand : leaves_of.leaves.on ≡ true → IsWhole w.depths w.table leaves_of.leaves.at
   leaves-stand on = (say.goes on).stands
 
   abbrev pub behind_leaves : Run
@@ -429,7 +429,7 @@ pub record LeavesRound (w : Loop) (r : Run) (ws : List ℕ) (used : ℕ) (st : P
   pub same : length (merged used ws ys) ≡ length w.list
   pub stops : q.on ≡ false → Stops w (stop_at q.why q.place) (used + q.used) (merged used ws ys)
   pub some : q.on ≡ true → words_per_entry ≤ q.used
-  pub stand : q.on ≡ true → Whole w.depths w.table q.at
+  pub stand : q.on ≡ true → IsWhole w.depths w.table q.at
   pub stamp : q.on ≡ true → Stamp q.role q.width q.value
   pub goes : q.on ≡ true
       → let r' = behind_run r w.notes.sizes q.at q.todo in
@@ -652,11 +652,11 @@ module _ {w : Loop} {r : Run} {ws : List ℕ} {used : ℕ} {st : Progress} {l : 
   abbrev pub inside_here : Inside
   inside_here = inside_of t w.notes at w.frame st.place c
 
-  holder-there : Whole d t at
-  holder-there = (first (Whole d t) (stood_at d t) at r.todo h.some h.round.stands.members).whole
+  holder-there : IsWhole d t at
+  holder-there = (first (IsWhole d t) (stood_at d t) at r.todo h.some h.round.stands.members).whole
 
-  deep : Whole (suc (d - 1)) t at
-  deep = subst (λ (e : ℕ). Whole e t at) (depth-some t at d holder-there) holder-there
+  deep : IsWhole (suc (d - 1)) t at
+  deep = subst (λ (e : ℕ). IsWhole e t at) (depth-some t at d holder-there) holder-there
 
   less : d - 1 ≤ d
   less = omega arith
@@ -688,7 +688,7 @@ module _ {w : Loop} {r : Run} {ws : List ℕ} {used : ℕ} {st : Progress} {l : 
   placed : (p : BitPlace) → Placed w.frame st.place p → Framed w.stream w.frame p
   placed p q =
       let f = h.round.framed in
-      record { Whole = f.whole; begun = q.begun; within = q.within; ends = f.ends; small = f.small }
+      record { IsWhole = f.whole; begun = q.begun; within = q.within; ends = f.ends; small = f.small }
 
   -- the field, and then the rest of its run
   abbrev pub rest_here : Run
@@ -708,8 +708,8 @@ module _ {w : Loop} {r : Run} {ws : List ℕ} {used : ℕ} {st : Progress} {l : 
     pub framed : Framed w.stream w.frame p
     pub reads : read (env w) number (class_at d t at) here
         ≡ (listed (entry (u8 t at) p 0 v number) p ⨾ held_read d t (env w) from n elements) here
-    pub class : elements ≡ true → Whole d t from
-    pub parts : elements ≡ false → WholeMembers (Whole d t) (stood_at d t) from n
+    pub class : elements ≡ true → IsWhole d t from
+    pub parts : elements ≡ false → WholeMembers (IsWhole d t) (stood_at d t) from n
 
   pub members-told : {p : BitPlace} {v from n : ℕ} → inside_here ≡ Members p v from n → Told p v from n false
   unfolding Held opened held_read

@@ -24,7 +24,7 @@ use Rattle.facts.proofs.Steps.{seq-assoc, pass-seq}
 use Rattle.facts.proofs.Slots.{no-slot}
 use Rattle.class_layout.specs.Numbers.{number_at}
 use Rattle.class_layout.specs.Notes.{number_noted}
-use Rattle.class_layout.specs.Trees.{Whole, class_at}
+use Rattle.class_layout.specs.Trees.{IsWhole, class_at}
 use Rattle.class_slots.specs.Named.{slots_of}
 use Rattle.class_slots.proofs.Sets.{unset-at, forgets-at}
 use Rattle.leaf_after.specs.declared.Leaves.{Leaves}
@@ -120,7 +120,7 @@ forgot-one {w} {r} {l = l} h b few {i} e f =
 
 -- its first field
 pub first-whole : {w : Loop} {r : Run} {ws : List ℕ} {used : ℕ} {st : Progress} {l : Slots} {n : ℕ} → n ≡ first_at r → Round w r ws used st l
-    → Begun r → Whole w.depths w.table n
+    → Begun r → IsWhole w.depths w.table n
 first-whole e h some = rw e (first-there h some)
 
 -- Leaves at its front

@@ -13,7 +13,7 @@ use Rattle.rules.specs.Step.{Step, pass}
 use Rattle.rules.specs.Field.{Env, times}
 use Rattle.facts.proofs.Steps.{seq-pass}
 use Rattle.class_layout.specs.Numbers.{number_at}
-use Rattle.class_layout.specs.Trees.{Whole, class_at}
+use Rattle.class_layout.specs.Trees.{IsWhole, class_at}
 use Rattle.class_layout.specs.Notes.{Notes, Prepared}
 use Rattle.frame.specs.declared.Frame.{Frame}
 use Rattle.frame.specs.Framed.{Framed, env_of}
@@ -74,7 +74,7 @@ walk-stopped b u f d t begun st given ws₀ many stops = record { did = stops st
 
 -- An array's elements in a run of their own
 
-module _ (d : ℕ) (t : List ℕ) (at n f : ℕ) (there : Whole d t at) (right : Forgets n f (sets (class_at d t at))) {r : Run}
+module _ (d : ℕ) (t : List ℕ) (at n f : ℕ) (there : IsWhole d t at) (right : Forgets n f (sets (class_at d t at))) {r : Run}
     (e : r ≡ elements_run at n f) where
   pub elements-run-stands : WholeRun d t r
   elements-run-stands = rw e (elements-stand d t at n f there right)

@@ -11,7 +11,7 @@ ghost use Rattle.rules.specs.Verdict.{stop_at};
 ghost use Rattle.rules.specs.Field.{read, read_members, times};
 ghost use Rattle.frame.specs.Framed.{Framed, env_of};
 ghost use Rattle.class_layout.specs.Numbers.{number_at};
-ghost use Rattle.class_layout.specs.Trees.{Whole, WholeMembers, stood_at, class_at, members_at};
+ghost use Rattle.class_layout.specs.Trees.{IsWhole, WholeMembers, stood_at, class_at, members_at};
 ghost use Rattle.class_layout.specs.Notes.{notes, Prepared};
 ghost use Rattle.field_inside.specs.Inside.{element_of};
 ghost use Rattle.field_runs.specs.Ahead.{ahead, WholeRun, Forgets};
@@ -50,7 +50,7 @@ pub fn read_field(
     slots: [Slot; 64],
     list: &mut [u64],
 ) -> Field
-    requires whole { Whole left table.now at }
+    requires whole { IsWhole left table.now at }
     requires bound { (28 ≤ u8 table.now at) × (words_per_entry ≤ length list.old) }
     requires prepared { Prepared table.now (notes sizes.now aligns.now) }
     requires framed { Framed stream.now frame st.place }
@@ -143,7 +143,7 @@ pub fn walk_members(
     given: [Slot; 64],
     list: &mut [u64],
 ) -> Field
-    requires whole_members { WholeMembers (Whole left table.now) (stood_at left table.now) at count }
+    requires whole_members { WholeMembers (IsWhole left table.now) (stood_at left table.now) at count }
     requires prepared { Prepared table.now (notes sizes.now aligns.now) }
     requires framed { Framed stream.now frame st.place }
     ensures { FieldReads
@@ -183,7 +183,7 @@ fn walk_elements(
     given: [Slot; 64],
     list: &mut [u64],
 ) -> Field
-    requires whole { Whole left table.now at }
+    requires whole { IsWhole left table.now at }
     requires forgets { Forgets count forgets (sets (class_at left table.now at)) }
     requires prepared { Prepared table.now (notes sizes.now aligns.now) }
     requires framed { Framed stream.now frame st.place }

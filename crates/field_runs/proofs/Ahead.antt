@@ -17,7 +17,7 @@ use Rattle.facts.proofs.Truth.{clash, and_left, and_right}
 use Rattle.facts.proofs.Steps.{after-after, seq-assoc, pass-seq, seq-pass}
 use Rattle.facts.proofs.Forgets.{forget-again, times-kept}
 use Rattle.class_layout.specs.Numbers.{number_at}
-use Rattle.class_layout.specs.Trees.{Stood, stood_at, class_at, next_at, members_at, Whole, WholeMembers}
+use Rattle.class_layout.specs.Trees.{Stood, stood_at, class_at, next_at, members_at, IsWhole, WholeMembers}
 use Rattle.class_layout.specs.Fields.{read_fields, WholeFields, onward}
 use Rattle.class_layout.specs.Notes.{SizedClasses}
 use Rattle.class_layout.specs.Words.{SaysSet}
@@ -81,7 +81,7 @@ module _ (d : ℕ) (t : List ℕ) where
   closed b at = closes b (class_at d t at)
 
   abbrev pub Members : ℕ → ℕ → Type 0
-  Members at n = WholeMembers (Whole d t) stood at n
+  Members at n = WholeMembers (IsWhole d t) stood at n
 
   pub no-members : (e : Env) (at n : ℕ) → n ≤ 0 → members_read e at n ≡ pass
   unfolding read_members
@@ -153,7 +153,7 @@ module _ (d : ℕ) (t : List ℕ) where
     later = none-whole at;
   }
 
-  pub elements-stand : (at n f : ℕ) → Whole d t at → Forgets n f (sets (class_at d t at)) → WholeRun d t (elements_run at n f)
+  pub elements-stand : (at n f : ℕ) → IsWhole d t at → Forgets n f (sets (class_at d t at)) → WholeRun d t (elements_run at n f)
   unfolding elements_run forgetting
   elements-stand at n f w q = record {
     members = none-whole at;
@@ -174,7 +174,7 @@ module _ (d : ℕ) (t : List ℕ) where
   alone-reads e from n true f q = elements-reads e from n f (q refl)
   alone-reads e from n false f q = members-reads e from n
 
-  pub alone-stands : (from n : ℕ) (b : Bool) (f : ℕ) → (b ≡ true → Whole d t from)
+  pub alone-stands : (from n : ℕ) (b : Bool) (f : ℕ) → (b ≡ true → IsWhole d t from)
       → (b ≡ true → Forgets n f (sets (class_at d t from))) → (b ≡ false → Members from n) → WholeRun d t (alone_run from n b f)
   unfolding alone_run
   alone-stands from n true f many forgets parts = elements-stand from n f (many refl) (forgets refl)
@@ -227,11 +227,11 @@ module _ (d : ℕ) (t : List ℕ) where
       ⨾ elements_read e (forgetting r) r.again r.more
       ⨾ members_read e r.later r.rest
 
-  pub first-whole : (r : Run) → WholeRun d t r → 0 < count_of r → Whole d t (first_at r)
+  pub first-whole : (r : Run) → WholeRun d t r → 0 < count_of r → IsWhole d t (first_at r)
   first-whole r w h = by (lt-or-ge 0 r.todo)
     where
-      by : (0 < r.todo) ⊎ (r.todo ≤ 0) → Whole d t (first_at r)
-      by (inl k) = rw (first_member r k) (first (Whole d t) stood r.next r.todo k w.members).whole
+      by : (0 < r.todo) ⊎ (r.todo ≤ 0) → IsWhole d t (first_at r)
+      by (inl k) = rw (first_member r k) (first (IsWhole d t) stood r.next r.todo k w.members).whole
       by (inr k) = rw (first-element r k) (w.elements (some-element r k h))
 
   pub member-reads : (e : Env) (r : Run) → WholeRun d t r → 0 < r.todo → ahead d t e r ≡ (class_read e r.next ⨾ rest_read e r)
@@ -368,7 +368,7 @@ module _ (d : ℕ) (t : List ℕ) where
 
   -- Behind some of them: the last one's class stands at a byte, that of an element where all do
 
-  module _ (s : List ℕ) (sized : SizedClasses t s) (r : Run) (last left : ℕ) (there : Whole d t last)
+  module _ (s : List ℕ) (sized : SizedClasses t s) (r : Run) (last left : ℕ) (there : IsWhole d t last)
       (same : r.todo ≤ 0 → last ≡ r.again) (plain : r.todo ≤ 0 → forgetting r ≡ false) where
     abbrev pub next_field : ℕ
     next_field = onward (element r) last (next_at d t last)

@@ -14,7 +14,7 @@ use Rattle.rules.specs.Field.{Env, read, read_members, times}
 use Rattle.facts.proofs.Truth.{clash, and_left, and_right}
 use Rattle.facts.proofs.Steps.{seq-assoc, pass-seq, seq-pass}
 use Rattle.class_layout.specs.Numbers.{number_at}
-use Rattle.class_layout.specs.Trees.{class_at, next_at, members_at, behind_members, Whole, WholeMembers}
+use Rattle.class_layout.specs.Trees.{class_at, next_at, members_at, behind_members, IsWhole, WholeMembers}
 use Rattle.class_layout.specs.Notes.{SizedClasses}
 use Rattle.class_layout.specs.Words.{SaysSet}
 use Rattle.class_layout.proofs.Standing.{first}
@@ -34,13 +34,13 @@ pub record OpensTo (d : ℕ) (t : List ℕ) (e : Env) (s : State) (m : Step) (r 
 
 module _ (d : ℕ) (t : List ℕ) (r : Run) (w : WholeRun d t r) (h : 0 < r.todo) where
   rest-whole : Members d t (next_at d t r.next) (r.todo - 1)
-  rest-whole = (first (Whole d t) (stood d t) r.next r.todo h w.members).rest
+  rest-whole = (first (IsWhole d t) (stood d t) r.next r.todo h w.members).rest
 
   -- n parts from a byte on, which end where the member ends
   module _ (from n : ℕ) (parts : Members d t from n) (ends : behind_members (stood d t) from n ≡ next_at d t r.next) where
     -- they, and what is behind the member
     both : Members d t from (n + (r.todo - 1))
-    both = whole_join (stood d t) (Whole d t) n (r.todo - 1) from parts (rw ends rest-whole)
+    both = whole_join (stood d t) (IsWhole d t) n (r.todo - 1) from parts (rw ends rest-whole)
 
     opened-reads : (e : Env) → ahead d t e (opened_run r from n) ≡ (members_read d t e from n ⨾ rest_read d t e r)
     unfolding ahead opened_run rest_read forgetting
@@ -70,7 +70,7 @@ module _ (d : ℕ) (t : List ℕ) (r : Run) (w : WholeRun d t r) (h : 0 < r.todo
     }
 
   -- the class at a byte n times, as elements of an array or of none, where nothing is put off
-  module _ (sizes : List ℕ) (sized : SizedClasses t sizes) (f : free r ≡ true) (at n forgets : ℕ) (class : Whole d t at)
+  module _ (sizes : List ℕ) (sized : SizedClasses t sizes) (f : free r ≡ true) (at n forgets : ℕ) (class : IsWhole d t at)
       (some : forgets_by forgets ≡ true → (0 < n) × SaysSet forgets (sets (class_at d t at))) where
     no_more : r.more ≡ 0
     unfolding free
@@ -85,7 +85,7 @@ module _ (d : ℕ) (t : List ℕ) (r : Run) (w : WholeRun d t r) (h : 0 < r.todo
     no-forgets = not-true (forgetting r) (and_right (eqb r.rest 0) _ (and_right (eqb r.more 0) _ f))
 
     behind-first : r.next + get_or sizes r.next 0 ≡ next_at d t r.next
-    behind-first = sized d r.next (first (Whole d t) (stood d t) r.next r.todo h w.members).whole
+    behind-first = sized d r.next (first (IsWhole d t) (stood d t) r.next r.todo h w.members).whole
 
     rest-reads : (e : Env) → rest_read d t e r ≡ members_read d t e (next_at d t r.next) (r.todo - 1)
     unfolding rest_read
@@ -133,7 +133,7 @@ module _ (d : ℕ) (t : List ℕ) (r : Run) (w : WholeRun d t r) (h : 0 < r.todo
   -- one. Elements, and what a variant holds, are put in front; all other parts end where the member ends.
   pub record Holds (sizes : List ℕ) (k from n : ℕ) (elements : Bool) : Type 0 where
     pub noted : SizedClasses t sizes
-    pub many : elements ≡ true → (free r ≡ true) × Whole d t from
+    pub many : elements ≡ true → (free r ≡ true) × IsWhole d t from
     pub one : elements ≡ false → k ≡ variant_kind → (n ≡ 1) × (free r ≡ true)
     pub parts : elements ≡ false → Members d t from n
     pub ends : elements ≡ false → (k ≡ variant_kind → ⊥) → behind_members (stood d t) from n ≡ next_at d t r.next
@@ -142,7 +142,7 @@ module _ (d : ℕ) (t : List ℕ) (r : Run) (w : WholeRun d t r) (h : 0 < r.todo
   unfolding times read_members members_at element_read
   one-element e at = refl
 
-  one-whole : (at : ℕ) → Members d t at 1 → Whole d t at
+  one-whole : (at : ℕ) → Members d t at 1 → IsWhole d t at
   unfolding WholeMembers
   one-whole at v = v.0
 

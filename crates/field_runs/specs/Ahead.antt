@@ -5,7 +5,7 @@ use Rattle.rules.specs.Class.{Class, sets}
 use Rattle.rules.specs.Step.{Step, ◌⨾◌, pass}
 use Rattle.rules.specs.Field.{Env, read, read_members, times, forget}
 use Rattle.class_layout.specs.Numbers.{number_at}
-use Rattle.class_layout.specs.Trees.{stood_at, class_at, members_at, Whole, WholeMembers}
+use Rattle.class_layout.specs.Trees.{stood_at, class_at, members_at, IsWhole, WholeMembers}
 use Rattle.class_layout.specs.Words.{SaysSet}
 use Rattle.field_runs.specs.declared.Run.{Run}
 use Rattle.field_runs.specs.Run.{forgetting}
@@ -27,11 +27,11 @@ ahead d t e r =
     ⨾ read_members e (number_at t r.later) (members_at (stood_at d t) r.later r.rest)
 
 pub record WholeRun (d : ℕ) (t : List ℕ) (r : Run) : Type 0 where
-  pub members : WholeMembers (Whole d t) (stood_at d t) r.next r.todo
-  pub elements : 0 < r.more → Whole d t r.again
-  pub element : forgetting r ≡ true → Whole d t r.again
+  pub members : WholeMembers (IsWhole d t) (stood_at d t) r.next r.todo
+  pub elements : 0 < r.more → IsWhole d t r.again
+  pub element : forgetting r ≡ true → IsWhole d t r.again
   pub forgotten : forgetting r ≡ true → SaysSet r.forgets (sets (class_at d t r.again))
-  pub later : WholeMembers (Whole d t) (stood_at d t) r.later r.rest
+  pub later : WholeMembers (IsWhole d t) (stood_at d t) r.later r.rest
 
 -- the number f is right for n elements of a class that sets l: 0 where there is nothing to forget; else it says which, and there is an
 -- element

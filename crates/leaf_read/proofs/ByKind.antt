@@ -47,7 +47,7 @@ use Rattle.leaf_after.proofs.Seeing.{dynamic-string-read, dynamic-blob-read}
 use Rattle.leaf_after.proofs.Fits.{fixed-fits, unsigned-fits, signed-fits, plain_fits, blob-fits}
 use Rattle.leaf_see_number.specs.Extends.{Extends}
 use Rattle.leaf_see_bytes.specs.InStream.{InStream}
-use Rattle.class_layout.specs.Trees.{shapes, shape_of, record_size, stood_at, fixed_at, class_in, class_at, Whole, WholeIn}
+use Rattle.class_layout.specs.Trees.{shapes, shape_of, record_size, stood_at, fixed_at, class_in, class_at, IsWhole, WholeIn}
 use Rattle.leaf_read.specs.Reads.{leaf_slot}
 use Rattle.leaf_read.specs.Seen.{LeafSeen, bits_seen_at, dynamic_seen, seen_in, seen_at}
 
@@ -63,8 +63,8 @@ past a k (suc n) l none =
     ⊎_elim (λ (h : k < a + suc n). absurd (none.1 (omega arith))) (λ (h : a + suc n ≤ k). h) (lt-or-ge k (a + suc n))
 
 module _ (t : List ℕ) (at : ℕ) where
-  pub is-float : Whole 1 t at → u8 t at < 21 → NoneOf 16 (u8 t at) 4 → u8 t at ≡ 20
-  unfolding Whole
+  pub is-float : IsWhole 1 t at → u8 t at < 21 → NoneOf 16 (u8 t at) 4 → u8 t at ≡ 20
+  unfolding IsWhole
   is-float w h none = omega (arith, past 16 (u8 t at) 4 w.low none)
 
   pub is-dynamic : 21 ≤ u8 t at → NoneOf 21 (u8 t at) 5 → 26 ≤ u8 t at
@@ -83,13 +83,13 @@ module _ (t : List ℕ) (at : ℕ) where
   abbrev Numbers : Type 0
   Numbers = (1 ≤ u8 t (at + 1)) × (u8 t (at + 1) ≤ 64) × (u8 t (at + 3) ≤ 6)
 
-  of-bits : (s : Sort) → WholeIn (Whole 0 t) (stood_at 0 t) t at (bit_field s) → Numbers
+  of-bits : (s : Sort) → WholeIn (IsWhole 0 t) (stood_at 0 t) t at (bit_field s) → Numbers
   unfolding WholeIn
   of-bits s w = w
 
   -- kind 16 + i
   abbrev Bits : ℕ → Type 0
-  Bits i = (4 ≤ record_size (shape_of (16 + i))) × (WholeIn (Whole 0 t) (stood_at 0 t) t at (shape_of (16 + i)) → Numbers)
+  Bits i = (4 ≤ record_size (shape_of (16 + i))) × (WholeIn (IsWhole 0 t) (stood_at 0 t) t at (shape_of (16 + i)) → Numbers)
 
   bits : (i : ℕ) → i < 5 → Bits i
   unfolding shape_of shapes record_size
@@ -98,32 +98,32 @@ module _ (t : List ℕ) (at : ℕ) where
       ▷ (omega arith, of-bits signed_int) ▷ (omega arith, of-bits float) ▷ tt
       )
 
-  module _ (w : Whole 1 t at) (h : u8 t at < 21) where
+  module _ (w : IsWhole 1 t at) (h : u8 t at < 21) where
     kind : u8 t at ≡ 16 + (u8 t at - 16)
-    unfolding Whole
+    unfolding IsWhole
     kind = omega (arith, w.low)
 
     these : Bits (u8 t at - 16)
     these = bits (u8 t at - 16) (omega (arith, kind))
 
     pub bits-there : at + 4 ≤ length t
-    unfolding Whole
+    unfolding IsWhole
     bits-there = omega (arith, w.there, these.0, ap (λ (k : ℕ). record_size (shape_of k)) kind)
 
     pub bits-say : {n e : ℕ} {o : Order} → n ≡ u8 t (at + 1) → o ≡ order_of (u8 t (at + 2)) → e ≡ u8 t (at + 3) → BitsSay t at n o e
-    unfolding Whole
+    unfolding IsWhole
     bits-say n o e =
-        let m = these.1 (subst (λ (k : ℕ). WholeIn (Whole 0 t) (stood_at 0 t) t at (shape_of k)) kind w.parts) in
+        let m = these.1 (subst (λ (k : ℕ). WholeIn (IsWhole 0 t) (stood_at 0 t) t at (shape_of k)) kind w.parts) in
         record { width = n; order = o; exponent = e; some = omega (arith, m.0); most = omega (arith, m.1); align = omega (arith, m.2) }
 
 -- the record of a kind is there, and its numbers are in range
-module _ (t : List ℕ) (at k : ℕ) (e : u8 t at ≡ k) (w : Whole 1 t at) where
+module _ (t : List ℕ) (at k : ℕ) (e : u8 t at ≡ k) (w : IsWhole 1 t at) where
   pub record-there : at + record_size (shape_of k) ≤ length t
-  unfolding Whole
+  unfolding IsWhole
   record-there = rw (e) at w.there
 
 -- kinds 26 and 27 have a byte behind their kind
-pub slot-there : (t : List ℕ) (at : ℕ) → Whole 1 t at → u8 t at < 28 → 26 ≤ u8 t at → at + 2 ≤ length t
+pub slot-there : (t : List ℕ) (at : ℕ) → IsWhole 1 t at → u8 t at < 28 → 26 ≤ u8 t at → at + 2 ≤ length t
 unfolding shape_of shapes record_size
 slot-there t at w h l = ⊎_elim
     (λ (a : u8 t at < 27). record-there t at 26 (omega arith) w)
@@ -278,8 +278,8 @@ module _ (m : ℕ) (b u : List ℕ) (f : Frame) (t : List ℕ) (at : ℕ) (p : B
         ▷ tt)
 
     -- to do what is seen of the leaf at a byte is to read its class
-    pub leaf-sees : Whole 1 t at → u8 t at < 28 → SeesAt m b u f t at x p o this
-    unfolding Whole
+    pub leaf-sees : IsWhole 1 t at → u8 t at < 28 → SeesAt m b u f t at x p o this
+    unfolding IsWhole
     leaf-sees w h = sees (u8 t at - 16) (omega (arith, w.low)) (omega (arith, w.low))
 
 -- what the code rests on: a number in bits can be extended, and a BLOB's bytes lie in the stream

@@ -41,7 +41,7 @@ use Rattle.leaf_after.specs.declared.Seen.{Seen}
 use Rattle.leaf_after.specs.declared.Seen.TheVariants.{Field, OtherUuid}
 use Rattle.leaf_after.specs.Seeing.{Told, done_due, seen, fixed_seen, leb_seen, uuid_seen, blob_seen}
 use Rattle.slots.specs.Taken.{length_of}
-use Rattle.class_layout.specs.Trees.{shapes, shape_of, Whole}
+use Rattle.class_layout.specs.Trees.{shapes, shape_of, IsWhole}
 use Rattle.leaf_read.specs.Seen.{bits_seen_at, seen_in, seen_at}
 use Rattle.leaf_read.specs.Leaves.{content_of, behind_entry}
 use Rattle.leaf_read.proofs.ByKind.{seen_of, plain-apart, dynamic-apart}
@@ -113,9 +113,9 @@ module _ (m : ℕ) (t b u : List ℕ) (f : Frame) (at : ℕ) (p : BitPlace) (o :
       ▷ (λ k. rw (is 27 k) (apart-content 27 _ (λ d. dynamic-apart m b f p o 27 (length_of x) d)))
       ▷ tt)
 
-  pub content-due : Whole 1 t at → u8 t at < 28 → (d : Due) → seen_at m t b u f at p o x ≡ Field d → d.slot < slot_count
+  pub content-due : IsWhole 1 t at → u8 t at < 28 → (d : Due) → seen_at m t b u f at p o x ≡ Field d → d.slot < slot_count
       → d.content ≡ content_of (u8 t at) d.entry.value
-  unfolding Whole
+  unfolding IsWhole
   content-due w h d e s =
       let k : u8 t at ≡ 16 + (u8 t at - 16) = omega (arith, w.low) in
       rw (k) (says (u8 t at - 16) (omega (arith, w.low)) k d e s)
@@ -136,8 +136,8 @@ module _ (m : ℕ) (t b u : List ℕ) (f : Frame) (at : ℕ) (p : BitPlace) (o :
       (alike_at 16 refl ▷ alike_at 17 refl ▷ alike_at 18 refl ▷ alike_at 19 refl ▷ alike_at 20 refl
       ▷ alike_at 21 refl ▷ alike_at 22 refl ▷ alike_at 23 refl ▷ alike_at 24 refl ▷ alike_at 25 refl ▷ tt)
 
-  pub seen_alike : Whole 1 t at → u8 t at < 26 → seen_at m t b u f at p o x ≡ seen_at m t b u f at p o y
-  unfolding Whole
+  pub seen_alike : IsWhole 1 t at → u8 t at < 26 → seen_at m t b u f at p o x ≡ seen_at m t b u f at p o y
+  unfolding IsWhole
   seen_alike w h = alike (u8 t at - 16) (omega (arith, w.low)) (omega (arith, w.low))
 
 -- What doing it leaves to be done

@@ -36,7 +36,7 @@ use Rattle.leaf_after.specs.declared.Seen.{Seen}
 use Rattle.leaf_after.specs.declared.Seen.TheVariants.{Field, OtherUuid, Stops}
 use Rattle.leaf_after.specs.Seeing.{Fits, DueFits, done}
 use Rattle.class_layout.specs.Numbers.{number_at}
-use Rattle.class_layout.specs.Trees.{class_at, next_at, Whole}
+use Rattle.class_layout.specs.Trees.{class_at, next_at, IsWhole}
 use Rattle.class_layout.specs.Fields.{read_fields, WholeFields, onward}
 use Rattle.class_layout.proofs.Standing.{leaf-whole, leaf-class}
 use Rattle.class_layout.proofs.One.{one}
@@ -50,8 +50,8 @@ use Rattle.leaf_read.proofs.Due.{content-due, seen_alike, behind_due, slot_and_r
 
 -- a leaf in front of fields: its class is that of one depth, and so is its end
 pub record LeafFirst (again : Bool) (d : ℕ) (t : List ℕ) (at n : ℕ) : Type 0 where
-  pub stands : Whole d t at
-  pub leaf : Whole 1 t at
+  pub stands : IsWhole d t at
+  pub leaf : IsWhole 1 t at
   pub ends : next_at d t at ≡ next_at 1 t at
   pub rest : WholeFields again d t (onward again at (next_at 1 t at)) (n - 1)
   pub reads : (e : Env)
@@ -129,7 +129,7 @@ pub record LeavesWent (again : Bool) (d : ℕ) (t b u : List ℕ) (f : Frame) (a
   pub less : y.leaves.todo < n
   pub framed : Framed b f y.leaves.place
   pub same : again ≡ true → y.leaves.at ≡ at
-  pub stands : Whole d t y.leaves.at
+  pub stands : IsWhole d t y.leaves.at
   pub kind : u8 t y.leaves.at < 28
   pub rest : WholeFields again d t (onward again y.leaves.at (next_at d t y.leaves.at)) y.leaves.todo
   pub stamp : Stamp y.leaves.role y.leaves.width y.leaves.value
@@ -154,7 +154,7 @@ due-framed b u f t at x s q sees is framed room many told =
     let e = env_of b u f in
     let reads = sees.same s room many told refl refl ∙ ap (λ z. done z s) is in
     let between = due-between e (number_at t at) (class_at 1 t at) q s (framed.begun, framed.within) reads in
-    record { Whole = framed.whole; begun = between.0; within = between.1; ends = framed.ends; small = framed.small }
+    record { IsWhole = framed.whole; begun = between.0; within = between.1; ends = framed.ends; small = framed.small }
 
 -- one leaf in front: it is read as what is seen of it is done
 record OneLeaf (again : Bool) (d : ℕ) (t b u : List ℕ) (f : Frame) (x : Content) (at n : ℕ) (s : State) : Type 0 where

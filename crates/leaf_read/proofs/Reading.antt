@@ -34,7 +34,7 @@ use Rattle.leaf_after.specs.declared.Seen.TheVariants.{Field, OtherUuid, Stops}
 use Rattle.leaf_after.specs.Seeing.{Fits}
 use Rattle.class_layout.specs.Numbers.{number_at}
 use Rattle.class_layout.specs.Words.{number_of_word}
-use Rattle.class_layout.specs.Trees.{next_at, Whole}
+use Rattle.class_layout.specs.Trees.{next_at, IsWhole}
 use Rattle.class_layout.specs.Fields.{WholeFields, onward}
 use Rattle.class_layout.specs.Notes.{SizedClasses, number_noted, NumberedClasses}
 use Rattle.class_layout.proofs.Fields.{foremost}
@@ -162,7 +162,7 @@ pub reading-start : (w : Asked) → Standing w.again w.table w.from w.count → 
     → words_per_entry ≤ length w.list → Framed w.stream w.frame w.begun → Held (leaf_slot w.table w.from) w.content
     → Reading w w.list w.from w.count w.begun w.last 0
 reading-start w s kind some room framed held =
-    let Whole : length w.list - 0 ≡ length w.list = omega arith in
+    let IsWhole : length w.list - 0 ≡ length w.list = omega arith in
     record {
       depth = s.depth;
       stands = s.stands;
@@ -173,7 +173,7 @@ reading-start w s kind some room framed held =
       listed = [];
       list = none-listed w.list;
       room = omega arith;
-      rest = rw (Whole) (sym (none-in-front (all w)));
+      rest = rw (IsWhole) (sym (none-in-front (all w)));
     }
 
 -- one leaf of some, as the definition says

@@ -9,7 +9,7 @@ ghost use Rattle.rules.specs.Parse.{order_of};
 ghost use Rattle.frame.specs.Framed.{Framed};
 ghost use Rattle.slots.specs.Taken.{length_of};
 ghost use Rattle.leaf_after.specs.Seeing.{for_length};
-ghost use Rattle.class_layout.specs.Trees.{Whole};
+ghost use Rattle.class_layout.specs.Trees.{IsWhole};
 ghost use Rattle.class_layout.specs.Fields.{onward};
 ghost use Rattle.class_layout.specs.Notes.{SizedClasses, NumberedClasses};
 ghost use Rattle.leaf_read.specs.Reads.{Held, leaf_slot};
@@ -32,7 +32,7 @@ use table_bytes::{size_at, u16_at, wide, wide64};
 
 // The slot that the leaf at a byte reads; 255 where it reads none.
 pub fn leaf_slot(table: &[u8], at: usize) -> usize
-    requires whole { Whole 1 table.now at }
+    requires whole { IsWhole 1 table.now at }
     requires at_bound { u8 table.now at < 28 }
     ensures { result ≡ leaf_slot table.now at }
 {
@@ -206,7 +206,7 @@ fn see_leaf(
     last: LastOrder,
     content: Content,
 ) -> Seen
-    requires whole { Whole 1 table.now at }
+    requires whole { IsWhole 1 table.now at }
     requires at_bound { u8 table.now at < 28 }
     requires framed { Framed stream.now frame from }
     ensures { result ≡ seen_at number table.now stream.now uuid.now frame at from last content }
@@ -302,7 +302,7 @@ fn see_bits(
     from: BitPlace,
     last: LastOrder,
 ) -> Seen
-    requires whole { Whole 1 table.now at }
+    requires whole { IsWhole 1 table.now at }
     requires at_bound { u8 table.now at < 21 }
     requires framed { Framed stream.now frame from }
     ensures { BitsSeen number table.now stream.now frame at from last result }

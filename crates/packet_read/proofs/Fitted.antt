@@ -13,7 +13,7 @@ use Rattle.laws.proofs.Law.{Any, Fits, FitMembers, FitOptions, FitRoot}
 use Rattle.class_layout.specs.declared.TablePlace.{TablePlace}
 use Rattle.class_layout.specs.declared.TablePlace.TheVariants.{At, Nothing}
 use Rattle.class_layout.specs.Trees.{Stood, shape_of, optional_of, members_at, options_at, option_class, class_in, stood_at, class_at}
-use Rattle.class_layout.specs.Trees.{WholeMembers, WholeOptions, WholeIn, Whole}
+use Rattle.class_layout.specs.Trees.{WholeMembers, WholeOptions, WholeIn, IsWhole}
 use Rattle.class_layout.specs.Fragments.{asked_at, stream_class_at, find_stream_at, fragments_of, map_option, root_class, root_place}
 use Rattle.class_layout.specs.Fragments.{is_stream, Fragment}
 use Rattle.class_layout.specs.Sizes.{Sized, SizedFragment}
@@ -61,10 +61,10 @@ module _ (t : List ℕ) (g : ℕ → Type 0) (f : ℕ → Stood) (rec : (q : ℕ
   shape-fits at option? w = optional-fits _ _ _ _ (rec _ w.1)
   shape-fits at options w = options-fit (u8 t (at + 2)) (at + 3) 0 w.1
 
-whole-fits : (t : List ℕ) (d p : ℕ) → Whole d t p → Fits Positive Any Any (class_at d t p)
-unfolding Whole stood_at
+whole-fits : (t : List ℕ) (d p : ℕ) → IsWhole d t p → Fits Positive Any Any (class_at d t p)
+unfolding IsWhole stood_at
 whole-fits t zero p w = absurd w
-whole-fits t (suc d) p w = shape-fits t (Whole d t) (stood_at d t) (λ q v. whole-fits t d q v) p (shape_of (u8 t p)) w.parts
+whole-fits t (suc d) p w = shape-fits t (IsWhole d t) (stood_at d t) (λ q v. whole-fits t d q v) p (shape_of (u8 t p)) w.parts
 
 found-fits : (t : List ℕ) (x : TablePlace) → RootStands t x → FitRoot Positive Any Any (class_of t x)
 unfolding RootStands class_of

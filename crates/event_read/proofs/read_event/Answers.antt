@@ -23,7 +23,7 @@ use Rattle.listing.proofs.Checks.{full-said, room-said}
 use Rattle.listing.proofs.Parts.{part_length, lent-room, merged}
 use Rattle.leaf_read.specs.Reads.{leaf_slot}
 use Rattle.leaf_read.specs.Leaves.{content_of}
-use Rattle.class_layout.specs.Trees.{Whole}
+use Rattle.class_layout.specs.Trees.{IsWhole}
 use Rattle.class_layout.specs.Notes.{notes}
 use Rattle.class_layout.specs.Fragments.{asked_at, stream_class_at}
 use Rattle.class_layout.proofs.InPlace.{members-few}
@@ -791,7 +791,7 @@ returns-then-is_full-2 c =
     rw c.refused-then-is_full-2.ensures
     (event-stopped (event (field-loop k)) _ _ (round-full (here k (now (field-loop k))) (some_left k) (no_room c.before.before) _ _))
 
-class-there : (c : AtClass) → Whole 8 c.args.table.now c.first-next.result
+class-there : (c : AtClass) → IsWhole 8 c.args.table.now c.first-next.result
 class-there c = first-whole c.first-next.ensures (here (class-field c) (now (class-loop c))) (some_left (class-field c))
 
 pub bounds-table-next : goal.bounds-table-next

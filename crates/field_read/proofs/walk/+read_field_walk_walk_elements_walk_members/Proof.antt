@@ -66,7 +66,7 @@ use Rattle.rules.specs.Step.{◌⨾◌}
 use Rattle.rules.specs.Faults.{role_of}
 use Rattle.rules.specs.Field.{role}
 use Rattle.facts.specs.Bytes.{Bytes}
-use Rattle.class_layout.specs.Trees.{Whole}
+use Rattle.class_layout.specs.Trees.{IsWhole}
 use Rattle.class_layout.specs.Notes.{notes}
 use Rattle.class_layout.proofs.InPlace.{members-few}
 use Rattle.class_layout.proofs.Standing.{depth-some, kind-high, leaf-whole}
@@ -767,7 +767,7 @@ module _ (t : ℕ) where
 
   class-there : (c : AtClass) →
       let a = (loop-start (class-loop c)).args in
-      Whole a.left a.table.now c.first.result
+      IsWhole a.left a.table.now c.first.result
   class-there c = first-whole c.first.ensures (here (class-field c)) (some_left (class-field c))
 
   table_fits : (c : AtLoop) → length (loop-start c).args.table.now < 2 ^ 62
