@@ -12,8 +12,8 @@ start c = c.before.before.before.before.before.before.before
 
 pub bundle_by-requires : goal.bundle_by-requires
 bundle_by-requires c =
-    let l = c.before in
-    let k = l.before.before in
+    let l = c.before.before.before in
+    let k = l.before in
     checked-whole k.args.table.now _ (sym k.check.ensures ∙ l.in-Accepted.is)
 
 pub returns-in-Refused : goal.returns-in-Refused

@@ -31,7 +31,7 @@ abbrev AtLooked : Type 0
 AtLooked = lts.After-find_event_class tie.the-claims reads.Pre reads.Post tie.handed_clauses
 
 abbrev AtFound : Type 0
-AtFound = lts.After-found tie.the-claims reads.Pre reads.Post tie.handed_clauses
+AtFound = lts.Past-After-known_told tie.the-claims reads.Pre reads.Post tie.handed_clauses
 
 abbrev AtListed : Type 0
 AtListed = lts.After-write tie.the-claims reads.Pre reads.Post tie.handed_clauses
@@ -51,10 +51,10 @@ abbrev to_room : AtLooked → AtRoom
 to_room c = c.before.before
 
 abbrev to-looked : AtFound → AtLooked
-to-looked c = c.before.before
+to-looked c = c.before
 
-abbrev to-found : AtListed → AtListed
-to-found c = c
+abbrev to-found : AtListed → AtFound
+to-found c = c.before.before
 
 abbrev room-start : AtRoom → AtStart
 room-start c = c.before.before.before.before.before.before.before.before
@@ -97,7 +97,7 @@ returns-then-is_full c =
 -- The lookup, and entry 5
 
 pub write-requires : goal.write-requires
-write-requires c = ltb-false _ _ (roomy (to-looked c.before))
+write-requires c = ltb-false _ _ (roomy (to-looked c.before.before))
 
 pub returns-in-Nothing : goal.returns-in-Nothing
 returns-in-Nothing c =

@@ -16,7 +16,7 @@ abbrev AtSearched : Type 0
 AtSearched = lts.After-find_blob tie.the-claims reads.Pre reads.Post tie.handed_clauses
 
 abbrev AtPlace : Type 0
-AtPlace = lts.After-bits tie.the-claims reads.Pre reads.Post tie.handed_clauses
+AtPlace = lts.Past-After-known_told2 tie.the-claims reads.Pre reads.Post tie.handed_clauses
 
 abbrev AtRead : Type 0
 AtRead = lts.After-read tie.the-claims reads.Pre reads.Post tie.handed_clauses
@@ -33,10 +33,10 @@ abbrev to_start : AtSearched → AtStart
 to_start c = c.before.before
 
 abbrev to-searched : AtPlace → AtSearched
-to-searched c = c.before.before
+to-searched c = c.before
 
-abbrev to-place : AtRead → AtRead
-to-place c = c
+abbrev to-place : AtRead → AtPlace
+to-place c = c.before.before
 
 abbrev not-text-read : AtNotText → AtRead
 not-text-read c = c.before.before
@@ -50,7 +50,7 @@ to_read c = c.before.before
 
 pub read-text-requires : goal.read-text-requires
 read-text-requires c =
-    let place = c.before in
+    let place = c.before.before in
     let searched = to-searched place in
     rw c.bytes_before.ensures
     (blob-lies searched.requires.framed place.in-At.is _ searched.find_blob.ensures).1

@@ -7,7 +7,7 @@ use Rattle.leaf_find_number.proofs.differs.Reads as reads
 -- Places of the code: there was an order; it was little; it was big
 
 abbrev AtLast : Type 0
-AtLast = lts.After-last reads.Pre reads.Post
+AtLast = lts.Past-After-known_told reads.Pre reads.Post
 
 abbrev AtLittle : Type 0
 AtLittle = lts.Past-After-enum_told2 reads.Pre reads.Post
@@ -17,11 +17,11 @@ AtBig = lts.Past-After-enum_told5 reads.Pre reads.Post
 
 -- The way back from the two orders
 
-abbrev was-little : AtLittle → AtLittle
-was-little c = c
+abbrev was-little : AtLittle → AtLast
+was-little c = c.before
 
-abbrev was-big : AtBig → AtBig
-was-big c = c
+abbrev was-big : AtBig → AtLast
+was-big c = c.before
 
 -- The needs
 

@@ -41,16 +41,16 @@ abbrev AtSeen : Type 0
 AtSeen = lts.After-see_leaf tie.the-claims reads.Pre reads.Post tie.handed_clauses goal.the-invariant-loop-stop goal.the-decreases-loop-stop
 
 abbrev AtStops : Type 0
-AtStops = lts.After-stop tie.the-claims reads.Pre reads.Post tie.handed_clauses goal.the-invariant-loop-stop goal.the-decreases-loop-stop
+AtStops = lts.Past-After-known_told tie.the-claims reads.Pre reads.Post tie.handed_clauses goal.the-invariant-loop-stop goal.the-decreases-loop-stop
 
 abbrev AtOther : Type 0
-AtOther = lts.After-entry tie.the-claims reads.Pre reads.Post tie.handed_clauses goal.the-invariant-loop-stop goal.the-decreases-loop-stop
+AtOther = lts.Past-After-known_told2 tie.the-claims reads.Pre reads.Post tie.handed_clauses goal.the-invariant-loop-stop goal.the-decreases-loop-stop
 
 abbrev AtOtherListed : Type 0
 AtOtherListed = lts.After-list tie.the-claims reads.Pre reads.Post tie.handed_clauses goal.the-invariant-loop-stop goal.the-decreases-loop-stop
 
 abbrev AtDue : Type 0
-AtDue = lts.After-due tie.the-claims reads.Pre reads.Post tie.handed_clauses goal.the-invariant-loop-stop goal.the-decreases-loop-stop
+AtDue = lts.Past-After-known_told3 tie.the-claims reads.Pre reads.Post tie.handed_clauses goal.the-invariant-loop-stop goal.the-decreases-loop-stop
 
 abbrev AtListed : Type 0
 AtListed = lts.After-list2 tie.the-claims reads.Pre reads.Post tie.handed_clauses goal.the-invariant-loop-stop goal.the-decreases-loop-stop
@@ -76,19 +76,19 @@ abbrev leaf : AtSeen → AtLeaf
 leaf c = c.before.before.before
 
 abbrev stops : AtStops → AtSeen
-stops c = c.before.before
+stops c = c.before
 
 abbrev other : AtOther → AtSeen
-other c = c.before.before
+other c = c.before
 
-abbrev other-told : AtOtherListed → AtOtherListed
-other-told c = c
+abbrev other-told : AtOtherListed → AtOther
+other-told c = c.before.before.before
 
 abbrev due : AtDue → AtSeen
-due c = c.before.before
+due c = c.before
 
-abbrev due-told : AtListed → AtListed
-due-told c = c
+abbrev due-told : AtListed → AtDue
+due-told c = c.before.before.before.before
 
 abbrev due-listed : AtNext → AtListed
 due-listed c = c.before.before.before.before
@@ -178,11 +178,11 @@ pub see_leaf-requires : goal.see_leaf-requires
 see_leaf-requires c = let h = c.loop-stop.invariant in record { Whole = (reading-first h).leaf; at_bound = h.kind; framed = h.framed }
 
 pub shape_of-list-in-Stops : goal.shape_of-list-in-Stops
-shape_of-list-in-Stops c = (within (leaf (stops c.before))).1
+shape_of-list-in-Stops c = (within (leaf (stops c.before.before.before))).1
 
 pub returns-in-Stops : goal.returns-in-Stops
 returns-in-Stops c =
-    let told = c.before in
+    let told = c.before.before.before in
     let seen = stops told in
     rw c.stopped.ensures (answer-stops seen.loop-stop.invariant (sees seen) told.in-Stops.is)
 
@@ -196,7 +196,7 @@ pub slice_bounds-write-start : goal.slice_bounds-write-start
 slice_bounds-write-start c = omega (arith, (within (leaf (other c.before))).0)
 
 pub write-requires : goal.write-requires
-write-requires c = let l = leaf (other c.before) in omega (arith, (within l).0, lent-room l.loop-stop.used l.loop-stop.list)
+write-requires c = let l = leaf (other c.before.before) in omega (arith, (within l).0, lent-room l.loop-stop.used l.loop-stop.list)
 
 pub further-requires : goal.further-requires
 unfolding Fits
@@ -221,17 +221,17 @@ returns-in-OtherUuid c =
     (answer-other seen.loop-stop.invariant (sees seen) told.in-OtherUuid.is (other-list listed))
 
 pub offset_bounds-list-used-in-Field : goal.offset_bounds-list-used-in-Field
-offset_bounds-list-used-in-Field c = let i = within (leaf (due c.before)) in omega (arith, i.0, i.1, i.2)
+offset_bounds-list-used-in-Field c = let i = within (leaf (due c.before.before)) in omega (arith, i.0, i.1, i.2)
 
 pub slice_bounds-write-count-in-Field : goal.slice_bounds-write-count-in-Field
-slice_bounds-write-count-in-Field c = omega (arith, (within (leaf (due c.before))).0)
+slice_bounds-write-count-in-Field c = omega (arith, (within (leaf (due c.before.before))).0)
 
 pub slice_bounds-write-start-in-Field : goal.slice_bounds-write-start-in-Field
-slice_bounds-write-start-in-Field c = omega (arith, (within (leaf (due c.before))).0)
+slice_bounds-write-start-in-Field c = omega (arith, (within (leaf (due c.before.before))).0)
 
 pub write-requires-in-Field : goal.write-requires-in-Field
 write-requires-in-Field c =
-    let l = leaf (due c.before) in omega (arith, (within l).0, lent-room l.loop-stop.used l.loop-stop.list)
+    let l = leaf (due c.before.before.before) in omega (arith, (within l).0, lent-room l.loop-stop.used l.loop-stop.list)
 
 pub overflow_add-used-in-Field : goal.overflow_add-used-in-Field
 overflow_add-used-in-Field c =

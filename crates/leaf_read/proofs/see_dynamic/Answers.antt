@@ -16,7 +16,7 @@ abbrev AtSlot : Type 0
 AtSlot = lts.After-length_of tie.the-claims reads.Pre reads.Post tie.handed_clauses
 
 abbrev AtBytes : Type 0
-AtBytes = lts.After-bytes tie.the-claims reads.Pre reads.Post tie.handed_clauses
+AtBytes = lts.Past-After-known_told2 tie.the-claims reads.Pre reads.Post tie.handed_clauses
 
 abbrev AtText : Type 0
 AtText = lts.Then1 tie.the-claims reads.Pre reads.Post tie.handed_clauses
@@ -30,13 +30,13 @@ abbrev to_start : AtSlot → AtStart
 to_start c = c.before.before
 
 abbrev to-slot : AtBytes → AtSlot
-to-slot c = c.before.before
+to-slot c = c.before
 
-abbrev to-bytes-from-text : AtText → AtText
-to-bytes-from-text c = c
+abbrev to-bytes-from-text : AtText → AtBytes
+to-bytes-from-text c = c.before
 
-abbrev to-bytes-from-blob : AtBlob → AtBlob
-to-bytes-from-blob c = c
+abbrev to-bytes-from-blob : AtBlob → AtBytes
+to-bytes-from-blob c = c.before
 
 -- What is known at them: no slot gives more than 65,535 bytes
 

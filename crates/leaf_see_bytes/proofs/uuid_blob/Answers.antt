@@ -13,7 +13,7 @@ abbrev AtStart : Type 0
 AtStart = lts.Start tie.the-claims reads.Pre reads.Post
 
 abbrev AtFound : Type 0
-AtFound = lts.After-found2 tie.the-claims reads.Pre reads.Post
+AtFound = lts.Past-After-known_told2 tie.the-claims reads.Pre reads.Post
 
 abbrev AtByte : Type 0
 AtByte = lts.After-bytes_before tie.the-claims reads.Pre reads.Post
@@ -24,10 +24,10 @@ AtAsked = lts.After-same tie.the-claims reads.Pre reads.Post
 -- The way back from each to the one before
 
 abbrev to_start : AtFound → AtStart
-to_start c = c.before.before.before.before
+to_start c = c.before.before.before
 
-abbrev to-found : AtByte → AtByte
-to-found c = c
+abbrev to-found : AtByte → AtFound
+to-found c = c.before
 
 abbrev to-byte : AtAsked → AtByte
 to-byte c = c.before

@@ -23,7 +23,7 @@ returns-then-bytes-le9 c =
 
 pub overflow_add-result : goal.overflow_add-result
 overflow_add-result c =
-    let known = c.before in
+    let known = c.before.before.before.before in
     let on = says_on _ known.first_nine.ensures known.in-GoOn.is in
     record { fits = omega (arith, on.small) }
 
@@ -40,22 +40,22 @@ returns-in-Ended c =
 
 pub returns-in-0 : goal.returns-in-0
 returns-in-0 c =
-    let known = c.before in
-    let nine = known.before.before in
+    let known = c.before.before.before.before in
+    let nine = known.before in
     let on = says_on _ nine.first_nine.ensures known.in-GoOn.is in
     rw (← nine.readable-bytes.ensures) (signed-zeros _ on _ c.if-bytes-le9.false refl c.in-0.is)
 
 pub returns-in-127 : goal.returns-in-127
 returns-in-127 c =
-    let known = c.before in
-    let nine = known.before.before in
+    let known = c.before.before.before.before in
+    let nine = known.before in
     let on = says_on _ nine.first_nine.ensures known.in-GoOn.is in
     rw (← nine.readable-bytes.ensures) (signed-ones _ on _ c.if-bytes-le9.false refl c.in-127.is)
 
 pub returns-in_default : goal.returns-in_default
 returns-in_default c =
-    let known = c.before in
-    let nine = known.before.before in
+    let known = c.before.before.before.before in
+    let nine = known.before in
     let on = says_on _ nine.first_nine.ensures known.in-GoOn.is in
     rw (← nine.readable-bytes.ensures)
     (signed-large _ on _ c.if-bytes-le9.false refl c.in_default.in_default-own.rest.0.1 c.in_default.in_default-own.rest.1)

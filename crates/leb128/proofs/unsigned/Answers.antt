@@ -12,15 +12,15 @@ returns-then-bytes-le9 c =
 
 pub returns-then-tenth-gt1 : goal.returns-then-tenth-gt1
 returns-then-tenth-gt1 c =
-    let known = c.before in
-    let nine = known.before.before in
+    let known = c.before.before.before.before.before in
+    let nine = known.before in
     let on = says_on _ nine.first_nine.ensures known.in-GoOn.is in
     rw (← nine.readable-bytes.ensures)
     (unsigned-large _ on c.wide-tenth.result c.if-bytes-le9.false c.wide-tenth.ensures (omega arith))
 
 pub overflow_add-result : goal.overflow_add-result
 overflow_add-result c =
-    let known = c.before in
+    let known = c.before.before.before.before.before in
     let on = says_on _ known.first_nine.ensures known.in-GoOn.is in
     record { fits = omega (arith, on.small) }
 
@@ -36,8 +36,8 @@ returns-in-Ended c =
 
 pub returns-else-tenth-gt1 : goal.returns-else-tenth-gt1
 returns-else-tenth-gt1 c =
-    let known = c.before in
-    let nine = known.before.before in
+    let known = c.before.before.before.before.before in
+    let nine = known.before in
     let on = says_on _ nine.first_nine.ensures known.in-GoOn.is in
     rw (← nine.readable-bytes.ensures)
     (unsigned-tenth _ on c.wide-tenth.result c.if-bytes-le9.false c.wide-tenth.ensures (omega arith))

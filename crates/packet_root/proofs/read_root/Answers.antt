@@ -18,7 +18,7 @@ abbrev AtNone : Type 0
 AtNone = lts.Past-After-enum_told tie.the-claims reads.Pre reads.Post tie.handed_clauses
 
 abbrev AtRoot : Type 0
-AtRoot = lts.After-root tie.the-claims reads.Pre reads.Post tie.handed_clauses
+AtRoot = lts.Past-After-known_told tie.the-claims reads.Pre reads.Post tie.handed_clauses
 
 abbrev AtRead : Type 0
 AtRead = lts.After-walk_members tie.the-claims reads.Pre reads.Post tie.handed_clauses
@@ -29,10 +29,10 @@ abbrev to-start-from-none : AtNone → AtStart
 to-start-from-none c = c.before.before.before.before.before.before.before
 
 abbrev to_start : AtRoot → AtStart
-to_start c = c.before.before.before.before.before.before.before.before
+to_start c = c.before.before.before.before.before.before.before
 
-abbrev to-root : AtRead → AtRead
-to-root c = c
+abbrev to-root : AtRead → AtRoot
+to-root c = c.before.before
 
 -- What is known at the start
 
@@ -43,7 +43,7 @@ slots-all c = c.well_formed.1.1.1.1.1.1.1.1.0.1.0.1
 
 pub walk_members-requires : goal.walk_members-requires
 walk_members-requires c =
-    let root = c.before in
+    let root = c.before.before in
     let p = root.requires in
     record { whole_members = one-member _ _ _ root.in-At.is p.root_stands; prepared = p.prepared; framed = p.framed }
 

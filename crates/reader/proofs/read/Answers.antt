@@ -22,10 +22,10 @@ abbrev AtChecked : Type 0
 AtChecked = lts.After-check tie.the-claims reads.Pre reads.Post
 
 abbrev AtRefused : Type 0
-AtRefused = lts.After-number tie.the-claims reads.Pre reads.Post
+AtRefused = lts.Past-After-known_told tie.the-claims reads.Pre reads.Post
 
 abbrev AtAccepted : Type 0
-AtAccepted = lts.After-length tie.the-claims reads.Pre reads.Post
+AtAccepted = lts.Past-After-known_told2 tie.the-claims reads.Pre reads.Post
 
 abbrev AtRead : Type 0
 AtRead = lts.After-read_stream tie.the-claims reads.Pre reads.Post
@@ -36,13 +36,13 @@ abbrev to_start : AtChecked → AtStart
 to_start c = c.before.before.before.before
 
 abbrev to-checked-from-refused : AtRefused → AtChecked
-to-checked-from-refused c = c.before.before
+to-checked-from-refused c = c.before
 
 abbrev to-checked : AtAccepted → AtChecked
-to-checked c = c.before.before
+to-checked c = c.before
 
-abbrev to-accepted : AtRead → AtRead
-to-accepted c = c
+abbrev to-accepted : AtRead → AtAccepted
+to-accepted c = c.before.before
 
 -- What is known at them: an accepted table is so to its end, and all that is left is the stream
 
@@ -64,7 +64,7 @@ stream-left c =
 -- The check
 
 pub read_stream-requires : goal.read_stream-requires
-read_stream-requires c = accepted c.before
+read_stream-requires c = accepted c.before.before
 
 -- 20
 

@@ -10,8 +10,8 @@ returns-then-out-lt-LINE_ROOM c = let both = too_small c.args.out.now (checked_l
 pub returns-in-Accepted : goal.returns-in-Accepted
 unfolding checked_line
 returns-in-Accepted c =
-    let at_told = c.before in
-    let at-if = at_told.before.before in
+    let at_told = c.before.before.before.before.before in
+    let at-if = at_told.before in
     let a = at-if.args in
     let put = c.put_accepted_table in
     let both = line-laid a.out.now put.new.out (accepted_table at_told.in-Accepted.bytes.0) (checked_line a.checked) put.result
@@ -20,8 +20,8 @@ returns-in-Accepted c =
 pub returns-in-Refused : goal.returns-in-Refused
 unfolding checked_line
 returns-in-Refused c =
-    let at_told = c.before in
-    let at-if = at_told.before.before in
+    let at_told = c.before.before.before.before.before in
+    let at-if = at_told.before in
     let a = at-if.args in
     let put = c.put_refused_table in
     let both = line-laid a.out.now put.new.out (refused_table at_told.in-Refused.number at_told.in-Refused.byte.0)

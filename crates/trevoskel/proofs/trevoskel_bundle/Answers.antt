@@ -15,7 +15,7 @@ pub returns-in-Written : goal.returns-in-Written
 unfolding bundled_words bundled_number bundled_length bundled_first
 returns-in-Written c =
     let answer = c.before.before.before in
-    let taken = answer in
+    let taken = answer.before.before in
     let x = taken.bundle.ensures in
     cut _ _ _ _ _ _ _ _ _ x.0 taken.in-Written.is x.1 x.2 (answer.answer_bundle.ensures.number, answer.answer_bundle.ensures.res)
 
@@ -23,7 +23,7 @@ pub returns-in-TableRefused : goal.returns-in-TableRefused
 unfolding bundled_words bundled_number bundled_length bundled_first
 returns-in-TableRefused c =
     let answer = c.before.before.before in
-    let taken = answer in
+    let taken = answer.before.before in
     let x = taken.bundle.ensures in
     cut _ _ _ _ _ _ _ _ _ x.0 taken.in-TableRefused.is x.1 x.2 (answer.answer_bundle-in-TableRefused.ensures.number, answer.answer_bundle-in-TableRefused.ensures.res)
 
@@ -39,6 +39,6 @@ pub returns-in-ShortBuffer : goal.returns-in-ShortBuffer
 unfolding bundled_words bundled_number bundled_length bundled_first
 returns-in-ShortBuffer c =
     let answer = c.before.before.before in
-    let taken = answer in
+    let taken = answer.before.before in
     let x = taken.bundle.ensures in
     cut _ _ _ _ _ _ _ _ _ x.0 taken.in-ShortBuffer.is x.1 x.2 (answer.answer_bundle-in-ShortBuffer.ensures.number, answer.answer_bundle-in-ShortBuffer.ensures.res)

@@ -27,16 +27,16 @@ abbrev AtTold : Type 0
 AtTold = lts.After-look tie.the-claims reads.Pre reads.Post tie.handed_clauses
 
 abbrev AtRefused : Type 0
-AtRefused = lts.After-stop tie.the-claims reads.Pre reads.Post tie.handed_clauses
+AtRefused = lts.Past-After-known_told tie.the-claims reads.Pre reads.Post tie.handed_clauses
 
 abbrev AtMembers : Type 0
-AtMembers = lts.After-there tie.the-claims reads.Pre reads.Post tie.handed_clauses
+AtMembers = lts.Past-After-known_told2 tie.the-claims reads.Pre reads.Post tie.handed_clauses
 
 abbrev AtMembersListed : Type 0
 AtMembersListed = lts.After-list_holder tie.the-claims reads.Pre reads.Post tie.handed_clauses
 
 abbrev AtElements : Type 0
-AtElements = lts.After-there2 tie.the-claims reads.Pre reads.Post tie.handed_clauses
+AtElements = lts.Past-After-known_told3 tie.the-claims reads.Pre reads.Post tie.handed_clauses
 
 abbrev AtElementsListed : Type 0
 AtElementsListed = lts.After-list_holder2 tie.the-claims reads.Pre reads.Post tie.handed_clauses
@@ -59,19 +59,19 @@ abbrev told-start : AtTold → AtStart
 told-start c = c.before.before.before.before.before.before.before.before
 
 abbrev refused-told : AtRefused → AtTold
-refused-told c = c.before.before
+refused-told c = c.before
 
 abbrev members-told : AtMembers → AtTold
-members-told c = c.before.before
+members-told c = c.before
 
-abbrev to-members : AtMembersListed → AtMembersListed
-to-members c = c
+abbrev to-members : AtMembersListed → AtMembers
+to-members c = c.before.before
 
 abbrev elements-told : AtElements → AtTold
-elements-told c = c.before.before
+elements-told c = c.before
 
-abbrev to-elements : AtElementsListed → AtElementsListed
-to-elements c = c
+abbrev to-elements : AtElementsListed → AtElements
+to-elements c = c.before.before
 
 abbrev to-listed : AtForgotten → AtElementsListed
 to-listed c = c.before.before.before
@@ -112,7 +112,7 @@ list_holder-requires-in-Elements c = c.requires.words_per_entry_in_bounds
 pub returns-in-Refused : goal.returns-in-Refused
 unfolding opened_as list_opened
 returns-in-Refused c =
-    let d = c.before in
+    let d = c.before.before in
     let both = opened-by _ _ _ _ (numbered (to_number (refused-told d))) d.look.ensures d.in-Refused.is in record { value = both.0; list_after = both.1 }
 
 pub shape_of-list-in-Members : goal.shape_of-list-in-Members

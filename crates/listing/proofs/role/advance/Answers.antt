@@ -42,7 +42,7 @@ returns-in-TooLarge c =
 pub returns-in-To : goal.returns-in-To
 unfolding list_advanced
 returns-in-To c =
-    let met = c.before in
-    let asked = met.before.before in
+    let met = c.before.before.before.before.before in
+    let asked = met.before in
     let told = sym asked.after.ensures ∙ met.in-To.is in
     (sym (advanced-room _ _ _ _ (room asked.before) ∙ stepped-on _ _ _ told), c.write.ensures)
