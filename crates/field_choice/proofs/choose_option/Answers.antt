@@ -73,11 +73,11 @@ first_option-requires c =
 
 pub returns-in-NotOf : goal.returns-in-NotOf
 unfolding u8
-returns-in-NotOf c = variant-refused _ _ _ _ _ (sym (to-asked-from-none c.before).number_of_lem.ensures ∙ c.in-NotOf.is)
+returns-in-NotOf c = variant-refused _ _ _ _ _ (sym c.number_of.ensures ∙ c.in-NotOf.is)
 
 pub returns-in-Of : goal.returns-in-Of
 unfolding u8
 returns-in-Of c =
     let n = to_number c.before.before in
     rw (c.first_option.ensures, c.count_at.ensures.0)
-    (variant-chosen _ _ _ _ _ (sym (to-asked n).number_of_lem.ensures ∙ n.in-Of.is))
+    (variant-chosen _ _ _ _ _ (sym n.number_of.ensures ∙ n.in-Of.is))

@@ -113,7 +113,7 @@ pub returns-in-NotOf : goal.returns-in-NotOf
 unfolding u8
 returns-in-NotOf c =
     let d = to-asked-from-none c.before in
-    optional-refused _ _ _ _ (some (to-ranges d)) (sym d.number_of_lem.ensures ∙ c.in-NotOf.is)
+    optional-refused _ _ _ _ (some (to-ranges d)) (sym d.number_of.ensures ∙ c.in-NotOf.is)
 
 pub returns-in-Of : goal.returns-in-Of
 unfolding u8
@@ -121,4 +121,4 @@ returns-in-Of c =
     let n = to_number c.before.before in
     let d = to-asked n in
     rw (c.present.ensures, c.any_holds.ensures, n.count_at-count.ensures.0)
-    (optional-chosen _ _ _ _ (some (to-ranges d)) (sym d.number_of_lem.ensures ∙ n.in-Of.is))
+    (optional-chosen _ _ _ _ (some (to-ranges d)) (sym d.number_of.ensures ∙ n.in-Of.is))

@@ -130,7 +130,7 @@ sees : (c : AtSeen) →
     ≡ seen_at (number_at t l.at) t a.stream.now a.uuid.now a.frame l.at l.place l.order a.content
 sees c =
     let l = leaf c in
-    reading-seen l.loop-stop.invariant l.args.aligns.now (noted l).1 (number c).number_of_lem.ensures.0 c.see_leaf.ensures
+    reading-seen l.loop-stop.invariant l.args.aligns.now (noted l).1 c.number_of-number.ensures.0 c.see_leaf.ensures
 
 -- what is seen can be done
 fits : (c : AtSeen) → Fits c.see_leaf.result

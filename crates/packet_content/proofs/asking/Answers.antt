@@ -50,7 +50,7 @@ pub overflow_add-timed : goal.overflow_add-timed
 overflow_add-timed c = omega (arith, there c.before.before.before, c.requires.sized.limit)
 
 pub bounds-table-class : goal.bounds-table-class
-bounds-table-class c = omega (arith, there (to_start c.before))
+bounds-table-class c = omega (arith, there c.before.before.before.before)
 
 -- The roots
 

@@ -120,7 +120,7 @@ read_by-requires-in-At-uuid_place c =
     }
 
 pub returns-in-Nothing : goal.returns-in-Nothing
-returns-in-Nothing c = c.before.before.read_by_lem.ensures
+returns-in-Nothing c = c.read_by.ensures
 
 pub returns-in-Nothing-uuid_place : goal.returns-in-Nothing-uuid_place
 returns-in-Nothing-uuid_place c = c.read_by-in-Nothing-uuid_place.ensures

@@ -90,9 +90,9 @@ placed c = rw c.align_of.ensures.0 at c.align-place.ensures
 
 numbered : (c : AtNumber) →
     let a = c.args in
-    c.number_of_lem.result ≡ number_noted a.aligns.now a.at
+    c.number_of.result ≡ number_noted a.aligns.now a.at
 unfolding number_noted
-numbered c = c.number_of_lem.ensures.0
+numbered c = c.number_of.ensures.0
 
 -- The place
 

@@ -80,9 +80,9 @@ to-listed c = c.before.before.before
 
 numbered : (c : AtNumber) →
     let a = c.args in
-    c.number_of_lem.result ≡ number_noted a.aligns.now a.at
+    c.number_of-number.result ≡ number_noted a.aligns.now a.at
 unfolding number_noted
-numbered c = c.number_of_lem.ensures.0
+numbered c = c.number_of-number.ensures.0
 
 -- Looked at
 
