@@ -218,14 +218,14 @@ variant-number (suc d) t at w e =
 
 pub record OptionsStand (d : ℕ) (t : List ℕ) (at n : ℕ) : Type 0 where
   pub begins : Begins t at
-  pub IsWhole : WholeOptions (IsWhole d t) (stood_at d t) t at n
+  pub whole : WholeOptions (IsWhole d t) (stood_at d t) t at n
   pub kinds : OptionKinds (stood_at d t) t at n
 
 pub variant-options : (d : ℕ) (t : List ℕ) (at : ℕ) → IsWhole (suc d) t at → u8 t at ≡ 32 → OptionsStand d t (at + 3) (u8 t (at + 2))
 unfolding record_size shape_of shapes WholeIn KindsIn
 variant-options d t at w e =
     let k = of-kind d t at 32 w e in
-    record { begins = begins-behind k.begins 3 k.bytes; IsWhole = k.parts.1; kinds = k.kinds }
+    record { begins = begins-behind k.begins 3 k.bytes; whole = k.parts.1; kinds = k.kinds }
 
 module _ (d : ℕ) (t : List ℕ) (at n : ℕ) (s : OptionsStand d t at (suc n)) where
   -- an option with its class
@@ -245,7 +245,7 @@ module _ (d : ℕ) (t : List ℕ) (at n : ℕ) (s : OptionsStand d t at (suc n))
   }
 
   pub options-rest : OptionsStand d t (next_at d t (option_class t at)) n
-  options-rest = record { begins = behind-begins d t (option_class t at) first.class; IsWhole = first.rest; kinds = first.kinds }
+  options-rest = record { begins = behind-begins d t (option_class t at) first.class; whole = first.rest; kinds = first.kinds }
 
   pub option-class-number : number_at t (option_class t at) ≡ number_at t at + 1 + length (ranges_at t (at + 2) (u8 t (at + 1)))
   option-class-number = omega (arith, first.row.number s.begins (class-opens-none d t (option_class t at) first.class))

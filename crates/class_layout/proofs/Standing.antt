@@ -121,7 +121,7 @@ module _ (t : List ℕ) (p : ℕ) where
 
 module _ (g : ℕ → Type 0) (f : ℕ → Stood) (at : ℕ) where
   pub record First (n : ℕ) : Type 0 where
-    pub IsWhole : g at
+    pub whole : g at
     pub rest : WholeMembers g f (f at).next (n - 1)
     pub classes : members_at f at n ≡ member (f at).class (members_at f (f at).next (n - 1))
 
@@ -130,7 +130,7 @@ module _ (g : ℕ → Type 0) (f : ℕ → Stood) (at : ℕ) where
   first zero h w = absurd (omega arith)
   first (suc n) h w =
       let e : suc n - 1 ≡ n = omega arith in
-      record { IsWhole = w.0; rest = rw e w.1; classes = rw e refl }
+      record { whole = w.0; rest = rw e w.1; classes = rw e refl }
 
 pub no_member_lem : (f : ℕ → Stood) (at n : ℕ) → n ≤ 0 → members_at f at n ≡ no_member
 unfolding members_at

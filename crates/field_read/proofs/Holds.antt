@@ -94,7 +94,7 @@ module _ {b u : List ℕ} {f : Frame} {t : List ℕ} {x : Notes} {d at : ℕ} {c
   held = inside-whole b f (d - 1) t x at c st.place deep h.holds h.framed h.noted
 
   placed : (p : BitPlace) → Placed f st.place p → Framed b f p
-  placed p q = record { IsWhole = h.framed.whole; begun = q.begun; within = q.within; ends = h.framed.ends; small = h.framed.small }
+  placed p q = record { whole = h.framed.whole; begun = q.begun; within = q.within; ends = h.framed.ends; small = h.framed.small }
 
   pub members-held : {o : Inside} {p : BitPlace} {v at' n : ℕ} → o ≡ inside_of t x at f st.place c → o ≡ Members p v at' n
       → WholeMembers (IsWhole (d - 1) t) (stood_at (d - 1) t) at' n × Framed b f p

@@ -255,7 +255,7 @@ still-framed b u f m c l {st} {st'} {l'} {n} {ws} h on did =
     let before = full st l (length ws) in
     let behind = full st' l' (length ws - n) in
     let between = read_between (env_of b u f) m c before did.listed behind h.begun h.within (did.out ∙ rw (on) refl) in
-    record { IsWhole = h.whole; begun = omega (arith, between.0, h.begun); within = between.1; ends = h.ends; small = h.small }
+    record { whole = h.whole; begun = omega (arith, between.0, h.begun); within = between.1; ends = h.ends; small = h.small }
 
 -- The first field's class, and what is left behind it
 
@@ -688,7 +688,7 @@ module _ {w : Loop} {r : Run} {ws : List ℕ} {used : ℕ} {st : Progress} {l : 
   placed : (p : BitPlace) → Placed w.frame st.place p → Framed w.stream w.frame p
   placed p q =
       let f = h.round.framed in
-      record { IsWhole = f.whole; begun = q.begun; within = q.within; ends = f.ends; small = f.small }
+      record { whole = f.whole; begun = q.begun; within = q.within; ends = f.ends; small = f.small }
 
   -- the field, and then the rest of its run
   abbrev pub rest_here : Run

@@ -154,7 +154,7 @@ due-framed b u f t at x s q sees is framed room many told =
     let e = env_of b u f in
     let reads = sees.same s room many told refl refl ∙ ap (λ z. done z s) is in
     let between = due-between e (number_at t at) (class_at 1 t at) q s (framed.begun, framed.within) reads in
-    record { IsWhole = framed.whole; begun = between.0; within = between.1; ends = framed.ends; small = framed.small }
+    record { whole = framed.whole; begun = between.0; within = between.1; ends = framed.ends; small = framed.small }
 
 -- one leaf in front: it is read as what is seen of it is done
 record OneLeaf (again : Bool) (d : ℕ) (t b u : List ℕ) (f : Frame) (x : Content) (at n : ℕ) (s : State) : Type 0 where

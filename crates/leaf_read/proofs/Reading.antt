@@ -162,7 +162,7 @@ pub reading-start : (w : Asked) → Standing w.again w.table w.from w.count → 
     → words_per_entry ≤ length w.list → Framed w.stream w.frame w.begun → Held (leaf_slot w.table w.from) w.content
     → Reading w w.list w.from w.count w.begun w.last 0
 reading-start w s kind some room framed held =
-    let IsWhole : length w.list - 0 ≡ length w.list = omega arith in
+    let whole : length w.list - 0 ≡ length w.list = omega arith in
     record {
       depth = s.depth;
       stands = s.stands;
