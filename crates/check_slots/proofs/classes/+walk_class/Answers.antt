@@ -1,5 +1,5 @@
 -- A class, with a depth less left for what it holds. In the loop the whole walk is what is left of it, from where it goes on.
-use Rattle.std.proofs.Common.{◌≡◌, ◌<◌, ◌+◌, ℕ, List, true, refl, sym, ap, ◌∙◌, arith}
+use Rattle.std.proofs.Common.{◌≡◌, ◌+◌, ℕ, List, true, refl, sym, ap, ◌∙◌, arith}
 use Rattle.table_offsets.specs.Bodies.{body_mark}
 use Rattle.table_offsets.specs.Check.{byte_at, says_at}
 use Rattle.table_records.specs.Named.{named_at}
