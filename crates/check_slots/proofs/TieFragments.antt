@@ -12,8 +12,8 @@ use Rattle.facts.specs.Bytes.{Bytes}
 use Rattle.facts.proofs.Truth.{clash}
 use Rattle.rules.specs.Limits.{depth_limit}
 use Rattle.rules.specs.Record.{Fragment, preamble, trace_class, clock_class, stream_class, event_class}
-use Rattle.rules.specs.Record.{Record, fragment, class, record_of, behind, size}
-use Rattle.rules.specs.Homes.{Homes, homes, no_homes as nothing_set, both, Walked, fault, walked, lost, onward, is_whole, is_any_root}
+use Rattle.rules.specs.Record.{Record, record_of, behind}
+use Rattle.rules.specs.Homes.{Homes, no_homes as nothing_set, both, Walked, fault, walked, lost, onward, is_whole, is_any_root}
 use Rattle.rules.specs.Homes.{walk_class, walk_roots, homes_of as rules_homes, homes_before, header_homes, stream_homes, walk_rest, walk_opened}
 use Rattle.rules.specs.Homes.{walk_fragments, walk}
 use Rattle.table_offsets.specs.Bodies.{no_kind, body_mark}

@@ -1,5 +1,4 @@
 -- A place of those that are kept.
-use Prim.Native.Nat.{◌-◌}
 use native.Mathlib.Omega.{arith}
 use Rattle.check_slots.proofs.kept_at.Goals as goal
 
