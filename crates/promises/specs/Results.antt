@@ -30,6 +30,8 @@ use Rattle.field_inside.specs.declared.opening.Entered.{Entered}
 use Rattle.field_runs.specs.declared.Run.{Run}
 use Rattle.outcome.specs.declared.Ran.{Ran}
 use Rattle.event_turns.specs.declared.Turn.{Turn}
+use Rattle.screen_list.specs.declared.Mark.{Mark}
+use Rattle.screen_list.specs.declared.Filled.{Filled}
 
 pub data Answer : Type 0 where
   number test list : Answer
@@ -37,6 +39,7 @@ pub data Answer : Type 0 where
   ticked length slot_number state advanced : Answer
   body walk says table_place : Answer
   frame found seen leaves choice inside opened entered run ran turn : Answer
+  mark filled : Answer
 
 unfoldable pub Of : Answer → Type 0
 Of number = ℕ
@@ -71,3 +74,5 @@ Of entered = Entered
 Of run = Run
 Of ran = Ran
 Of turn = Turn
+Of mark = Mark
+Of filled = Filled
