@@ -30,8 +30,6 @@ use Rattle.field_inside.specs.declared.opening.Entered.{Entered}
 use Rattle.field_runs.specs.declared.Run.{Run}
 use Rattle.outcome.specs.declared.Ran.{Ran}
 use Rattle.event_turns.specs.declared.Turn.{Turn}
-use Rattle.screen_list.specs.declared.Mark.{Mark}
-use Rattle.screen_list.specs.declared.Filled.{Filled}
 
 pub data Answer : Type 0 where
   number test list : Answer
@@ -39,7 +37,6 @@ pub data Answer : Type 0 where
   ticked length slot_number state advanced : Answer
   body walk says table_place : Answer
   frame found seen leaves choice inside opened entered run ran turn : Answer
-  mark filled : Answer
 
 unfoldable pub Of : Answer → Type 0
 Of number = ℕ
@@ -74,5 +71,3 @@ Of entered = Entered
 Of run = Run
 Of ran = Ran
 Of turn = Turn
-Of mark = Mark
-Of filled = Filled
