@@ -11,15 +11,15 @@ use Rattle.bundle_marks.proofs.mark.Reads as reads
 -- Places of the code, and the way back
 
 abbrev AtTurn : Type 0
-AtTurn = lts.In-loop tie.the-claims reads.Pre reads.Post tie.handed_clauses goal.the-invariant-loop-left goal.the-decreases-loop-left
+AtTurn = lts.In-loop tie.the-claims reads.Pre reads.Post goal.the-invariant-loop-left goal.the-decreases-loop-left tie.handed_clauses
 
 abbrev AtMarked : Type 0
-AtMarked = lts.After-mark_entry tie.the-claims reads.Pre reads.Post tie.handed_clauses goal.the-invariant-loop-left goal.the-decreases-loop-left
+AtMarked = lts.After-mark_entry tie.the-claims reads.Pre reads.Post goal.the-invariant-loop-left goal.the-decreases-loop-left tie.handed_clauses
 
 abbrev to-turn : AtMarked → AtTurn
 to-turn c = c.before.before.before.before
 
-abbrev start : lts.At-loop tie.the-claims reads.Pre reads.Post tie.handed_clauses goal.the-invariant-loop-left goal.the-decreases-loop-left → lts.Start tie.the-claims reads.Pre reads.Post tie.handed_clauses goal.the-invariant-loop-left goal.the-decreases-loop-left
+abbrev start : lts.At-loop tie.the-claims reads.Pre reads.Post goal.the-invariant-loop-left goal.the-decreases-loop-left tie.handed_clauses → lts.Start tie.the-claims reads.Pre reads.Post goal.the-invariant-loop-left goal.the-decreases-loop-left tie.handed_clauses
 start c = c.before.before.before.before.before.before.before
 
 -- five words of the list are there in each turn

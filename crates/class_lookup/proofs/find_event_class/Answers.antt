@@ -11,13 +11,13 @@ use Rattle.class_lookup.proofs.find_event_class.Reads as reads
 -- Places of the code, and the way back
 
 abbrev AtWord : Type 0
-AtWord = lts.In-loop tie.the-claims reads.Pre reads.Post tie.handed_clauses goal.the-invariant-loop-left goal.the-decreases-loop-left
+AtWord = lts.In-loop tie.the-claims reads.Pre reads.Post goal.the-invariant-loop-left goal.the-decreases-loop-left tie.handed_clauses
 
 -- a word that is not 0
 abbrev AtFilled : Type 0
-AtFilled = lts.Else1 tie.the-claims reads.Pre reads.Post tie.handed_clauses goal.the-invariant-loop-left goal.the-decreases-loop-left
+AtFilled = lts.Else1 tie.the-claims reads.Pre reads.Post goal.the-invariant-loop-left goal.the-decreases-loop-left tie.handed_clauses
 
-abbrev start : AtWord → lts.Start tie.the-claims reads.Pre reads.Post tie.handed_clauses goal.the-invariant-loop-left goal.the-decreases-loop-left
+abbrev start : AtWord → lts.Start tie.the-claims reads.Pre reads.Post goal.the-invariant-loop-left goal.the-decreases-loop-left tie.handed_clauses
 start c = c.before.before.before.before.before.before
 
 abbrev word : AtFilled → AtWord

@@ -12,19 +12,19 @@ use Rattle.class_notes.proofs.note_classes.Reads as reads
 -- Places of the code, in its order: all is given; a round begins; a byte is left; the class there is noted; the lists are back
 
 abbrev AtStart : Type 0
-AtStart = lts.Start tie.the-claims reads.Pre reads.Post tie.handed_clauses goal.the-invariant-loop-at goal.the-decreases-loop-at
+AtStart = lts.Start tie.the-claims reads.Pre reads.Post goal.the-invariant-loop-at goal.the-decreases-loop-at tie.handed_clauses
 
 abbrev AtLoop : Type 0
-AtLoop = lts.At-loop tie.the-claims reads.Pre reads.Post tie.handed_clauses goal.the-invariant-loop-at goal.the-decreases-loop-at
+AtLoop = lts.At-loop tie.the-claims reads.Pre reads.Post goal.the-invariant-loop-at goal.the-decreases-loop-at tie.handed_clauses
 
 abbrev AtByte : Type 0
-AtByte = lts.In-loop tie.the-claims reads.Pre reads.Post tie.handed_clauses goal.the-invariant-loop-at goal.the-decreases-loop-at
+AtByte = lts.In-loop tie.the-claims reads.Pre reads.Post goal.the-invariant-loop-at goal.the-decreases-loop-at tie.handed_clauses
 
 abbrev AtNoted : Type 0
-AtNoted = lts.After-note_class tie.the-claims reads.Pre reads.Post tie.handed_clauses goal.the-invariant-loop-at goal.the-decreases-loop-at
+AtNoted = lts.After-note_class tie.the-claims reads.Pre reads.Post goal.the-invariant-loop-at goal.the-decreases-loop-at tie.handed_clauses
 
 abbrev AtBack : Type 0
-AtBack = lts.After-slice_known4 tie.the-claims reads.Pre reads.Post tie.handed_clauses goal.the-invariant-loop-at goal.the-decreases-loop-at
+AtBack = lts.After-slice_known4 tie.the-claims reads.Pre reads.Post goal.the-invariant-loop-at goal.the-decreases-loop-at tie.handed_clauses
 
 -- The way back
 

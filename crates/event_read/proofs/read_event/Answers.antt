@@ -58,97 +58,97 @@ use Rattle.event_read.proofs.read_event.Reads as reads
 -- place taken, its members the run; opened and its place taken, it goes on, the rest of its run is told; or read by itself
 
 abbrev AtStart : Type 0
-AtStart = lts.Start tie.the-claims reads.Pre reads.Post tie.handed_clauses goal.the-invariant-loop-only goal.the-decreases-loop-only
+AtStart = lts.Start tie.the-claims reads.Pre reads.Post goal.the-invariant-loop-only goal.the-decreases-loop-only tie.handed_clauses
 
 abbrev AtStream : Type 0
-AtStream = lts.After-shared_slice_known6 tie.the-claims reads.Pre reads.Post tie.handed_clauses goal.the-invariant-loop-only goal.the-decreases-loop-only
+AtStream = lts.After-shared_slice_known6 tie.the-claims reads.Pre reads.Post goal.the-invariant-loop-only goal.the-decreases-loop-only tie.handed_clauses
 
 abbrev AtNoEntry : Type 0
-AtNoEntry = lts.Then1 tie.the-claims reads.Pre reads.Post tie.handed_clauses goal.the-invariant-loop-only goal.the-decreases-loop-only
+AtNoEntry = lts.Then1 tie.the-claims reads.Pre reads.Post goal.the-invariant-loop-only goal.the-decreases-loop-only tie.handed_clauses
 
 abbrev AtEntry : Type 0
-AtEntry = lts.Else1 tie.the-claims reads.Pre reads.Post tie.handed_clauses goal.the-invariant-loop-only goal.the-decreases-loop-only
+AtEntry = lts.Else1 tie.the-claims reads.Pre reads.Post goal.the-invariant-loop-only goal.the-decreases-loop-only tie.handed_clauses
 
 abbrev AtListed : Type 0
-AtListed = lts.After-begin tie.the-claims reads.Pre reads.Post tie.handed_clauses goal.the-invariant-loop-only goal.the-decreases-loop-only
+AtListed = lts.After-begin tie.the-claims reads.Pre reads.Post goal.the-invariant-loop-only goal.the-decreases-loop-only tie.handed_clauses
 
 abbrev AtFront : Type 0
-AtFront = lts.After-members tie.the-claims reads.Pre reads.Post tie.handed_clauses goal.the-invariant-loop-only goal.the-decreases-loop-only
+AtFront = lts.After-members tie.the-claims reads.Pre reads.Post goal.the-invariant-loop-only goal.the-decreases-loop-only tie.handed_clauses
 
 abbrev AtLoop : Type 0
-AtLoop = lts.At-loop tie.the-claims reads.Pre reads.Post tie.handed_clauses goal.the-invariant-loop-only goal.the-decreases-loop-only
+AtLoop = lts.At-loop tie.the-claims reads.Pre reads.Post goal.the-invariant-loop-only goal.the-decreases-loop-only tie.handed_clauses
 
 abbrev AtBorder : Type 0
-AtBorder = lts.Joined2 tie.the-claims reads.Pre reads.Post tie.handed_clauses goal.the-invariant-loop-only goal.the-decreases-loop-only
+AtBorder = lts.Joined2 tie.the-claims reads.Pre reads.Post goal.the-invariant-loop-only goal.the-decreases-loop-only tie.handed_clauses
 
 abbrev AtForward : Type 0
-AtForward = lts.After-forward tie.the-claims reads.Pre reads.Post tie.handed_clauses goal.the-invariant-loop-only goal.the-decreases-loop-only
+AtForward = lts.After-forward tie.the-claims reads.Pre reads.Post goal.the-invariant-loop-only goal.the-decreases-loop-only tie.handed_clauses
 
 abbrev AtOver : Type 0
-AtOver = lts.Then4 tie.the-claims reads.Pre reads.Post tie.handed_clauses goal.the-invariant-loop-only goal.the-decreases-loop-only
+AtOver = lts.Then4 tie.the-claims reads.Pre reads.Post goal.the-invariant-loop-only goal.the-decreases-loop-only tie.handed_clauses
 
 abbrev AtTurned : Type 0
-AtTurned = lts.After-open_turn tie.the-claims reads.Pre reads.Post tie.handed_clauses goal.the-invariant-loop-only goal.the-decreases-loop-only
+AtTurned = lts.After-open_turn tie.the-claims reads.Pre reads.Post goal.the-invariant-loop-only goal.the-decreases-loop-only tie.handed_clauses
 
 abbrev AtField : Type 0
-AtField = lts.Else4 tie.the-claims reads.Pre reads.Post tie.handed_clauses goal.the-invariant-loop-only goal.the-decreases-loop-only
+AtField = lts.Else4 tie.the-claims reads.Pre reads.Post goal.the-invariant-loop-only goal.the-decreases-loop-only tie.handed_clauses
 
 abbrev AtFull : Type 0
-AtFull = lts.Then7 tie.the-claims reads.Pre reads.Post tie.handed_clauses goal.the-invariant-loop-only goal.the-decreases-loop-only
+AtFull = lts.Then7 tie.the-claims reads.Pre reads.Post goal.the-invariant-loop-only goal.the-decreases-loop-only tie.handed_clauses
 
 abbrev AtRoom : Type 0
-AtRoom = lts.Else7 tie.the-claims reads.Pre reads.Post tie.handed_clauses goal.the-invariant-loop-only goal.the-decreases-loop-only
+AtRoom = lts.Else7 tie.the-claims reads.Pre reads.Post goal.the-invariant-loop-only goal.the-decreases-loop-only tie.handed_clauses
 
 abbrev AtClass : Type 0
-AtClass = lts.After-first tie.the-claims reads.Pre reads.Post tie.handed_clauses goal.the-invariant-loop-only goal.the-decreases-loop-only
+AtClass = lts.After-first tie.the-claims reads.Pre reads.Post goal.the-invariant-loop-only goal.the-decreases-loop-only tie.handed_clauses
 
 abbrev AtLeaf : Type 0
-AtLeaf = lts.Joined9 tie.the-claims reads.Pre reads.Post tie.handed_clauses goal.the-invariant-loop-only goal.the-decreases-loop-only
+AtLeaf = lts.Joined9 tie.the-claims reads.Pre reads.Post goal.the-invariant-loop-only goal.the-decreases-loop-only tie.handed_clauses
 
 abbrev AtLeaves : Type 0
-AtLeaves = lts.After-read_leaves tie.the-claims reads.Pre reads.Post tie.handed_clauses goal.the-invariant-loop-only goal.the-decreases-loop-only
+AtLeaves = lts.After-read_leaves tie.the-claims reads.Pre reads.Post goal.the-invariant-loop-only goal.the-decreases-loop-only tie.handed_clauses
 
 abbrev AtBehind : Type 0
-AtBehind = lts.After-behind tie.the-claims reads.Pre reads.Post tie.handed_clauses goal.the-invariant-loop-only goal.the-decreases-loop-only
+AtBehind = lts.After-behind tie.the-claims reads.Pre reads.Post goal.the-invariant-loop-only goal.the-decreases-loop-only tie.handed_clauses
 
 abbrev AtDue : Type 0
-AtDue = lts.Joined11 tie.the-claims reads.Pre reads.Post tie.handed_clauses goal.the-invariant-loop-only goal.the-decreases-loop-only
+AtDue = lts.Joined11 tie.the-claims reads.Pre reads.Post goal.the-invariant-loop-only goal.the-decreases-loop-only tie.handed_clauses
 
 abbrev AtAdvanced : Type 0
-AtAdvanced = lts.After-advance tie.the-claims reads.Pre reads.Post tie.handed_clauses goal.the-invariant-loop-only goal.the-decreases-loop-only
+AtAdvanced = lts.After-advance tie.the-claims reads.Pre reads.Post goal.the-invariant-loop-only goal.the-decreases-loop-only tie.handed_clauses
 
 abbrev AtApplied : Type 0
-AtApplied = lts.After-apply tie.the-claims reads.Pre reads.Post tie.handed_clauses goal.the-invariant-loop-only goal.the-decreases-loop-only
+AtApplied = lts.After-apply tie.the-claims reads.Pre reads.Post goal.the-invariant-loop-only goal.the-decreases-loop-only tie.handed_clauses
 
 abbrev AtHolder : Type 0
-AtHolder = lts.After-taken tie.the-claims reads.Pre reads.Post tie.handed_clauses goal.the-invariant-loop-only goal.the-decreases-loop-only
+AtHolder = lts.After-taken tie.the-claims reads.Pre reads.Post goal.the-invariant-loop-only goal.the-decreases-loop-only tie.handed_clauses
 
 abbrev AtEntered : Type 0
-AtEntered = lts.After-enter_structure tie.the-claims reads.Pre reads.Post tie.handed_clauses goal.the-invariant-loop-only goal.the-decreases-loop-only
+AtEntered = lts.After-enter_structure tie.the-claims reads.Pre reads.Post goal.the-invariant-loop-only goal.the-decreases-loop-only tie.handed_clauses
 
 abbrev AtStood : Type 0
-AtStood = lts.After-struct_known9 tie.the-claims reads.Pre reads.Post tie.handed_clauses goal.the-invariant-loop-only goal.the-decreases-loop-only
+AtStood = lts.After-struct_known9 tie.the-claims reads.Pre reads.Post goal.the-invariant-loop-only goal.the-decreases-loop-only tie.handed_clauses
 
 abbrev AtMembers : Type 0
-AtMembers = lts.After-opened tie.the-claims reads.Pre reads.Post tie.handed_clauses goal.the-invariant-loop-only goal.the-decreases-loop-only
+AtMembers = lts.After-opened tie.the-claims reads.Pre reads.Post goal.the-invariant-loop-only goal.the-decreases-loop-only tie.handed_clauses
 
 abbrev AtTold : Type 0
-AtTold = lts.Joined18 tie.the-claims reads.Pre reads.Post tie.handed_clauses goal.the-invariant-loop-only goal.the-decreases-loop-only
+AtTold = lts.Joined18 tie.the-claims reads.Pre reads.Post goal.the-invariant-loop-only goal.the-decreases-loop-only tie.handed_clauses
 
 abbrev AtOpened : Type 0
-AtOpened = lts.After-open_field tie.the-claims reads.Pre reads.Post tie.handed_clauses goal.the-invariant-loop-only goal.the-decreases-loop-only
+AtOpened = lts.After-open_field tie.the-claims reads.Pre reads.Post goal.the-invariant-loop-only goal.the-decreases-loop-only tie.handed_clauses
 
 abbrev AtPlaced : Type 0
-AtPlaced = lts.After-struct_known10 tie.the-claims reads.Pre reads.Post tie.handed_clauses goal.the-invariant-loop-only goal.the-decreases-loop-only
+AtPlaced = lts.After-struct_known10 tie.the-claims reads.Pre reads.Post goal.the-invariant-loop-only goal.the-decreases-loop-only tie.handed_clauses
 
 abbrev AtInside : Type 0
-AtInside = lts.Else20 tie.the-claims reads.Pre reads.Post tie.handed_clauses goal.the-invariant-loop-only goal.the-decreases-loop-only
+AtInside = lts.Else20 tie.the-claims reads.Pre reads.Post goal.the-invariant-loop-only goal.the-decreases-loop-only tie.handed_clauses
 
 abbrev AtRest : Type 0
-AtRest = lts.After-behind2 tie.the-claims reads.Pre reads.Post tie.handed_clauses goal.the-invariant-loop-only goal.the-decreases-loop-only
+AtRest = lts.After-behind2 tie.the-claims reads.Pre reads.Post goal.the-invariant-loop-only goal.the-decreases-loop-only tie.handed_clauses
 
 abbrev AtRead : Type 0
-AtRead = lts.After-read_field tie.the-claims reads.Pre reads.Post tie.handed_clauses goal.the-invariant-loop-only goal.the-decreases-loop-only
+AtRead = lts.After-read_field tie.the-claims reads.Pre reads.Post goal.the-invariant-loop-only goal.the-decreases-loop-only tie.handed_clauses
 
 -- and the ways back
 

@@ -17,31 +17,31 @@ use Rattle.field_choice.proofs.first_option.Reads as reads
 -- left; there is one, and it was tried; it holds the number; none of them does, and the class was passed
 
 abbrev AtStart : Type 0
-AtStart = lts.Start tie.the-claims reads.Pre reads.Post tie.handed_clauses goal.the-invariant-loop-more goal.the-decreases-loop-more goal.the-invariant-search goal.the-decreases-search
+AtStart = lts.Start tie.the-claims reads.Pre reads.Post goal.the-invariant-loop-more goal.the-decreases-loop-more goal.the-invariant-search goal.the-decreases-search tie.handed_clauses
 
 abbrev AtOptions : Type 0
-AtOptions = lts.At-search tie.the-claims reads.Pre reads.Post tie.handed_clauses goal.the-invariant-loop-more goal.the-decreases-loop-more goal.the-invariant-search goal.the-decreases-search
+AtOptions = lts.At-search tie.the-claims reads.Pre reads.Post goal.the-invariant-loop-more goal.the-decreases-loop-more goal.the-invariant-search goal.the-decreases-search tie.handed_clauses
 
 abbrev AtOption : Type 0
-AtOption = lts.In-search tie.the-claims reads.Pre reads.Post tie.handed_clauses goal.the-invariant-loop-more goal.the-decreases-loop-more goal.the-invariant-search goal.the-decreases-search
+AtOption = lts.In-search tie.the-claims reads.Pre reads.Post goal.the-invariant-loop-more goal.the-decreases-loop-more goal.the-invariant-search goal.the-decreases-search tie.handed_clauses
 
 abbrev AtCount : Type 0
-AtCount = lts.After-count_at tie.the-claims reads.Pre reads.Post tie.handed_clauses goal.the-invariant-loop-more goal.the-decreases-loop-more goal.the-invariant-search goal.the-decreases-search
+AtCount = lts.After-count_at tie.the-claims reads.Pre reads.Post goal.the-invariant-loop-more goal.the-decreases-loop-more goal.the-invariant-search goal.the-decreases-search tie.handed_clauses
 
 abbrev AtRanges : Type 0
-AtRanges = lts.At-loop tie.the-claims reads.Pre reads.Post tie.handed_clauses goal.the-invariant-loop-more goal.the-decreases-loop-more goal.the-invariant-search goal.the-decreases-search
+AtRanges = lts.At-loop tie.the-claims reads.Pre reads.Post goal.the-invariant-loop-more goal.the-decreases-loop-more goal.the-invariant-search goal.the-decreases-search tie.handed_clauses
 
 abbrev AtRange : Type 0
-AtRange = lts.In-loop tie.the-claims reads.Pre reads.Post tie.handed_clauses goal.the-invariant-loop-more goal.the-decreases-loop-more goal.the-invariant-search goal.the-decreases-search
+AtRange = lts.In-loop tie.the-claims reads.Pre reads.Post goal.the-invariant-loop-more goal.the-decreases-loop-more goal.the-invariant-search goal.the-decreases-search tie.handed_clauses
 
 abbrev AtTried : Type 0
-AtTried = lts.After-holds tie.the-claims reads.Pre reads.Post tie.handed_clauses goal.the-invariant-loop-more goal.the-decreases-loop-more goal.the-invariant-search goal.the-decreases-search
+AtTried = lts.After-holds tie.the-claims reads.Pre reads.Post goal.the-invariant-loop-more goal.the-decreases-loop-more goal.the-invariant-search goal.the-decreases-search tie.handed_clauses
 
 abbrev AtHeld : Type 0
-AtHeld = lts.Then1 tie.the-claims reads.Pre reads.Post tie.handed_clauses goal.the-invariant-loop-more goal.the-decreases-loop-more goal.the-invariant-search goal.the-decreases-search
+AtHeld = lts.Then1 tie.the-claims reads.Pre reads.Post goal.the-invariant-loop-more goal.the-decreases-loop-more goal.the-invariant-search goal.the-decreases-search tie.handed_clauses
 
 abbrev AtNone : Type 0
-AtNone = lts.After-loop tie.the-claims reads.Pre reads.Post tie.handed_clauses goal.the-invariant-loop-more goal.the-decreases-loop-more goal.the-invariant-search goal.the-decreases-search
+AtNone = lts.After-loop tie.the-claims reads.Pre reads.Post goal.the-invariant-loop-more goal.the-decreases-loop-more goal.the-invariant-search goal.the-decreases-search tie.handed_clauses
 
 -- The way back from each to the one before
 

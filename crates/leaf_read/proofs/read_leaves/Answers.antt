@@ -26,37 +26,37 @@ use Rattle.leaf_read.proofs.read_leaves.Reads as reads
 -- it; its entry stands in the list; the next one's byte is known
 
 abbrev AtStart : Type 0
-AtStart = lts.Start tie.the-claims reads.Pre reads.Post tie.handed_clauses goal.the-invariant-loop-stop goal.the-decreases-loop-stop
+AtStart = lts.Start tie.the-claims reads.Pre reads.Post goal.the-invariant-loop-stop goal.the-decreases-loop-stop tie.handed_clauses
 
 abbrev AtBegun : Type 0
-AtBegun = lts.After-slice_known tie.the-claims reads.Pre reads.Post tie.handed_clauses goal.the-invariant-loop-stop goal.the-decreases-loop-stop
+AtBegun = lts.After-slice_known tie.the-claims reads.Pre reads.Post goal.the-invariant-loop-stop goal.the-decreases-loop-stop tie.handed_clauses
 
 abbrev AtLeaf : Type 0
-AtLeaf = lts.At-loop tie.the-claims reads.Pre reads.Post tie.handed_clauses goal.the-invariant-loop-stop goal.the-decreases-loop-stop
+AtLeaf = lts.At-loop tie.the-claims reads.Pre reads.Post goal.the-invariant-loop-stop goal.the-decreases-loop-stop tie.handed_clauses
 
 abbrev AtNumber : Type 0
-AtNumber = lts.After-number_of tie.the-claims reads.Pre reads.Post tie.handed_clauses goal.the-invariant-loop-stop goal.the-decreases-loop-stop
+AtNumber = lts.After-number_of tie.the-claims reads.Pre reads.Post goal.the-invariant-loop-stop goal.the-decreases-loop-stop tie.handed_clauses
 
 abbrev AtSeen : Type 0
-AtSeen = lts.After-see_leaf tie.the-claims reads.Pre reads.Post tie.handed_clauses goal.the-invariant-loop-stop goal.the-decreases-loop-stop
+AtSeen = lts.After-see_leaf tie.the-claims reads.Pre reads.Post goal.the-invariant-loop-stop goal.the-decreases-loop-stop tie.handed_clauses
 
 abbrev AtStops : Type 0
-AtStops = lts.Past-After-known_told tie.the-claims reads.Pre reads.Post tie.handed_clauses goal.the-invariant-loop-stop goal.the-decreases-loop-stop
+AtStops = lts.Past-After-known_told tie.the-claims reads.Pre reads.Post goal.the-invariant-loop-stop goal.the-decreases-loop-stop tie.handed_clauses
 
 abbrev AtOther : Type 0
-AtOther = lts.Past-After-known_told2 tie.the-claims reads.Pre reads.Post tie.handed_clauses goal.the-invariant-loop-stop goal.the-decreases-loop-stop
+AtOther = lts.Past-After-known_told2 tie.the-claims reads.Pre reads.Post goal.the-invariant-loop-stop goal.the-decreases-loop-stop tie.handed_clauses
 
 abbrev AtOtherListed : Type 0
-AtOtherListed = lts.After-list tie.the-claims reads.Pre reads.Post tie.handed_clauses goal.the-invariant-loop-stop goal.the-decreases-loop-stop
+AtOtherListed = lts.After-list tie.the-claims reads.Pre reads.Post goal.the-invariant-loop-stop goal.the-decreases-loop-stop tie.handed_clauses
 
 abbrev AtDue : Type 0
-AtDue = lts.Past-After-known_told3 tie.the-claims reads.Pre reads.Post tie.handed_clauses goal.the-invariant-loop-stop goal.the-decreases-loop-stop
+AtDue = lts.Past-After-known_told3 tie.the-claims reads.Pre reads.Post goal.the-invariant-loop-stop goal.the-decreases-loop-stop tie.handed_clauses
 
 abbrev AtListed : Type 0
-AtListed = lts.After-list2 tie.the-claims reads.Pre reads.Post tie.handed_clauses goal.the-invariant-loop-stop goal.the-decreases-loop-stop
+AtListed = lts.After-list2 tie.the-claims reads.Pre reads.Post goal.the-invariant-loop-stop goal.the-decreases-loop-stop tie.handed_clauses
 
 abbrev AtNext : Type 0
-AtNext = lts.After-onward tie.the-claims reads.Pre reads.Post tie.handed_clauses goal.the-invariant-loop-stop goal.the-decreases-loop-stop
+AtNext = lts.After-onward tie.the-claims reads.Pre reads.Post goal.the-invariant-loop-stop goal.the-decreases-loop-stop tie.handed_clauses
 
 -- The way back
 

@@ -21,28 +21,28 @@ use Rattle.packet_events.proofs.read_events.Reads as reads
 -- Places of the code, in its order, and the way back from each to the one before
 
 abbrev AtStart : Type 0
-AtStart = lts.Start tie.the-claims reads.Pre reads.Post tie.handed_clauses goal.the-invariant-loop-state goal.the-decreases-loop-state
+AtStart = lts.Start tie.the-claims reads.Pre reads.Post goal.the-invariant-loop-state goal.the-decreases-loop-state tie.handed_clauses
 
 abbrev AtLoop : Type 0
-AtLoop = lts.At-loop tie.the-claims reads.Pre reads.Post tie.handed_clauses goal.the-invariant-loop-state goal.the-decreases-loop-state
+AtLoop = lts.At-loop tie.the-claims reads.Pre reads.Post goal.the-invariant-loop-state goal.the-decreases-loop-state tie.handed_clauses
 
 abbrev AtEvent : Type 0
-AtEvent = lts.Then1 tie.the-claims reads.Pre reads.Post tie.handed_clauses goal.the-invariant-loop-state goal.the-decreases-loop-state
+AtEvent = lts.Then1 tie.the-claims reads.Pre reads.Post goal.the-invariant-loop-state goal.the-decreases-loop-state tie.handed_clauses
 
 abbrev AtEnd : Type 0
-AtEnd = lts.Else1 tie.the-claims reads.Pre reads.Post tie.handed_clauses goal.the-invariant-loop-state goal.the-decreases-loop-state
+AtEnd = lts.Else1 tie.the-claims reads.Pre reads.Post goal.the-invariant-loop-state goal.the-decreases-loop-state tie.handed_clauses
 
 abbrev AtRead : Type 0
-AtRead = lts.After-read_event tie.the-claims reads.Pre reads.Post tie.handed_clauses goal.the-invariant-loop-state goal.the-decreases-loop-state
+AtRead = lts.After-read_event tie.the-claims reads.Pre reads.Post goal.the-invariant-loop-state goal.the-decreases-loop-state tie.handed_clauses
 
 abbrev AtFull : Type 0
-AtFull = lts.Then2 tie.the-claims reads.Pre reads.Post tie.handed_clauses goal.the-invariant-loop-state goal.the-decreases-loop-state
+AtFull = lts.Then2 tie.the-claims reads.Pre reads.Post goal.the-invariant-loop-state goal.the-decreases-loop-state tie.handed_clauses
 
 abbrev AtRoom : Type 0
-AtRoom = lts.Else2 tie.the-claims reads.Pre reads.Post tie.handed_clauses goal.the-invariant-loop-state goal.the-decreases-loop-state
+AtRoom = lts.Else2 tie.the-claims reads.Pre reads.Post goal.the-invariant-loop-state goal.the-decreases-loop-state tie.handed_clauses
 
 abbrev AtListed : Type 0
-AtListed = lts.After-write tie.the-claims reads.Pre reads.Post tie.handed_clauses goal.the-invariant-loop-state goal.the-decreases-loop-state
+AtListed = lts.After-write tie.the-claims reads.Pre reads.Post goal.the-invariant-loop-state goal.the-decreases-loop-state tie.handed_clauses
 
 abbrev to_start : AtLoop → AtStart
 to_start c = c.before.before.before.before.before.before.before.before

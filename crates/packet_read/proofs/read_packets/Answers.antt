@@ -18,22 +18,22 @@ use Rattle.packet_read.proofs.read_packets.Reads as reads
 -- Places of the code, in its order: all is given; the state in which a reading begins; a round's start; a packet is left; none is; it was read
 
 abbrev AtStart : Type 0
-AtStart = lts.Start tie.the-claims reads.Pre reads.Post tie.handed_clauses goal.the-invariant-loop-state goal.the-decreases-loop-state
+AtStart = lts.Start tie.the-claims reads.Pre reads.Post goal.the-invariant-loop-state goal.the-decreases-loop-state tie.handed_clauses
 
 abbrev AtBegun : Type 0
-AtBegun = lts.After-first_state tie.the-claims reads.Pre reads.Post tie.handed_clauses goal.the-invariant-loop-state goal.the-decreases-loop-state
+AtBegun = lts.After-first_state tie.the-claims reads.Pre reads.Post goal.the-invariant-loop-state goal.the-decreases-loop-state tie.handed_clauses
 
 abbrev AtLoop : Type 0
-AtLoop = lts.At-loop tie.the-claims reads.Pre reads.Post tie.handed_clauses goal.the-invariant-loop-state goal.the-decreases-loop-state
+AtLoop = lts.At-loop tie.the-claims reads.Pre reads.Post goal.the-invariant-loop-state goal.the-decreases-loop-state tie.handed_clauses
 
 abbrev AtPacket : Type 0
-AtPacket = lts.Then1 tie.the-claims reads.Pre reads.Post tie.handed_clauses goal.the-invariant-loop-state goal.the-decreases-loop-state
+AtPacket = lts.Then1 tie.the-claims reads.Pre reads.Post goal.the-invariant-loop-state goal.the-decreases-loop-state tie.handed_clauses
 
 abbrev AtEnd : Type 0
-AtEnd = lts.Else1 tie.the-claims reads.Pre reads.Post tie.handed_clauses goal.the-invariant-loop-state goal.the-decreases-loop-state
+AtEnd = lts.Else1 tie.the-claims reads.Pre reads.Post goal.the-invariant-loop-state goal.the-decreases-loop-state tie.handed_clauses
 
 abbrev AtRead : Type 0
-AtRead = lts.After-read_packet tie.the-claims reads.Pre reads.Post tie.handed_clauses goal.the-invariant-loop-state goal.the-decreases-loop-state
+AtRead = lts.After-read_packet tie.the-claims reads.Pre reads.Post goal.the-invariant-loop-state goal.the-decreases-loop-state tie.handed_clauses
 
 -- The way back from each to the one before
 

@@ -11,7 +11,7 @@ use Rattle.screen_list.proofs.fill.Tie as tie
 use Rattle.screen_list.proofs.fill.Reads as reads
 
 -- The way back from where the entries are counted
-abbrev start : lts.After-entries_in tie.the-claims reads.Pre reads.Post tie.handed_clauses goal.the-invariant-loop-at goal.the-decreases-loop-at → lts.Start tie.the-claims reads.Pre reads.Post tie.handed_clauses goal.the-invariant-loop-at goal.the-decreases-loop-at
+abbrev start : lts.After-entries_in tie.the-claims reads.Pre reads.Post goal.the-invariant-loop-at goal.the-decreases-loop-at tie.handed_clauses → lts.Start tie.the-claims reads.Pre reads.Post goal.the-invariant-loop-at goal.the-decreases-loop-at tie.handed_clauses
 start c = c.before.before.before.before.before
 
 pub loop-at-init : goal.loop-at-init
