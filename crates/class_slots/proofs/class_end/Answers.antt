@@ -17,7 +17,7 @@ pub overflow_add-result : goal.overflow_add-result
 overflow_add-result c =
     let s = start c.before in
     let e = c.noted_size.ensures in
-    record { fits = end_fits s.args.sizes.now s.args.at (omega (arith, s.well_formed.0)) e.0 e.1 s.fits.at.fits }
+    record { fits = end_fits s.args.sizes.now s.args.at (omega (arith, s.well_formed.0)) e.0 e.1 s.ranges.at.fits }
 
 pub returns : goal.returns
 returns c =

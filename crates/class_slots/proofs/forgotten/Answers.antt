@@ -4,6 +4,7 @@ use Prim.Native.Nat.{◌-◌, ◌<◌, ◌^◌}
 use native.Mathlib.Omega.{arith}
 use Rattle.class_slots.proofs.Rounds.{forgot-start, forgot-found, forgot-passed, forgot-end}
 use Rattle.class_slots.proofs.forgotten.Goals as goal
+use Rattle.class_slots.proofs.forgotten.Goals.{then-i-le-LAST_SLOT, else-i-le-LAST_SLOT}
 use Rattle.class_slots.proofs.forgotten.Lts as lts
 use Rattle.class_slots.proofs.forgotten.Tie as tie
 use Rattle.class_slots.proofs.forgotten.Reads as reads
@@ -65,10 +66,10 @@ loop-next-preserved c =
     let i = n.slot_named-i.ensures in
     let next = c.behind_record-next.ensures in (
       λ _. low (turn n),
-      ⊎_elim
-          (λ y. forgot-found _ _ _ _ _ _ _ on so_far next i y.0.taken y.1)
-          (λ y. forgot-passed _ _ _ _ _ _ _ on so_far next i y.0.left y.1)
-          c.if-i-le-LAST_SLOT.branch,
+      elim c.if-i-le-LAST_SLOT.branch [
+        | then-i-le-LAST_SLOT y ↦ forgot-found _ _ _ _ _ _ _ on so_far next i y.if-i-le-LAST_SLOT.true y.slots-is
+        | else-i-le-LAST_SLOT y ↦ forgot-passed _ _ _ _ _ _ _ on so_far next i y.if-i-le-LAST_SLOT.false y.slots-is
+      ],
     )
 
 pub returns : goal.returns
