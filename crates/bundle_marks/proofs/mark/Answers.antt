@@ -25,7 +25,7 @@ start c = c.before.before.before.before.before.before.before
 -- five words of the list are there in each turn
 
 there : (c : AtTurn) → c.loop-left.at + 5 ≤ length c.args.list.now
-there c = omega (arith, c.loop-left-test.true, c.loop-left.invariant.words, c.requires.entries_in_bounds)
+there c = omega (arith, c.loop-left-test.true, c.loop-left.invariant.words, c.requires.entries_in_bounds.0)
 
 -- The needs
 

@@ -71,7 +71,7 @@ mark_place-requires-then-kind-eq-EVENT_CLASS_FOUND-2 c =
     let e = to-event c.before.before in
     let s = from-other (to-other e) in
     let same = c.mark_place-then-kind-eq-EVENT_CLASS_FOUND.auto.marks in
-    stream-below s.requires.sized.0 _ (omega (arith, same, s.requires.place_value.1)) s.args.front.id s.requires.place_value
+    stream-below s.requires.sized.0 _ (omega (arith, same, s.requires.place_value.1)) s.args.front.id s.requires.place_value.0
 
 pub returns-then-kind-eq-EVENT_CLASS_FOUND : goal.returns-then-kind-eq-EVENT_CLASS_FOUND
 returns-then-kind-eq-EVENT_CLASS_FOUND c =
@@ -80,11 +80,11 @@ returns-then-kind-eq-EVENT_CLASS_FOUND c =
     let o = to-other e in
     let s = from-other o in
     let a = s.args in
-    event-named a.table.now a.marks.now a.kind a.value o.if-kind-eq-STREAM_CLASS_FOUND.false s.requires.place_value e.if-kind-eq-EVENT_CLASS_FOUND.true
+    event-named a.table.now a.marks.now a.kind a.value o.if-kind-eq-STREAM_CLASS_FOUND.false s.requires.place_value.0 e.if-kind-eq-EVENT_CLASS_FOUND.true
     e.find_event_class.ensures m.mark_place-then-kind-eq-EVENT_CLASS_FOUND.ensures c.mark_place-then-kind-eq-EVENT_CLASS_FOUND-2.ensures
 
 pub returns : goal.returns
 returns c =
     let s = from-other c.before.before in
     let a = s.args in
-    none_named a.table.now a.marks.now a.kind a.value c.if-kind-eq-STREAM_CLASS_FOUND.false s.requires.place_value c.if-kind-eq-EVENT_CLASS_FOUND.false
+    none_named a.table.now a.marks.now a.kind a.value c.if-kind-eq-STREAM_CLASS_FOUND.false s.requires.place_value.0 c.if-kind-eq-EVENT_CLASS_FOUND.false

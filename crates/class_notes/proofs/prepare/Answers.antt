@@ -81,7 +81,7 @@ came c = notes c.args.sizes.now c.args.aligns.now
 pub note_classes-requires : goal.note_classes-requires
 note_classes-requires c =
     let s = start (table c.before) in
-    (s.requires.table_in_bounds, s.requires.table_in_bounds.1, (accepts s).limit, omega (arith, (accepts s).first))
+    (s.requires.table_in_bounds.0, s.requires.table_in_bounds.1, (accepts s).limit, omega (arith, (accepts s).first))
 
 -- The fragments
 
@@ -89,7 +89,7 @@ pub note_fragments-requires : goal.note_fragments-requires
 note_fragments-requires c =
     let k = classes c.before in
     let s = given k in
-    let n = first-pass s.args.table.now (came s) (bytes (table (lent k))) s.requires.table_in_bounds s.requires.table_in_bounds.1 k.note_classes.ensures in
+    let n = first-pass s.args.table.now (came s) (bytes (table (lent k))) s.requires.table_in_bounds.0 s.requires.table_in_bounds.1 k.note_classes.ensures in
     ((accepts s).fragments, n.0, (accepts s).limit, n.1)
 
 -- The numbers
@@ -98,7 +98,7 @@ pub note_numbers-requires : goal.note_numbers-requires
 note_numbers-requires c =
     let k = noted c.before in
     let s = given k in
-    let n = first-pass s.args.table.now (came s) (bytes (table (lent k))) s.requires.table_in_bounds s.requires.table_in_bounds.1 k.note_classes.ensures in
+    let n = first-pass s.args.table.now (came s) (bytes (table (lent k))) s.requires.table_in_bounds.0 s.requires.table_in_bounds.1 k.note_classes.ensures in
     (n.2, (accepts s).limit)
 
 pub returns : goal.returns
@@ -107,5 +107,5 @@ returns c =
     let l = lent-words n in
     let k = noted l in
     let s = given k in
-    all-passes s.args.table.now (came s) (bytes (table (lent k))) s.requires.table_in_bounds s.requires.table_in_bounds.1 k.note_classes.ensures (accepts s)
+    all-passes s.args.table.now (came s) (bytes (table (lent k))) s.requires.table_in_bounds.0 s.requires.table_in_bounds.1 k.note_classes.ensures (accepts s)
     l.note_fragments.ensures n.note_numbers.ensures

@@ -90,7 +90,7 @@ here c = options-here _ _ _ _ c.search.invariant.0 c.search-test.true
 class-there : (c : AtCount) →
     let t = c.args.table.now in
     (c.search.next + 2 + 18 * c.count_at-ranges.result < length t) × (length t ≤ 65536)
-class-there c = (omega (arith, (here (to-option c)).there, c.count_at-ranges.ensures.0), c.requires.table_len_bound)
+class-there c = (omega (arith, (here (to-option c)).there, c.count_at-ranges.ensures.0), c.requires.table_len_bound.0)
 
 -- a range that is left ends in front of the class
 range-there : (c : AtRange) →
@@ -125,10 +125,10 @@ pub search-init : goal.search-init
 search-init c = (options-start _ _ _ _ c.requires.whole_options, refl)
 
 pub overflow_add-next : goal.overflow_add-next
-overflow_add-next c = omega (arith, c.requires.table_len_bound, (here c.before).there)
+overflow_add-next c = omega (arith, c.requires.table_len_bound.0, (here c.before).there)
 
 pub count_at-ranges-requires : goal.count_at-ranges-requires
-count_at-ranges-requires c = omega (arith, c.requires.table_len_bound, (here c.before).there)
+count_at-ranges-requires c = omega (arith, c.requires.table_len_bound.0, (here c.before).there)
 
 pub overflow_add-class : goal.overflow_add-class
 overflow_add-class c = omega (arith, class-there c.before)

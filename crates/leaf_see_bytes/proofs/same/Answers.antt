@@ -60,7 +60,7 @@ pub loop-passed-init : goal.loop-passed-init
 loop-passed-init c = (omega arith, λ k h. absurd (omega arith))
 
 pub overflow_add-at : goal.overflow_add-at
-overflow_add-at c = omega (arith, inside c, c.well_formed)
+overflow_add-at c = omega (arith, inside c.before, c.well_formed)
 
 pub bounds-stream-at : goal.bounds-stream-at
 bounds-stream-at c = omega (arith, inside c.before.before, c.well_formed)
@@ -91,7 +91,7 @@ loop-passed-preserved c =
 
 pub returns : goal.returns
 returns c =
-    let lengths = to-lengths c.before in
+    let lengths = to-lengths c.before.before in
     let start = to_start lengths in
     let a = start.args in
     let l = c.loop-passed in

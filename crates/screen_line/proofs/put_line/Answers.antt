@@ -73,5 +73,5 @@ returns c =
     ∙ ap (λ x. head (five s.args.kind s.args.place s.args.bits s.args.value s.args.number) ++ (x ++ bytes "\n"))
     (same-meaning s.args.sort s.args.stream.now s.args.frequency s.args.kind s.args.place s.args.bits
     s.args.value s.args.number ∙ meant-by s.args.stream.now s.args.frequency
-    (five s.args.kind s.args.place s.args.bits s.args.value s.args.number) s.args.sort s.requires.sort_value
+    (five s.args.kind s.args.place s.args.bits s.args.value s.args.number) s.args.sort s.requires.sort_value.0
     s.requires.sort_value.1))) in record { value = both.0; out_after = both.1 }

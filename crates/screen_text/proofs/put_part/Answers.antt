@@ -38,7 +38,7 @@ put_byte-end-requires c =
         part_length
             (take a.bytes (drop a.from a.stream.now)) a.done at-loop.loop-shown.shown,
       );
-      bytes_in_bounds = (s.requires.bytes_in_bounds, omega (arith, s.requires.bytes_in_bounds, c.loop-shown-test.true));
+      bytes_in_bounds = (s.requires.bytes_in_bounds.0, omega (arith, s.requires.bytes_in_bounds, c.loop-shown-test.true));
     }
 
 pub overflow_add-shown : goal.overflow_add-shown

@@ -50,7 +50,7 @@ pub shape_of-res-else-i-res : goal.shape_of-res-else-i-res
 shape_of-res-else-i-res c = c.loop-i.invariant.3
 
 pub returns-else-i-res : goal.returns-else-i-res
-returns-else-i-res c = c.loop-i.invariant.0 ∙ front-room _ _ _ c.loop-i.invariant.1 c.loop-i.invariant.2 (full c)
+returns-else-i-res c = c.loop-i.invariant.0 ∙ front-room _ _ _ c.loop-i.invariant.1 c.loop-i.invariant.2 (full c.before)
 
 pub shape_of-res-after-loop-i : goal.shape_of-res-after-loop-i
 shape_of-res-after-loop-i c = c.loop-i.invariant.3

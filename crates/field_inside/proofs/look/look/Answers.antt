@@ -105,7 +105,7 @@ align-in c = omega (arith, (stands c).aligns, record-there (stands c))
 alignable : (c : AtKind) →
     let a = c.args in
     (align_noted a.aligns.now a.at ≤ 6) × (a.frame.start.0 ≤ a.place.0) × (a.place.0 + 64 ≤ 2 ^ 64)
-alignable c = ((stands c).align, c.requires.start_le_place, c.requires.start_le_place.1)
+alignable c = ((stands c).align, c.requires.start_le_place.0, c.requires.start_le_place.1)
 
 -- no other kind is left
 variant-told : (c : AtVariant) →

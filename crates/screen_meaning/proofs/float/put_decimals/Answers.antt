@@ -25,7 +25,7 @@ pub put_fraction-requires : goal.put_fraction-requires
 put_fraction-requires c =
     let at-if1 = c.before in
     let s = at-if1.before.before in
-    record { at_in_bounds = s.requires.at_in_bounds; m_bound = (s.requires.m_bound, omega (arith, at-if1.if-down-eq0.false)) }
+    record { at_in_bounds = s.requires.at_in_bounds; m_bound = (s.requires.m_bound.0, omega (arith, at-if1.if-down-eq0.false)) }
 
 pub returns : goal.returns
 returns c =

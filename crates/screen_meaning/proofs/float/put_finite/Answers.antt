@@ -13,7 +13,7 @@ use Rattle.screen_meaning.proofs.float.put_finite.Goals as goal
 pub put_exact-b-requires : goal.put_exact-b-requires
 put_exact-b-requires c =
     let at-put-sign = c.before.before.before in
-    let s = at-put-sign.before.before.before in record { at_in_bounds = omega (arith, s.requires, at-put-sign.put_sign-a.ensures.value, at-put-sign.put_sign-a.auto.out, sign-length s.args.negative); digits_bound = (s.requires.digits_bound, omega (arith, s.requires.digits_bound.1)) }
+    let s = at-put-sign.before.before.before in record { at_in_bounds = omega (arith, s.requires, at-put-sign.put_sign-a.ensures.value, at-put-sign.put_sign-a.auto.out, sign-length s.args.negative); digits_bound = (s.requires.digits_bound.0, omega (arith, s.requires.digits_bound.1)) }
 
 pub significand-m-requires : goal.significand-m-requires
 significand-m-requires c =

@@ -10,12 +10,12 @@ use Rattle.screen_meaning.proofs.float.put_fraction.Goals as goal
 pub below_down-requires : goal.below_down-requires
 below_down-requires c =
     let s = c.before.before in
-    s.requires.m_bound
+    s.requires.m_bound.0
 
 pub is_exact-exactly-requires : goal.is_exact-exactly-requires
 is_exact-exactly-requires c =
     let s = c.before.before.before.before in
-    s.requires.m_bound
+    s.requires.m_bound.0
 
 pub millionths-requires : goal.millionths-requires
 millionths-requires c =

@@ -9,12 +9,12 @@ loop-digits-init c = (cut-none c.args.frequency c.args.part c.requires, omega ar
 
 pub tenfold-next-requires : goal.tenfold-next-requires
 tenfold-next-requires c =
-    let at-loop = c.before in
+    let at-loop = c.before.before in
     at-loop.loop-digits.invariant.0.less
 
 pub overflow_mul-found : goal.overflow_mul-found
 overflow_mul-found c =
-    let at-loop-test = c.before in
+    let at-loop-test = c.before.before in
     let at-loop = at-loop-test.before in
     let s = at-loop.before in
     omega (
@@ -25,7 +25,7 @@ overflow_mul-found c =
 
 pub overflow_add-found : goal.overflow_add-found
 overflow_add-found c =
-    let at-tenfold = c.before in
+    let at-tenfold = c.before.before in
     let at-loop-test = at-tenfold.before in
     let at-loop = at-loop-test.before in
     let s = at-loop.before in
@@ -39,17 +39,17 @@ overflow_add-found c =
 
 pub overflow_add-digits : goal.overflow_add-digits
 overflow_add-digits c =
-    let at-loop = c.before.before.before in
+    let at-loop = c.before.before.before.before in
     omega (arith, at-loop.loop-digits.invariant.1)
 
 pub loop-digits-smaller : goal.loop-digits-smaller
 loop-digits-smaller c =
-    let at-loop-test = c.before.before in
+    let at-loop-test = c.before.before.before in
     omega (arith, at-loop-test.loop-digits-test.true)
 
 pub loop-digits-preserved : goal.loop-digits-preserved
 loop-digits-preserved c =
-    let at-tenfold = c.before in
+    let at-tenfold = c.before.before in
     let at-loop-test = at-tenfold.before in
     let at-loop = at-loop-test.before in
     let s = at-loop.before in
@@ -62,7 +62,7 @@ loop-digits-preserved c =
 
 pub returns : goal.returns
 returns c =
-    let at-loop = c.before in
+    let at-loop = c.before.before in
     let s = at-loop.before in
     cut-nine s.args.frequency s.args.part at-loop.loop-digits.false at-loop.loop-digits.found at-loop.loop-digits.digits
     at-loop.loop-digits.invariant.0 (omega (arith, c.loop-digits-test.false, at-loop.loop-digits.invariant.1))

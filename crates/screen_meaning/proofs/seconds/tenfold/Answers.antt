@@ -14,27 +14,27 @@ loop-turns-init c = (turn-none c.args.frequency c.args.part c.requires, omega ar
 
 pub overflow_add-whole : goal.overflow_add-whole
 overflow_add-whole c =
-    let at-loop = c.before.before in
+    let at-loop = c.before.before.before in
     omega (arith, at-loop.loop-turns.invariant.0.few, at-loop.loop-turns.invariant.1)
 
 pub overflow_add-left : goal.overflow_add-left
 overflow_add-left c =
-    let s = c.before.before.before in
+    let s = c.before.before.before.before in
     omega (arith, s.requires, s.ranges, c.if-lacking-left.false)
 
 pub overflow_add-turns : goal.overflow_add-turns
 overflow_add-turns c =
-    let at-loop = c.before.before in
+    let at-loop = c.before.before.before in
     omega (arith, at-loop.loop-turns.invariant.1)
 
 pub loop-turns-smaller : goal.loop-turns-smaller
 loop-turns-smaller c =
-    let at-loop-test = c.before in
+    let at-loop-test = c.before.before in
     omega (arith, at-loop-test.loop-turns-test.true)
 
 pub loop-turns-preserved : goal.loop-turns-preserved
 loop-turns-preserved c =
-    let at-loop-test = c.before in
+    let at-loop-test = c.before.before in
     let at-loop = at-loop-test.before in
     let s = at-loop.before in
     let a = s.args in
@@ -50,7 +50,7 @@ loop-turns-preserved c =
 
 pub returns : goal.returns
 returns c =
-    let at-loop = c.before in
+    let at-loop = c.before.before in
     let s = at-loop.before in
     let a = s.args in
     let at = at-loop.loop-turns in

@@ -26,7 +26,7 @@ loop-i-smaller c = omega arith
 
 pub loop-i-preserved : goal.loop-i-preserved
 loop-i-preserved c =
-    let at = c.before in
+    let at = c.before.before in
     let a = at.args in (
       ap (λ l. set l (a.at + at.loop-i.i) a.b) at.loop-i.invariant.0 ∙ times-step a.out.now a.at at.loop-i.i a.b,
       omega arith,
