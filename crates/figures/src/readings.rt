@@ -1,25 +1,28 @@
 // The figures that are whole readings: what is read by, what is read, and the result's words.
-ghost use Rattle.std.specs.Prelude.{◌≡◌, length};
+ghost use Rattle.std.specs.Prelude.{◌≡◌, IfOk, vec_len};
 
 use crate::{end_line, say, say_number};
+use std::alloc::{AllocError, Global};
 
-pub(crate) fn say_readings() {
-    let mut list = list_room();
-    say_first(&mut list);
-    say_elements(&mut list);
-    say_depths(&mut list);
+pub(crate) fn say_readings(rt: &impl Print, alloc: Global) -> Result<(), AllocError> {
+    let mut list = list_room(alloc)?;
+    say_first(rt, &mut list);
+    say_elements(rt, &mut list);
+    say_depths(rt, &mut list);
+    Ok(())
 }
 
 // The table of 40 bytes, with room and without; and without its event class.
-fn say_first(list: &mut [u64]) {
+fn say_first(rt: &impl Print, list: &mut [u64]) {
     let table =
         b"\x01\x02\x04\x00\x00\x00\x00\x00\x00\x00\x00\xFF\x05\x00\x00\x00\x00\x00\x00\x00\x00\x00\x00\x00\x00\x00\x00\x00\x00\x06\x05\x1C\x01\x00\x12\x08\x00\x00\xFF\x00";
-    say(b"2A in 40 words:");
-    say_reading(table, b"\x2A", list, 40);
-    say(b"2A in 39 words:");
-    say_reading(table, b"\x2A", list, 39);
-    say(b"2A, the event class left out:");
+    say(rt, b"2A in 40 words:");
+    say_reading(rt, table, b"\x2A", list, 40);
+    say(rt, b"2A in 39 words:");
+    say_reading(rt, table, b"\x2A", list, 39);
+    say(rt, b"2A, the event class left out:");
     say_reading(
+        rt,
         b"\x01\x02\x04\x00\x00\x00\x00\x00\x00\x00\x00\xFF",
         b"\x2A",
         list,
@@ -28,27 +31,29 @@ fn say_first(list: &mut [u64]) {
 }
 
 // A number of 32 bits, and as many structures of nothing.
-fn say_elements(list: &mut [u64]) {
+fn say_elements(rt: &impl Print, list: &mut [u64]) {
     let table =
         b"\x01\x02\x04\x00\x00\x00\x00\x00\x00\x00\x00\xFF\x05\x00\x00\x00\x00\x00\x00\x00\x00\x00\x00\x00\x00\x00\x00\x00\x00\x06\x05\x1C\x02\x00\x12\x20\x00\x00\x10\x00\x1E\x10\x00\x1C\x00\x00";
     let all = list.len();
-    say(b"65,535 elements:");
-    say_reading(table, b"\xFF\xFF\x00\x00", list, all);
-    say(b"65,536 elements:");
-    say_reading(table, b"\x00\x00\x01\x00", list, all);
+    say(rt, b"65,535 elements:");
+    say_reading(rt, table, b"\xFF\xFF\x00\x00", list, all);
+    say(rt, b"65,536 elements:");
+    say_reading(rt, table, b"\x00\x00\x01\x00", list, all);
 }
 
 // Structures of one member, one in another, the root's first; within the last a byte.
-fn say_depths(list: &mut [u64]) {
-    say(b"depth 8:");
+fn say_depths(rt: &impl Print, list: &mut [u64]) {
+    say(rt, b"depth 8:");
     say_reading(
+        rt,
         b"\x01\x02\x04\x00\x00\x00\x00\x00\x00\x00\x00\xFF\x05\x00\x00\x00\x00\x00\x00\x00\x00\x00\x00\x00\x00\x00\x00\x00\x00\x06\x05\x1C\x01\x00\x1C\x01\x00\x1C\x01\x00\x1C\x01\x00\x1C\x01\x00\x1C\x01\x00\x1C\x01\x00\x12\x08\x00\x00\xFF\x00",
         b"\x2A",
         list,
         80,
     );
-    say(b"depth 9:");
+    say(rt, b"depth 9:");
     say_reading(
+        rt,
         b"\x01\x02\x04\x00\x00\x00\x00\x00\x00\x00\x00\xFF\x05\x00\x00\x00\x00\x00\x00\x00\x00\x00\x00\x00\x00\x00\x00\x00\x00\x06\x05\x1C\x01\x00\x1C\x01\x00\x1C\x01\x00\x1C\x01\x00\x1C\x01\x00\x1C\x01\x00\x1C\x01\x00\x1C\x01\x00\x12\x08\x00\x00\xFF\x00",
         b"\x2A",
         list,
@@ -57,26 +62,26 @@ fn say_depths(list: &mut [u64]) {
 }
 
 // Number, entries, place and both ids of a reading with so many words of the list.
-fn say_reading(table: &[u8], stream: &[u8], list: &mut [u64], words: usize) {
+fn say_reading(rt: &impl Print, table: &[u8], stream: &[u8], list: &mut [u64], words: usize) {
     if list.len() < words {
-        say(b" no room\n");
+        say(rt, b" no room\n");
         return;
     }
     let r = reader::read(table, stream, &mut list[..words]);
-    say_number(r.number as u64);
-    say(b" with");
-    say_number(r.entries as u64);
-    say(b" entries at");
-    say_number(r.place);
-    say(b", ids");
-    say_number(r.first);
-    say_number(r.second);
-    end_line();
+    say_number(rt, r.number as u64);
+    say(rt, b" with");
+    say_number(rt, r.entries as u64);
+    say(rt, b" entries at");
+    say_number(rt, r.place);
+    say(rt, b", ids");
+    say_number(rt, r.first);
+    say_number(rt, r.second);
+    end_line(rt);
 }
 
 // Room for 65,544 entries: 65,535 elements, and nine more.
-fn list_room() -> [u64; 327720]
-    ensures { 327720 ≡ length result }
+fn list_room(alloc: Global) -> Result<Vec<u64>, AllocError>
+    ensures { IfOk result (λ list. 327720 ≡ vec_len list) }
 {
-    [0; 327720]
+    vec![in alloc; 0; 327720]
 }
