@@ -14,6 +14,7 @@ ghost use Rattle.std.specs.Prelude.{◌≡◌, length};
 
 use input::{Next, fill, next_number, number, read_parts};
 use lines::{say, say_bundled, say_bytes, say_result, say_words, too_long};
+use std::env::{Env, FillError};
 use std::num::wrapping_add_u64;
 
 mod input;
@@ -27,37 +28,52 @@ const TABLE_ROOM: usize = 65537;
 const LIST_ROOM: usize = 8000;
 
 // Nothing says that the input ends, and a loop has to: so it counts its turns down from a number that no run uses up.
-fn main() {
-    let whole = os::arg_count() > 1;
+fn main(rt: HostRuntime) {
+    let whole = has_word(&rt);
     let mut turns = u64::MAX;
-    while turns > 0 && answer_case(whole) {
+    while turns > 0 && answer_case(&rt, whole) {
         turns -= 1;
     }
 }
 
+// Whether the program was run with a word.
+fn has_word(rt: &impl Env) -> bool {
+    match rt.arg(1, &mut []) {
+        Ok(_) | Err(FillError::TooLong) => true,
+        Err(FillError::NotPresent) => false,
+    }
+}
+
 // Reads a case and prints its answers; says whether another may follow.
-fn answer_case(whole: bool) -> bool {
-    let Next::Number(table) = next_number() else {
+fn answer_case(rt: &HostRuntime, whole: bool) -> bool {
+    let Next::Number(table) = next_number(rt) else {
         return false;
     };
     let mut lengths = [0u64; 32];
     let mut rooms = [0u64; 32];
-    answer_head(table, &mut lengths, &mut rooms, whole)
+    answer_head(rt, table, &mut lengths, &mut rooms, whole)
 }
 
 // The rest of the head, and the lengths and rooms. Where it does not say all bytes and all words, they are the sums of these.
-fn answer_head(table: usize, lengths: &mut [u64], rooms: &mut [u64], whole: bool) -> bool {
-    let streams = number();
-    let buffer = number();
-    let lists = said_or(whole, streams);
-    let bytes = said_or(whole, 0);
-    let words = said_or(whole, 0);
-    read_parts(larger(streams, lists), lengths, rooms);
+fn answer_head(
+    rt: &HostRuntime,
+    table: usize,
+    lengths: &mut [u64],
+    rooms: &mut [u64],
+    whole: bool,
+) -> bool {
+    let streams = number(rt);
+    let buffer = number(rt);
+    let lists = said_or(rt, whole, streams);
+    let bytes = said_or(rt, whole, 0);
+    let words = said_or(rt, whole, 0);
+    read_parts(rt, larger(streams, lists), lengths, rooms);
     if lengths.len() < streams || rooms.len() < lists {
-        return too_long();
+        return too_long(rt);
     }
     if whole {
         return answer_parts(
+            rt,
             table,
             &lengths[..streams],
             &rooms[..lists],
@@ -70,6 +86,7 @@ fn answer_head(table: usize, lengths: &mut [u64], rooms: &mut [u64], whole: bool
     let all_bytes = sum(lengths);
     let all_words = sum(rooms);
     answer_parts(
+        rt,
         table,
         &lengths[..streams],
         &rooms[..lists],
@@ -81,8 +98,8 @@ fn answer_head(table: usize, lengths: &mut [u64], rooms: &mut [u64], whole: bool
 }
 
 // What the head says only of a whole case.
-fn said_or(whole: bool, other: usize) -> usize {
-    if whole { number() } else { other }
+fn said_or(rt: &HostRuntime, whole: bool, other: usize) -> usize {
+    if whole { number(rt) } else { other }
 }
 
 fn larger(a: usize, b: usize) -> usize {
@@ -102,6 +119,7 @@ fn sum(parts: &[u64]) -> usize {
 
 // Makes room for what is lent.
 fn answer_parts(
+    rt: &HostRuntime,
     table_bytes: usize,
     lengths: &[u64],
     rooms: &[u64],
@@ -111,16 +129,17 @@ fn answer_parts(
     whole: bool,
 ) -> bool {
     let mut table = table_room();
-    let mut streams = io::large_buffer();
+    let mut streams = streams_room();
     let mut list = list_room();
     let mut buffer = table_room();
-    if !fill(&mut table, table_bytes) {
+    if !fill(rt, &mut table, table_bytes) {
         return false;
     }
-    if !fill(&mut streams, stream_bytes) {
+    if !fill(rt, &mut streams, stream_bytes) {
         return false;
     }
     answer_filled(
+        rt,
         &table,
         table_bytes,
         &streams,
@@ -137,6 +156,7 @@ fn answer_parts(
 
 // Lends as much of it as the case says, and prints the answers.
 fn answer_filled(
+    rt: &HostRuntime,
     table: &[u8],
     table_bytes: usize,
     streams: &[u8],
@@ -154,9 +174,10 @@ fn answer_filled(
         || list.len() < list_words
         || buffer.len() < buffer_bytes
     {
-        return too_long();
+        return too_long(rt);
     }
     answer(
+        rt,
         &table[..table_bytes],
         &streams[..stream_bytes],
         lengths,
@@ -169,6 +190,7 @@ fn answer_filled(
 }
 
 fn answer(
+    rt: &impl Print,
     table: &[u8],
     streams: &[u8],
     lengths: &[u64],
@@ -179,14 +201,18 @@ fn answer(
 ) {
     count_down(list);
     hold(buffer);
-    let listed = say_bundled(bundle::bundle(table, streams, lengths, rooms, list, buffer));
-    say_bytes(buffer);
-    say_lists(table, streams, lengths, rooms, list, listed, whole);
-    say(b"\n");
+    let listed = say_bundled(
+        rt,
+        bundle::bundle(table, streams, lengths, rooms, list, buffer),
+    );
+    say_bytes(rt, buffer);
+    say_lists(rt, table, streams, lengths, rooms, list, listed, whole);
+    say(rt, b"\n");
 }
 
 // The words of the lists, or the readings, if there were any.
 fn say_lists(
+    rt: &impl Print,
     table: &[u8],
     streams: &[u8],
     lengths: &[u64],
@@ -196,17 +222,24 @@ fn say_lists(
     whole: bool,
 ) {
     if whole {
-        say_words(list);
+        say_words(rt, list);
         return;
     }
     if listed {
-        say_readings(table, streams, lengths, rooms, list);
+        say_readings(rt, table, streams, lengths, rooms, list);
         return;
     }
 }
 
 // A line of each stream's reading by itself, in the words of the list.
-fn say_readings(table: &[u8], streams: &[u8], lengths: &[u64], rooms: &[u64], list: &mut [u64]) {
+fn say_readings(
+    rt: &impl Print,
+    table: &[u8],
+    streams: &[u8],
+    lengths: &[u64],
+    rooms: &[u64],
+    list: &mut [u64],
+) {
     let mut at = 0;
     let mut i = 0;
     while i < lengths.len() && i < rooms.len() {
@@ -215,7 +248,10 @@ fn say_readings(table: &[u8], streams: &[u8], lengths: &[u64], rooms: &[u64], li
         if streams.len() - at < bytes || list.len() < words {
             return;
         }
-        say_result(reader::read(table, &streams[at..at + bytes], &mut list[..words]));
+        say_result(
+            rt,
+            reader::read(table, &streams[at..at + bytes], &mut list[..words]),
+        );
         at += bytes;
         i += 1;
     }
@@ -242,6 +278,13 @@ fn table_room() -> [u8; TABLE_ROOM]
     ensures { 65537 ≡ length result }
 {
     [0; TABLE_ROOM]
+}
+
+// Room for the longest streams of the shared cases.
+fn streams_room() -> [u8; 65536]
+    ensures { 65536 ≡ length result }
+{
+    [0; 65536]
 }
 
 // Room for the longest lists of the shared cases.
