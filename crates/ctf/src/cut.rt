@@ -1,14 +1,14 @@
 // `ctf cut TABLE STREAM...`: the table without the stream and event classes that no stream's list names, as bytes on standard output, and one
 // line on standard error: `kept N of N event classes, N of N stream classes: N of N bytes`, or `refused N` and why.
-ghost use Rattle.std.specs.Prelude.{◌≡◌, ◌≤◌, length};
+ghost use Rattle.std.specs.Prelude.{◌≡◌, ◌≤◌, length, IfOk, vec_len};
 
 use crate::lines::{tell, tell_number};
 use crate::words::tell_fault;
-use crate::{STREAM_ROOM, file_room, load};
-use libc::{STDERR_FILENO, STDOUT_FILENO};
+use crate::{STREAM_ROOM, fail, file_room, load};
 use numbers::kinds;
 use numbers::limits::{BUNDLE_LIMIT, WORDS_PER_ENTRY};
 use rules::{Bundled, ByteLength};
+use std::alloc::{AllocError, Global};
 use table_records::bodies::mark_of;
 
 // The argument that names the first stream.
@@ -26,22 +26,37 @@ const LIST_FULL: u8 = 40;
 const LENGTHS: usize = BUNDLE_LIMIT + 1;
 
 // Cuts the table to the streams that the arguments name, so many.
-pub(crate) fn cut_loaded(table: &[u8], count: usize, list: &mut [u64]) {
-    let mut streams = streams_room();
+pub(crate) fn cut_loaded(
+    rt: &HostRuntime,
+    table: &[u8],
+    count: usize,
+    list: &mut [u64],
+) -> Result<(), AllocError> {
+    let mut streams = streams_room(rt.alloc())?;
     let mut lengths = [0u64; LENGTHS];
     let mut rooms = [0u64; LENGTHS];
     if BUNDLE_LIMIT < count {
         // no stream is looked at: 20, or else 44
-        cut_first(table, &streams[0..0], &lengths, &rooms, LENGTHS, list);
-        return;
+        cut_first(rt, table, &streams[0..0], &lengths, &rooms, LENGTHS, list);
+        return Ok(());
     }
-    if load_streams(table, count, &mut streams, &mut lengths, &mut rooms, list) {
-        cut_first(table, &streams, &lengths, &rooms, count, list);
+    if load_streams(
+        rt,
+        table,
+        count,
+        &mut streams,
+        &mut lengths,
+        &mut rooms,
+        list,
+    ) {
+        cut_first(rt, table, &streams, &lengths, &rooms, count, list);
     }
+    Ok(())
 }
 
 // By the first so many of the lengths and rooms.
 fn cut_first(
+    rt: &HostRuntime,
     table: &[u8],
     streams: &[u8],
     lengths: &[u64; LENGTHS],
@@ -57,6 +72,7 @@ fn cut_first(
     }
     let mut short = file_room();
     cut_streams(
+        rt,
         table,
         streams,
         &all_lengths[..count],
@@ -68,6 +84,7 @@ fn cut_first(
 
 // Puts the streams one behind another, and gives each list as many words as its reading takes. Where that fails, it has said so.
 fn load_streams(
+    rt: &HostRuntime,
     table: &[u8],
     count: usize,
     streams: &mut [u8],
@@ -82,6 +99,7 @@ fn load_streams(
     let mut i = 0;
     while i < count {
         let one = load_stream(
+            rt,
             table,
             i,
             &mut streams[at..at + STREAM_AND_ONE],
@@ -107,23 +125,23 @@ struct Taken {
     failed: bool,
 }
 
-fn load_stream(table: &[u8], i: usize, room: &mut [u8], list: &mut [u64]) -> Taken
+fn load_stream(rt: &HostRuntime, table: &[u8], i: usize, room: &mut [u8], list: &mut [u64]) -> Taken
     requires { i ≤ 16 }
     ensures { (result.bytes ≤ 65536) × (result.words ≤ length list.new) }
 {
-    let filled = load(FIRST_STREAM + i, room);
+    let filled = load(rt, FIRST_STREAM + i, room);
     if filled.failed {
         return no_stream();
     }
     let bytes = filled.bytes;
     if STREAM_ROOM < bytes {
-        tell_too_long(i + 1);
+        tell_too_long(rt, i + 1);
         return no_stream();
     }
     let r = reader::read(table, &room[..bytes], list);
     let entries = r.entries;
     if r.number == LIST_FULL {
-        tell_too_many(i + 1);
+        tell_too_many(rt, i + 1);
         return no_stream();
     }
     // no list has more entries than it has room for: this never comes
@@ -147,26 +165,27 @@ fn no_stream() -> Taken
     }
 }
 
-fn tell_too_long(stream: usize) {
-    tell(STDERR_FILENO, b"stream ");
-    tell_number(STDERR_FILENO, stream as u64);
+fn tell_too_long(rt: &HostRuntime, stream: usize) {
+    tell(&rt.stderr(), b"stream ");
+    tell_number(&rt.stderr(), stream as u64);
     tell(
-        STDERR_FILENO,
+        &rt.stderr(),
         b" has more than the 65,536 bytes that there is room for\n",
     );
 }
 
 // A list that is full would name no class behind its end, and the table would lose it.
-fn tell_too_many(stream: usize) {
-    tell(STDERR_FILENO, b"stream ");
-    tell_number(STDERR_FILENO, stream as u64);
+fn tell_too_many(rt: &HostRuntime, stream: usize) {
+    tell(&rt.stderr(), b"stream ");
+    tell_number(&rt.stderr(), stream as u64);
     tell(
-        STDERR_FILENO,
+        &rt.stderr(),
         b" has more entries than there is room for: all streams together have 131,072\n",
     );
 }
 
 fn cut_streams(
+    rt: &HostRuntime,
     table: &[u8],
     streams: &[u8],
     lengths: &[u64],
@@ -178,64 +197,65 @@ fn cut_streams(
         Bundled::Written(length) => {
             let bytes = length.0;
             if bytes <= short.len() {
-                write_cut(table, &short[..bytes]);
+                write_cut(rt, table, &short[..bytes]);
             }
         }
-        Bundled::TableRefused(number, byte) => tell_refused(number, byte),
+        Bundled::TableRefused(number, byte) => tell_refused(rt, number, byte),
         Bundled::TooManyStreams => tell(
-            STDERR_FILENO,
+            &rt.stderr(),
             b"refused 44: there are more than sixteen streams\n",
         ),
         // the room is longer than any table: this never comes
-        Bundled::ShortBuffer(length) => tell(STDERR_FILENO, b"refused 45: the table has no room\n"),
+        Bundled::ShortBuffer(length) => tell(&rt.stderr(), b"refused 45: the table has no room\n"),
     }
 }
 
 // The line comes last: where the bytes could not be written, it is another.
-fn write_cut(table: &[u8], short: &[u8]) {
-    if io::write_all(STDOUT_FILENO, short) {
-        tell_kept(table, short);
-    } else {
-        os::fail(b"the table could not be written");
+fn write_cut(rt: &HostRuntime, table: &[u8], short: &[u8]) {
+    match rt.write_all(short) {
+        Ok(()) => tell_kept(rt, table, short),
+        Err(error) => fail(rt, b"the table could not be written", error),
     }
 }
 
-fn tell_kept(table: &[u8], short: &[u8]) {
-    tell(STDERR_FILENO, b"kept ");
+fn tell_kept(rt: &HostRuntime, table: &[u8], short: &[u8]) {
+    tell(&rt.stderr(), b"kept ");
     tell_of(
+        rt,
         records(short, kinds::EVENT_CLASS),
         records(table, kinds::EVENT_CLASS),
     );
-    tell(STDERR_FILENO, b" event classes, ");
+    tell(&rt.stderr(), b" event classes, ");
     tell_of(
+        rt,
         records(short, kinds::STREAM_CLASS),
         records(table, kinds::STREAM_CLASS),
     );
-    tell(STDERR_FILENO, b" stream classes: ");
-    tell_of(short.len(), table.len());
-    tell(STDERR_FILENO, b" bytes\n");
+    tell(&rt.stderr(), b" stream classes: ");
+    tell_of(rt, short.len(), table.len());
+    tell(&rt.stderr(), b" bytes\n");
 }
 
-fn tell_of(some: usize, all: usize) {
-    tell_grouped(some as u64);
-    tell(STDERR_FILENO, b" of ");
-    tell_grouped(all as u64);
+fn tell_of(rt: &HostRuntime, some: usize, all: usize) {
+    tell_grouped(rt, some as u64);
+    tell(&rt.stderr(), b" of ");
+    tell_grouped(rt, all as u64);
 }
 
 // A number of up to six digits, with a comma between the third and the fourth from its end.
-fn tell_grouped(n: u64) {
+fn tell_grouped(rt: &HostRuntime, n: u64) {
     if n < 1000 {
-        tell_number(STDERR_FILENO, n);
+        tell_number(&rt.stderr(), n);
         return;
     }
-    tell_number(STDERR_FILENO, n / 1000);
+    tell_number(&rt.stderr(), n / 1000);
     let digits = [
         b',',
         b'0' + (n / 100 % 10) as u8,
         b'0' + (n / 10 % 10) as u8,
         b'0' + (n % 10) as u8,
     ];
-    tell(STDERR_FILENO, &digits);
+    tell(&rt.stderr(), &digits);
 }
 
 // How many records of a kind an accepted table has.
@@ -255,18 +275,18 @@ fn counted(kind: u8, asked: u8) -> usize
     if kind == asked { 1 } else { 0 }
 }
 
-fn tell_refused(number: u8, byte: ByteLength) {
-    tell(STDERR_FILENO, b"refused 20 at byte ");
-    tell_number(STDERR_FILENO, byte.0 as u64);
-    tell(STDERR_FILENO, b": the table is refused by ");
-    tell_number(STDERR_FILENO, number as u64);
-    tell(STDERR_FILENO, b": ");
-    tell_fault(STDERR_FILENO, number as u64);
-    tell(STDERR_FILENO, b"\n");
+fn tell_refused(rt: &HostRuntime, number: u8, byte: ByteLength) {
+    tell(&rt.stderr(), b"refused 20 at byte ");
+    tell_number(&rt.stderr(), byte.0 as u64);
+    tell(&rt.stderr(), b": the table is refused by ");
+    tell_number(&rt.stderr(), number as u64);
+    tell(&rt.stderr(), b": ");
+    tell_fault(&rt.stderr(), number as u64);
+    tell(&rt.stderr(), b"\n");
 }
 
-fn streams_room() -> [u8; ALL_STREAMS]
-    ensures { 1048577 ≡ length result }
+fn streams_room(alloc: Global) -> Result<Vec<u8>, AllocError>
+    ensures { IfOk result (λ streams. 1048577 ≡ vec_len streams) }
 {
-    [0; ALL_STREAMS]
+    vec![in alloc; 0; ALL_STREAMS]
 }

@@ -2,7 +2,6 @@
 ghost use Rattle.std.specs.Prelude.{◌≤◌, length};
 
 use crate::words::{say_kind, say_refusal, tell_fault};
-use libc::STDOUT_FILENO;
 use numbers::limits::WORDS_PER_ENTRY;
 use numbers::{entries, faults};
 use rules::{ByteLength, Checked, Result};
@@ -17,27 +16,27 @@ const VALUE_ENDS: usize = 42;
 
 const NUMBER_ENDS: usize = 48;
 
-pub(crate) fn say_checked(checked: Checked) {
+pub(crate) fn say_checked(rt: &impl Print, checked: Checked) {
     match checked {
         Checked::Accepted(length) => {
-            say(b"accepted: ");
-            say_length(length);
-            say(b" bytes\n");
+            say(rt, b"accepted: ");
+            say_length(rt, length);
+            say(rt, b" bytes\n");
         }
         Checked::Refused(number, byte) => {
-            say(b"refused ");
-            say_number(number as u64);
-            say(b" at byte ");
-            say_length(byte);
-            say(b": ");
-            tell_fault(STDOUT_FILENO, number as u64);
-            say(b"\n");
+            say(rt, b"refused ");
+            say_number(rt, number as u64);
+            say(rt, b" at byte ");
+            say_length(rt, byte);
+            say(rt, b": ");
+            tell_fault(rt, number as u64);
+            say(rt, b"\n");
         }
     }
 }
 
 // A line for each of the entries that the list begins with.
-pub(crate) fn say_entries(list: &[u64], entries: usize) {
+pub(crate) fn say_entries(rt: &impl Print, list: &[u64], entries: usize) {
     let mut left = entries;
     let mut at = 0;
     while left > 0 {
@@ -45,6 +44,7 @@ pub(crate) fn say_entries(list: &[u64], entries: usize) {
             return;
         }
         say_entry(
+            rt,
             list[at],
             list[at + 1],
             list[at + 2],
@@ -56,15 +56,15 @@ pub(crate) fn say_entries(list: &[u64], entries: usize) {
     }
 }
 
-fn say_entry(kind: u64, place: u64, bits: u64, value: u64, number: u64) {
-    say_kind(kind);
+fn say_entry(rt: &impl Print, kind: u64, place: u64, bits: u64, value: u64, number: u64) {
+    say_kind(rt, kind);
     let mut line = [b' '; 49];
     line[NUMBER_ENDS] = b'\n';
     column(&mut line, PLACE_ENDS, place);
     column(&mut line, BITS_ENDS, bits);
     value_column(&mut line, VALUE_ENDS, kind, value);
     column(&mut line, NUMBER_ENDS, number);
-    say(&line);
+    say(rt, &line);
 }
 
 // An integer's value by its sign, any other as it is.
@@ -111,48 +111,48 @@ fn signed_column(line: &mut [u8], end: usize, word: u64)
 }
 
 // The verdict in words. A table's refusal has a byte for its place.
-pub(crate) fn say_result(r: Result) {
+pub(crate) fn say_result(rt: &impl Print, r: Result) {
     let entries = r.entries;
     if r.number == 0 {
-        say(b"accepted: ");
-        say_number(entries as u64);
-        say(b" entries, ");
-        say_number(r.place);
-        say(b" bits\n");
+        say(rt, b"accepted: ");
+        say_number(rt, entries as u64);
+        say(rt, b" entries, ");
+        say_number(rt, r.place);
+        say(rt, b" bits\n");
         return;
     }
-    say(b"refused ");
-    say_number(r.number as u64);
+    say(rt, b"refused ");
+    say_number(rt, r.number as u64);
     if r.number == faults::TABLE_REFUSED {
-        say(b" at byte ");
+        say(rt, b" at byte ");
     } else {
-        say(b" at bit ");
+        say(rt, b" at bit ");
     }
-    say_number(r.place);
-    say(b": ");
-    say_refusal(r.number, r.place, r.first, r.second);
-    say(b"; ");
-    say_number(entries as u64);
-    say(b" entries\n");
+    say_number(rt, r.place);
+    say(rt, b": ");
+    say_refusal(rt, r.number, r.place, r.first, r.second);
+    say(rt, b"; ");
+    say_number(rt, entries as u64);
+    say(rt, b" entries\n");
 }
 
-fn say_length(length: ByteLength) {
-    say_number(length.0 as u64);
+fn say_length(rt: &impl Print, length: ByteLength) {
+    say_number(rt, length.0 as u64);
 }
 
-pub(crate) fn say_number(n: u64) {
-    tell_number(STDOUT_FILENO, n);
+pub(crate) fn say_number(rt: &impl Print, n: u64) {
+    tell_number(rt, n);
 }
 
-pub(crate) fn say(words: &[u8]) {
-    tell(STDOUT_FILENO, words);
+pub(crate) fn say(rt: &impl Print, words: &[u8]) {
+    tell(rt, words);
 }
 
 // The same on standard output or standard error.
-pub(crate) fn tell_number(to: i32, n: u64) {
-    io::print_decimal(to, n);
+pub(crate) fn tell_number(to: &impl Print, n: u64) {
+    let _ = to.print(n);
 }
 
-pub(crate) fn tell(to: i32, words: &[u8]) {
-    io::write_all(to, words);
+pub(crate) fn tell(to: &impl Print, words: &[u8]) {
+    let _ = to.write_all(words);
 }

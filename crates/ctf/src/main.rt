@@ -6,12 +6,16 @@
 // In lines: what is printed. In words: the papers' numbers in words. In cut: the third command.
 #![tactic(auto)]
 
-ghost use Rattle.std.specs.Prelude.{◌≡◌, ◌*◌, ◌≤◌, length};
+ghost use Rattle.std.specs.Prelude.{◌≡◌, ◌*◌, ◌≤◌, length, IfOk, vec_len};
 ghost use Rattle.rules.specs.Limits.{words_per_entry};
 
-use libc::STDERR_FILENO;
-use lines::{say_checked, say_entries, say_result};
+use lines::{say_checked, say_entries, say_result, tell};
 use numbers::limits::WORDS_PER_ENTRY;
+use std::alloc::{AllocError, Global};
+use std::env::{Env, FillError};
+use std::fs::File;
+use std::io::{Error, Read, Write};
+use std::{io, str};
 
 mod cut;
 mod lines;
@@ -27,84 +31,108 @@ const STREAM_ROOM: usize = 65536;
 // Room for 131,072 entries.
 const LIST_ROOM: usize = 131_072 * WORDS_PER_ENTRY;
 
-fn main() {
+// No path has more bytes.
+const PATH_ROOM: usize = 4096;
+
+// The longest of the system's words for an error have 49 bytes.
+const ERROR_ROOM: usize = 128;
+
+// The system's numbers of errors.
+const EINVAL: i32 = 22;
+
+const ENAMETOOLONG: i32 = 36;
+
+const EILSEQ: i32 = 84;
+
+fn main(rt: HostRuntime) -> Result<(), AllocError> {
     let mut command = [0u8; 16];
-    let got = os::arg(1, &mut command);
-    if os::arg_count() == 3 && words::same(&command[..got], b"check") {
-        check_named();
-        return;
+    let got = rt.arg(1, &mut command).unwrap_or(0);
+    if arg_count(&rt) == 3 && &command[..got] == b"check".as_slice() {
+        check_named(&rt);
+        return Ok(());
     }
-    if os::arg_count() == 4 && words::same(&command[..got], b"read") {
-        with_list(false);
-        return;
+    if arg_count(&rt) == 4 && &command[..got] == b"read".as_slice() {
+        return with_list(&rt, false);
     }
-    if os::arg_count() > 3 && words::same(&command[..got], b"cut") {
-        with_list(true);
-        return;
+    if arg_count(&rt) > 3 && &command[..got] == b"cut".as_slice() {
+        return with_list(&rt, true);
     }
-    io::write_all(
-        STDERR_FILENO,
+    tell(
+        &rt.stderr(),
         b"usage: ctf check TABLE\n       ctf read TABLE STREAM\n       ctf cut TABLE STREAM...\n",
     );
+    Ok(())
 }
 
-// Reads, or cuts. Both share one list: two of them would be more than the usual stack.
-fn with_list(cuts: bool) {
-    let mut list = list_room();
+// How many words there are, the program's own among them.
+fn arg_count(rt: &impl Env) -> usize {
+    for i in 0..usize::MAX {
+        if let Err(FillError::NotPresent) = rt.arg(i, &mut []) {
+            return i;
+        }
+    }
+    usize::MAX
+}
+
+// Reads, or cuts, with one list.
+fn with_list(rt: &HostRuntime, cuts: bool) -> Result<(), AllocError> {
+    let mut list = list_room(rt.alloc())?;
     if cuts {
-        cut_named(&mut list);
+        cut_named(rt, &mut list)
     } else {
-        read_named(&mut list);
+        read_named(rt, &mut list);
+        Ok(())
     }
 }
 
-fn check_named() {
+fn check_named(rt: &HostRuntime) {
     let mut table = file_room();
-    let filled = load(TABLE, &mut table);
+    let filled = load(rt, TABLE, &mut table);
     if filled.failed {
         return;
     }
-    say_checked(check_table::check(&table[..filled.bytes]));
+    say_checked(rt, check_table::check(&table[..filled.bytes]));
 }
 
-fn read_named(list: &mut [u64]) {
+fn read_named(rt: &HostRuntime, list: &mut [u64]) {
     let mut table = file_room();
-    let by = load(TABLE, &mut table);
+    let by = load(rt, TABLE, &mut table);
     if by.failed {
         return;
     }
     let mut stream = file_room();
-    let filled = load(STREAM, &mut stream);
+    let filled = load(rt, STREAM, &mut stream);
     if filled.failed {
         return;
     }
     if STREAM_ROOM < filled.bytes {
-        io::write_all(
-            STDERR_FILENO,
+        tell(
+            &rt.stderr(),
             b"the stream has more than the 65,536 bytes that there is room for\n",
         );
         return;
     }
-    read_loaded(&table[..by.bytes], &stream[..filled.bytes], list);
+    read_loaded(rt, &table[..by.bytes], &stream[..filled.bytes], list);
 }
 
-fn read_loaded(table: &[u8], stream: &[u8], list: &mut [u64]) {
+fn read_loaded(rt: &HostRuntime, table: &[u8], stream: &[u8], list: &mut [u64]) {
     let r = reader::read(table, stream, list);
     let entries = r.entries;
-    say_entries(list, entries);
-    say_result(r);
+    say_entries(rt, list, entries);
+    say_result(rt, r);
 }
 
-fn cut_named(list: &mut [u64]) {
+fn cut_named(rt: &HostRuntime, list: &mut [u64]) -> Result<(), AllocError> {
     let mut table = file_room();
-    let by = load(TABLE, &mut table);
+    let by = load(rt, TABLE, &mut table);
     if by.failed {
-        return;
+        return Ok(());
     }
-    let arguments = os::arg_count();
+    let arguments = arg_count(rt);
     if cut::FIRST_STREAM <= arguments {
-        cut::cut_loaded(&table[..by.bytes], arguments - cut::FIRST_STREAM, list);
+        cut::cut_loaded(rt, &table[..by.bytes], arguments - cut::FIRST_STREAM, list)?;
     }
+    Ok(())
 }
 
 // What a file put into the room that it was lent.
@@ -115,26 +143,40 @@ struct Filled {
 }
 
 // Reads the file that an argument names into the room. Where that fails, it has said so.
-fn load(argument: usize, room: &mut [u8]) -> Filled
+fn load(rt: &HostRuntime, argument: usize, room: &mut [u8]) -> Filled
     ensures { result.bytes ≤ length room.new }
 {
-    let mut path = io::buffer();
-    let got = os::arg(argument, &mut path);
-    if os::errno() != 0 {
-        os::fail(b"the file's name");
-        return nothing();
+    let mut path = [0u8; PATH_ROOM];
+    let got = match rt.arg(argument, &mut path) {
+        Ok(got) => got,
+        Err(refused) => {
+            fail(rt, b"the file's name", name_error(refused));
+            return nothing();
+        }
+    };
+    match open(rt, &path[..got]) {
+        Ok(mut file) => fill(rt, &path[..got], &mut file, room),
+        Err(error) => {
+            fail(rt, &path[..got], error);
+            nothing()
+        }
     }
-    let file = os::open_read(&path[..got]);
-    if file < 0 {
-        os::fail(&path[..got]);
-        return nothing();
+}
+
+// Why there is no name, as the system numbers it: it is too long, or there is no such argument.
+fn name_error(refused: FillError) -> Error {
+    match refused {
+        FillError::TooLong => Error::from_raw_os_error(ENAMETOOLONG),
+        FillError::NotPresent => Error::from_raw_os_error(EINVAL),
     }
-    let filled = fill(file, room);
-    if filled.failed {
-        os::fail(&path[..got]);
+}
+
+// Files have names in UTF-8 for std: another gets the system's error for such bytes.
+fn open(rt: &HostRuntime, name: &[u8]) -> io::Result<File> {
+    match str::from_utf8(name) {
+        Ok(text) => File::open(rt, text),
+        Err(_) => Err(Error::from_raw_os_error(EILSEQ)),
     }
-    libc::close(file);
-    filled
 }
 
 fn nothing() -> Filled
@@ -146,28 +188,49 @@ fn nothing() -> Filled
     }
 }
 
-// Reads until the room is full or the file ends. A read that fails is no end: a file that is cut short would get a false verdict.
-fn fill(file: i32, room: &mut [u8]) -> Filled
+// Reads until the room is full or the file ends. A read that fails is no end: a file that is cut short would get a false verdict. It is said.
+fn fill(rt: &HostRuntime, name: &[u8], file: &mut File, room: &mut [u8]) -> Filled
     ensures { result.bytes ≤ length room.new }
 {
     let mut done = 0;
     while done < room.len() {
-        let got = libc::read(file, &mut room[done..]);
-        if got < 0 {
-            return Filled {
-                bytes: done,
-                failed: true,
-            };
+        match file.read(&mut room[done..]) {
+            Ok(0) => break,
+            Ok(more) => done += more,
+            Err(error) => {
+                fail(rt, name, error);
+                return Filled {
+                    bytes: done,
+                    failed: true,
+                };
+            }
         }
-        let more = io::count(got, &room[done..]);
-        if more == 0 {
-            break;
-        }
-        done += more;
     }
     Filled {
         bytes: done,
         failed: false,
+    }
+}
+
+// A line on standard error: what failed, and why, in the system's words.
+fn fail(rt: &HostRuntime, what: &[u8], error: Error) {
+    let mut text = [0u8; ERROR_ROOM];
+    let _ = write!(&mut text[..], "{error}");
+    tell(&rt.stderr(), what);
+    tell(&rt.stderr(), b": ");
+    tell(&rt.stderr(), without_number(&text));
+    tell(&rt.stderr(), b"\n");
+}
+
+// An error's text up to its number, which std writes behind the system's words; or else up to the zeros behind it.
+fn without_number(text: &[u8]) -> &[u8] {
+    let words = text.split(|byte| *byte == 0).next().unwrap_or(text);
+    match str::from_utf8(words)
+        .ok()
+        .and_then(|words| words.split_once(" (os error "))
+    {
+        Some((before, _)) => before.as_bytes(),
+        None => words,
     }
 }
 
@@ -178,8 +241,8 @@ fn file_room() -> [u8; 65537]
     [0; 65537]
 }
 
-fn list_room() -> [u64; LIST_ROOM]
-    ensures { 131072 * words_per_entry ≡ length result }
+fn list_room(alloc: Global) -> Result<Vec<u64>, AllocError>
+    ensures { IfOk result (λ list. 131072 * words_per_entry ≡ vec_len list) }
 {
-    [0; LIST_ROOM]
+    vec![in alloc; 0; LIST_ROOM]
 }
