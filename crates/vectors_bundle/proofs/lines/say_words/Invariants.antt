@@ -2,8 +2,5 @@
 use Rattle.std.proofs.Common.{◌-◌, length}
 use Rattle.vectors_bundle.proofs.lines.say_words.Given as goal
 
-abbrev pub invariant-loop-i : goal.invariant-loop-i
-invariant-loop-i l = Unit {0}
-
 abbrev pub decreases-loop-i : goal.decreases-loop-i
-decreases-loop-i l = length l.words - i
+decreases-loop-i g l = length l.words - l.i
