@@ -19,11 +19,20 @@ fn say_numbers(rt: &impl Print) {
     say_bits(rt, b"12 bits twice, little:", Order::Little);
     say_bits(rt, b"12 bits twice, big:", Order::Big);
     say(rt, b"E5 8E 26 unsigned:");
-    say_unsigned(rt, leb128::unsigned(b"\xE5\x8E\x26", ByteLength(0), ByteLength(3)));
+    say_unsigned(
+        rt,
+        leb128::unsigned(b"\xE5\x8E\x26", ByteLength(0), ByteLength(3)),
+    );
     say(rt, b"C0 BB 78 signed:");
-    say_signed(rt, leb128::signed(b"\xC0\xBB\x78", ByteLength(0), ByteLength(3)));
+    say_signed(
+        rt,
+        leb128::signed(b"\xC0\xBB\x78", ByteLength(0), ByteLength(3)),
+    );
     say(rt, b"80 00 unsigned:");
-    say_unsigned(rt, leb128::unsigned(b"\x80\x00", ByteLength(0), ByteLength(2)));
+    say_unsigned(
+        rt,
+        leb128::unsigned(b"\x80\x00", ByteLength(0), ByteLength(2)),
+    );
 }
 
 fn say_clocks(rt: &impl Print) {

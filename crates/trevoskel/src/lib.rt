@@ -18,6 +18,7 @@ use trevoskel_words::write;
 
 // Whether a class table is sound: 0 accepted, or the number that refuses it. The result gets the number and a byte: the table's length, or
 // where the record at fault begins.
+#[tactic(auto, unfolding(crate::specs::Words::checked_words, rules::specs::Parse::checked_number, rules::specs::Parse::checked_byte))]
 #[unsafe(no_mangle)]
 pub extern "C" fn trevoskel_check(table: &[u8], res: &mut [u64]) -> u32
     ensures number { result ≡ checked_number (checked table.now) }
@@ -31,6 +32,7 @@ pub extern "C" fn trevoskel_check(table: &[u8], res: &mut [u64]) -> u32
 
 // Reads a stream by a table: 0 accepted, or the number that refuses it. The list gets the entries, five words each, and the result number,
 // entries, place and two ids.
+#[tactic(auto, unfolding(crate::specs::Words::result_words))]
 #[unsafe(no_mangle)]
 pub extern "C" fn trevoskel_read(
     table: &[u8],
@@ -58,6 +60,7 @@ pub extern "C" fn trevoskel_read(
 // Cuts a table to what some streams need: 0 written, or the number that refuses it. The streams stand one behind another, as long as
 // `lengths` says, and so do their lists, by `rooms`. The lists get the readings' entries, the buffer the table, and the result number, length
 // and id.
+#[tactic(auto, unfolding(crate::specs::Words::bundled_words, rules::specs::Bundle::bundled_number, rules::specs::Bundle::bundled_length, rules::specs::Bundle::bundled_first))]
 #[unsafe(no_mangle)]
 pub extern "C" fn trevoskel_bundle(
     table: &[u8],
