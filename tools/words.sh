@@ -31,7 +31,7 @@ needs() {
 
 # needs_built ROOT NAME: a program that rt builds.
 needs_built() {
-    [ -x "$1/target/bin/$2" ] || refuse "needs target/bin/$2; run \`rt check $2\` first"
+    [ -x "$1/crates/$2/out/$2" ] || refuse "needs crates/$2/out/$2; run \`rt run\` in crates/$2 first"
 }
 
 # writes FOLDER: a script that builds puts it there, and says so where it may not.
