@@ -9,7 +9,7 @@ use Rattle.class_layout.proofs.Turns.{whole-inside}
 use Rattle.leaf_read.proofs.leaf_slot.Goals as goal
 
 pub bounds-table-at : goal.bounds-table-at
-bounds-table-at c = whole-inside _ _ _ c.requires.Whole
+bounds-table-at c = whole-inside _ _ _ c.requires.whole
 
 pub returns-then-table-at-lt-DYNAMIC_STRING : goal.returns-then-table-at-lt-DYNAMIC_STRING
 unfolding leaf_slot u8
@@ -19,13 +19,13 @@ pub overflow_add-at : goal.overflow_add-at
 unfolding u8
 overflow_add-at c =
     let s = c.before.before.before.before in
-    omega (arith, slot-there _ _ s.requires.Whole s.requires.at_bound c.if-table-at-lt-DYNAMIC_STRING.false, s.well_formed.0)
+    omega (arith, slot-there _ _ s.requires.whole s.requires.at_bound c.if-table-at-lt-DYNAMIC_STRING.false, s.well_formed.0)
 
 pub bounds-table-at-2 : goal.bounds-table-at-2
 unfolding u8
 bounds-table-at-2 c =
     let s = c.before.before.before.before.before in
-    omega (arith, slot-there _ _ s.requires.Whole s.requires.at_bound c.if-table-at-lt-DYNAMIC_STRING.false, s.well_formed.0)
+    omega (arith, slot-there _ _ s.requires.whole s.requires.at_bound c.if-table-at-lt-DYNAMIC_STRING.false, s.well_formed.0)
 
 pub returns : goal.returns
 unfolding leaf_slot u8

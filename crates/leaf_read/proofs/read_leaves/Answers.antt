@@ -175,7 +175,7 @@ pub bounds-aligns-at : goal.bounds-aligns-at
 bounds-aligns-at c = inside c.before.before
 
 pub see_leaf-requires : goal.see_leaf-requires
-see_leaf-requires c = let h = c.loop-stop.invariant in record { Whole = (reading-first h).leaf; at_bound = h.kind; framed = h.framed }
+see_leaf-requires c = let h = c.loop-stop.invariant in record { whole = (reading-first h).leaf; at_bound = h.kind; framed = h.framed }
 
 pub shape_of-list-in-Stops : goal.shape_of-list-in-Stops
 shape_of-list-in-Stops c = (within (leaf (stops c.before.before.before))).1

@@ -75,19 +75,19 @@ given-kind c = c.before.before.before.before.before.before.before.before.before.
 -- was found
 
 there : (c : AtStart) → c.args.at + 4 ≤ length c.args.table.now
-there c = bits-there _ _ c.requires.Whole c.requires.at_bound
+there c = bits-there _ _ c.requires.whole c.requires.at_bound
 
 boolean-there : (c : AtBoolean) → c.args.at + 5 ≤ length c.args.table.now
 unfolding record_size shape_of shapes u8
-boolean-there c = record-there _ _ 17 c.in-17.is c.requires.Whole
+boolean-there c = record-there _ _ 17 c.in-17.is c.requires.whole
 
 unsigned-there : (c : AtUnsigned) → c.args.at + 6 ≤ length c.args.table.now
 unfolding record_size shape_of shapes u8
-unsigned-there c = record-there _ _ 18 c.in-18.is c.requires.Whole
+unsigned-there c = record-there _ _ 18 c.in-18.is c.requires.whole
 
 signed-there : (c : AtSigned) → c.args.at + 5 ≤ length c.args.table.now
 unfolding record_size shape_of shapes u8
-signed-there c = record-there _ _ 19 c.in-19.is c.requires.Whole
+signed-there c = record-there _ _ 19 c.in-19.is c.requires.whole
 
 said : (c : AtAlign) →
     let a = c.args in
@@ -96,7 +96,7 @@ unfolding u8
 said c =
     let start = given c in
     let order = to-order c in
-    bits-say _ _ start.requires.Whole start.requires.at_bound order.wide64-width.ensures.0 order.order_of-order.ensures c.wide64-exponent.ensures.0
+    bits-say _ _ start.requires.whole start.requires.at_bound order.wide64-width.ensures.0 order.order_of-order.ensures c.wide64-exponent.ensures.0
 
 sees : (c : AtKind) {r : Seen} (k : Sort) (i ro : ℕ) →
     let a = c.args in
@@ -226,5 +226,5 @@ unfolding u8 shape_of shapes seen_in
 returns-in_default c =
     let kind = c.before.before in
     let start = given-kind kind.before in
-    let is = is-float _ _ start.requires.Whole start.requires.at_bound kind.in_default.in_default-own.rest in
+    let is = is-float _ _ start.requires.whole start.requires.at_bound kind.in_default.in_default-own.rest in
     sees kind.before float no_slot 0 c.float.ensures (λ u x. seen_of _ _ _ u _ _ _ _ x 20 is)

@@ -50,36 +50,36 @@ given c = c.before.before.before.before.before.before
 
 unsigned-there : (c : AtUnsigned) → c.args.at + 3 ≤ length c.args.table.now
 unfolding record_size shape_of shapes u8
-unsigned-there c = record-there _ _ 21 c.in-21.is c.requires.Whole
+unsigned-there c = record-there _ _ 21 c.in-21.is c.requires.whole
 
 signed-there : (c : AtSigned) → c.args.at + 2 ≤ length c.args.table.now
 unfolding record_size shape_of shapes u8
-signed-there c = record-there _ _ 22 c.in-22.is c.requires.Whole
+signed-there c = record-there _ _ 22 c.in-22.is c.requires.whole
 
 text-there : (c : AtText) → c.args.at + 3 ≤ length c.args.table.now
 unfolding record_size shape_of shapes u8
-text-there c = record-there _ _ 24 c.in-24.is c.requires.Whole
+text-there c = record-there _ _ 24 c.in-24.is c.requires.whole
 
 blob-there : (c : AtBlob) → c.args.at + 4 ≤ length c.args.table.now
 unfolding record_size shape_of shapes u8
-blob-there c = record-there _ _ 25 c.in-25.is c.requires.Whole
+blob-there c = record-there _ _ 25 c.in-25.is c.requires.whole
 
 -- The needs: kinds 16 to 20
 
 pub bounds-table-at : goal.bounds-table-at
-bounds-table-at c = whole-inside _ _ _ c.requires.Whole
+bounds-table-at c = whole-inside _ _ _ c.requires.whole
 
 pub see_bits-requires : goal.see_bits-requires
 unfolding u8
 see_bits-requires c =
     let start = to_start c.before.before in
-    record { Whole = start.requires.Whole; at_bound = c.if-table-at-lt-FIRST_OF_BYTES.true; framed = start.requires.framed }
+    record { whole = start.requires.whole; at_bound = c.if-table-at-lt-FIRST_OF_BYTES.true; framed = start.requires.framed }
 
 pub returns-then-table-at-lt-FIRST_OF_BYTES : goal.returns-then-table-at-lt-FIRST_OF_BYTES
 returns-then-table-at-lt-FIRST_OF_BYTES c = c.see_bits.ensures _ _
 
 pub bounds-table-at-2 : goal.bounds-table-at-2
-bounds-table-at-2 c = whole-inside _ _ _ c.requires.Whole
+bounds-table-at-2 c = whole-inside _ _ _ c.requires.whole
 
 -- Kind 21
 
@@ -157,7 +157,7 @@ static_blob-requires c =
 -- Kinds 26 and 27
 
 pub bounds-table-at-in_default : goal.bounds-table-at-in_default
-bounds-table-at-in_default c = whole-inside _ _ _ c.requires.Whole
+bounds-table-at-in_default c = whole-inside _ _ _ c.requires.whole
 
 -- What is seen, by the kind
 
