@@ -173,7 +173,7 @@ reading-start w s kind some room framed held =
       listed = [];
       list = none-listed w.list;
       room = omega arith;
-      rest = rw (IsWhole) (sym (none-in-front (all w)));
+      rest = rw (whole) (sym (none-in-front (all w)));
     }
 
 -- one leaf of some, as the definition says

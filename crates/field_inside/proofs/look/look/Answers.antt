@@ -120,7 +120,9 @@ variant-told c =
 -- The kind
 
 pub bounds-table-at : goal.bounds-table-at
-bounds-table-at c = omega (arith, record-in c.before)
+bounds-table-at c =
+    let holder = c.requires.holder_stands in
+    omega (arith, record-there holder, holder.limit)
 
 -- A structure
 

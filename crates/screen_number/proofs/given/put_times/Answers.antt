@@ -26,15 +26,9 @@ loop-i-smaller c = omega arith
 
 pub loop-i-preserved : goal.loop-i-preserved
 loop-i-preserved c =
-<<<<<<< HEAD
-    let at = c.before.before in
-    let a = at.args in (
-      ap (λ l. set l (a.at + at.loop-i.i) a.b) at.loop-i.invariant.0 ∙ times-step a.out.now a.at at.loop-i.i a.b,
-=======
     let a = c.args in
     let l = c.loop-i in (
       ap (λ x. set x (a.at + l.i) a.b) l.invariant.0 ∙ times-step a.out.now a.at l.i a.b,
->>>>>>> d7c0ec341f56aa3fadb07c0d84386f076f2f192d
       omega arith,
       length-set l.out (a.at + l.i) a.b ∙ l.invariant.2,
     )
