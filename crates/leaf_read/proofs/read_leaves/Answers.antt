@@ -184,7 +184,8 @@ pub returns-in-Stops : goal.returns-in-Stops
 returns-in-Stops c =
     let told = c.before.before.before in
     let seen = stops told in
-    rw c.stopped.ensures (answer-stops seen.loop-stop.invariant (sees seen) told.in-Stops.is)
+    let both = answer-stops seen.loop-stop.invariant (sees seen) told.in-Stops.is in
+    record { value = rw c.stopped.ensures both.0; list_after = both.1 }
 
 pub offset_bounds-list-used : goal.offset_bounds-list-used
 offset_bounds-list-used c = let i = within (leaf (other c.before)) in omega (arith, i.0, i.1, i.2)
@@ -217,8 +218,8 @@ returns-in-OtherUuid c =
     let listed = c.before.before.before.before.before in
     let told = other-told listed in
     let seen = other told in
-    rw (c.stopped-in-OtherUuid.ensures, c.further.ensures)
-    (answer-other seen.loop-stop.invariant (sees seen) told.in-OtherUuid.is (other-list listed))
+    let both = answer-other seen.loop-stop.invariant (sees seen) told.in-OtherUuid.is (other-list listed) in
+    record { value = rw (c.stopped-in-OtherUuid.ensures, c.further.ensures) both.0; list_after = both.1 }
 
 pub offset_bounds-list-used-in-Field : goal.offset_bounds-list-used-in-Field
 offset_bounds-list-used-in-Field c = let i = within (leaf (due c.before.before)) in omega (arith, i.0, i.1, i.2)
@@ -270,7 +271,8 @@ returns-then-ends c =
     let told = due-told listed in
     let seen = due told in
     let last = answer-last seen.loop-stop.invariant _ (sees seen) told.in-Field.is (due-list listed) (there next) in
-    rw c.further-place.ensures (last c.ends.ensures c.if-ends.true)
+    let both = last c.ends.ensures c.if-ends.true in
+    record { value = rw c.further-place.ensures both.0; list_after = both.1 }
 
 pub loop-stop-smaller : goal.loop-stop-smaller
 loop-stop-smaller c = omega (arith, c.loop-stop.invariant.some)

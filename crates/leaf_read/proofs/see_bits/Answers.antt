@@ -152,8 +152,7 @@ find_bits-found-requires c = record { framed = c.requires.framed; width_bound = 
 
 pub bounds-table-at-4 : goal.bounds-table-at-4
 bounds-table-at-4 c =
-    let start = given-kind c.before in
-    omega (arith, there start, start.well_formed.0)
+    omega (arith, bits-there _ _ c.requires.whole c.requires.at_bound, c.well_formed.0)
 
 pub overflow_add-at-in-17 : goal.overflow_add-at-in-17
 overflow_add-at-in-17 c = omega (arith, boolean-there c.before, c.well_formed.0)
