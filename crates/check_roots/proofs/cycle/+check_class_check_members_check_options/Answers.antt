@@ -1,12 +1,16 @@
 -- A class with no fault has the bytes that its kind wants; each return is the law of its kind. A walk of members or options is what is
 -- left of it.
-use Rattle.std.proofs.Common.{◌≡◌, ◌+◌, ◌-◌, ◌<◌, ◌≤◌, ℕ, length, refl, sym, ◌∙◌, arith, length-set}
-use Rattle.table_offsets.specs.Check.{latest}
+use Rattle.std.proofs.Common.{◌≡◌, ◌-◌, ◌<◌, ℕ, List, length, refl, sym, ◌∙◌, arith, length-set}
+use Rattle.table_offsets.specs.Check.{latest, class_fault}
+use Rattle.table_offsets.specs.declared.Under.{Under}
 use Rattle.table_offsets.proofs.Descent.{class-bad, on-members, on-static, on-dynamic, on-optional-bad, on-optional, on-variant, on-leaf}
-use Rattle.table_offsets.proofs.Sound.{sound, at-most-32, option-fine}
+use Rattle.table_offsets.proofs.Sound.{Sound, sound, at-most-32, option-fine}
 use Rattle.table_offsets.proofs.Walked.{members-bad, members-fine, members-none}
 use Rattle.table_offsets.proofs.Walked.{options-stop, options-range, options-class, options-fine, options-none}
 use Rattle.check_roots.proofs.cycle.+check_class_check_members_check_options.Goals as goal
+
+whole : {n left at : ℕ} {u : Under} {t : List ℕ} → n ≡ class_fault u left t at → n ≡ 0 → Sound u left t at
+whole asked fine = sound _ _ _ _ (sym asked ∙ fine)
 
 -- The class's own fault, and its two first bytes
 
@@ -14,75 +18,75 @@ pub check_class-returns-then-f-ne-NO_FAULT : goal.check_class-returns-then-f-ne-
 check_class-returns-then-f-ne-NO_FAULT t c = class-bad _ _ _ _ _ c.class_fault-f.ensures c.if-f-ne-NO_FAULT.true
 
 pub check_class-bounds-table-at : goal.check_class-bounds-table-at
-check_class-bounds-table-at t c = (sound _ _ _ _ (sym c.class_fault-f.ensures ∙ c.if-f-ne-NO_FAULT.false)).within
+check_class-bounds-table-at t c = (whole c.class_fault-f.ensures c.if-f-ne-NO_FAULT.false).within
 
 pub check_class-overflow_sub-deeper : goal.check_class-overflow_sub-deeper
-check_class-overflow_sub-deeper t c = (sound _ _ _ _ (sym c.class_fault-f.ensures ∙ c.if-f-ne-NO_FAULT.false)).level
+check_class-overflow_sub-deeper t c = (whole c.class_fault-f.ensures c.if-f-ne-NO_FAULT.false).level
 
 pub check_class-overflow_add-at : goal.check_class-overflow_add-at
 check_class-overflow_add-at t c =
-    omega (arith, (sound _ _ _ _ (sym c.class_fault-f.ensures ∙ c.if-f-ne-NO_FAULT.false)).within, c.requires)
+    omega (arith, (whole c.class_fault-f.ensures c.if-f-ne-NO_FAULT.false).within, c.requires)
 
 pub check_class-overflow_add-at-2 : goal.check_class-overflow_add-at-2
 check_class-overflow_add-at-2 t c =
-    omega (arith, (sound _ _ _ _ (sym c.class_fault-f.ensures ∙ c.if-f-ne-NO_FAULT.false)).within, c.requires)
+    omega (arith, (whole c.class_fault-f.ensures c.if-f-ne-NO_FAULT.false).within, c.requires)
 
 -- What it holds: members, an element, the ranges and the class of an optional, options
 
 pub check_class-overflow_add-at-in-28 : goal.check_class-overflow_add-at-in-28
 check_class-overflow_add-at-in-28 t c =
-    omega (arith, (sound _ _ _ _ (sym c.class_fault-f.ensures ∙ c.if-f-ne-NO_FAULT.false)).within, c.requires)
+    omega (arith, (whole c.class_fault-f.ensures c.if-f-ne-NO_FAULT.false).within, c.requires)
 
 pub check_class-check_members-requires : goal.check_class-check_members-requires
 check_class-check_members-requires t c =
-    (omega (arith, (sound _ _ _ _ (sym c.class_fault-f.ensures ∙ c.if-f-ne-NO_FAULT.false)).level, c.decreases), c.requires)
+    (omega (arith, (whole c.class_fault-f.ensures c.if-f-ne-NO_FAULT.false).level, c.decreases), c.requires)
 
 pub check_class-overflow_add-at-in-29 : goal.check_class-overflow_add-at-in-29
 check_class-overflow_add-at-in-29 t c =
-    omega (arith, (sound _ _ _ _ (sym c.class_fault-f.ensures ∙ c.if-f-ne-NO_FAULT.false)).within, c.requires)
+    omega (arith, (whole c.class_fault-f.ensures c.if-f-ne-NO_FAULT.false).within, c.requires)
 
 pub check_class-check_class-requires : goal.check_class-check_class-requires
 check_class-check_class-requires t c =
-    (omega (arith, (sound _ _ _ _ (sym c.class_fault-f.ensures ∙ c.if-f-ne-NO_FAULT.false)).level, c.decreases), c.requires)
+    (omega (arith, (whole c.class_fault-f.ensures c.if-f-ne-NO_FAULT.false).level, c.decreases), c.requires)
 
 pub check_class-overflow_add-at-in-30 : goal.check_class-overflow_add-at-in-30
 check_class-overflow_add-at-in-30 t c =
-    omega (arith, (sound _ _ _ _ (sym c.class_fault-f.ensures ∙ c.if-f-ne-NO_FAULT.false)).within, c.requires)
+    omega (arith, (whole c.class_fault-f.ensures c.if-f-ne-NO_FAULT.false).within, c.requires)
 
 pub check_class-check_class-requires-in-30 : goal.check_class-check_class-requires-in-30
 check_class-check_class-requires-in-30 t c =
-    (omega (arith, (sound _ _ _ _ (sym c.class_fault-f.ensures ∙ c.if-f-ne-NO_FAULT.false)).level, c.decreases), c.requires)
+    (omega (arith, (whole c.class_fault-f.ensures c.if-f-ne-NO_FAULT.false).level, c.decreases), c.requires)
 
 pub check_class-overflow_add-ranges : goal.check_class-overflow_add-ranges
 check_class-overflow_add-ranges t c =
-    omega (arith, (sound _ _ _ _ (sym c.class_fault-f.ensures ∙ c.if-f-ne-NO_FAULT.false)).within, c.requires)
+    omega (arith, (whole c.class_fault-f.ensures c.if-f-ne-NO_FAULT.false).within, c.requires)
 
 pub check_class-check_ranges-r-requires : goal.check_class-check_ranges-r-requires
 check_class-check_ranges-r-requires t c =
-    omega (arith, (sound _ _ _ _ (sym c.class_fault-f.ensures ∙ c.if-f-ne-NO_FAULT.false)).within, c.requires)
+    omega (arith, (whole c.class_fault-f.ensures c.if-f-ne-NO_FAULT.false).within, c.requires)
 
 pub check_class-check_class-requires-in-Fine : goal.check_class-check_class-requires-in-Fine
 check_class-check_class-requires-in-Fine t c =
-    (omega (arith, (sound _ _ _ _ (sym c.class_fault-f.ensures ∙ c.if-f-ne-NO_FAULT.false)).level, c.decreases), c.requires)
+    (omega (arith, (whole c.class_fault-f.ensures c.if-f-ne-NO_FAULT.false).level, c.decreases), c.requires)
 
 pub check_class-overflow_add-at-in-32 : goal.check_class-overflow_add-at-in-32
 check_class-overflow_add-at-in-32 t c =
-    omega (arith, (sound _ _ _ _ (sym c.class_fault-f.ensures ∙ c.if-f-ne-NO_FAULT.false)).within, c.requires)
+    omega (arith, (whole c.class_fault-f.ensures c.if-f-ne-NO_FAULT.false).within, c.requires)
 
 pub check_class-check_options-requires : goal.check_class-check_options-requires
 check_class-check_options-requires t c =
-    let w = sound _ _ _ _ (sym c.class_fault-f.ensures ∙ c.if-f-ne-NO_FAULT.false) in
+    let w = whole c.class_fault-f.ensures c.if-f-ne-NO_FAULT.false in
     let most = at-most-32 _ _ c.in-32.is w.numbers in
     let second = c.wide-second.ensures.0 ∙ c.byte-2.ensures in
     (omega (arith, w.level, c.decreases), (c.requires, (omega (arith, w.within, c.requires), omega (arith, most, second))))
 
 pub check_class-overflow_add-result : goal.check_class-overflow_add-result
 check_class-overflow_add-result t c =
-    omega (arith, (sound _ _ _ _ (sym c.class_fault-f.ensures ∙ c.if-f-ne-NO_FAULT.false)).within, c.requires)
+    omega (arith, (whole c.class_fault-f.ensures c.if-f-ne-NO_FAULT.false).within, c.requires)
 
 pub check_class-overflow_add-result-in_default : goal.check_class-overflow_add-result-in_default
 check_class-overflow_add-result-in_default t c =
-    omega (arith, (sound _ _ _ _ (sym c.class_fault-f.ensures ∙ c.if-f-ne-NO_FAULT.false)).within, c.requires, c.wide.ensures.1)
+    omega (arith, (whole c.class_fault-f.ensures c.if-f-ne-NO_FAULT.false).within, c.requires, c.wide.ensures.1)
 
 -- The whole walk, by kind
 
