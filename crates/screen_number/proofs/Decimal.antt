@@ -3,15 +3,14 @@
 use mathlib.Core.Path.{◌≡◌, refl, sym, ap, ◌∙◌}
 use mathlib.Core.Logic.{⊎_elim}
 use mathlib.Core.List.{List, [], ◌∷◌, ◌++◌}
-use mathlib.Core.Bool.{true, false}
 use Prim.Native.Nat.{ℕ, zero, suc, ◌+◌, ◌-◌, ◌*◌, ◌/◌, ◌%◌, ◌^◌, ◌<◌, ◌≤◌}
 use native.Mathlib.Nat.{pow-suc}
 use native.Mathlib.Omega.{arith}
 use borrow.Author.Tests.{lt-ltb, le-ltb}
 use lib.ListN.{length, length-append}
 use Rattle.facts.proofs.Numbers.{lt-or-ge}
-use Rattle.screen_number.specs.Number.{decimal_of, decimal, signed_decimal, minus}
-use Rattle.screen_number.specs.Back.{number_from, number_of, value_of, is_end}
+use Rattle.screen_number.specs.Number.{decimal_of, decimal, signed_decimal}
+use Rattle.screen_number.specs.Back.{number_from, number_of}
 
 -- the two clauses
 pub one-digit : (r n : ℕ) → n < 10 → decimal_of (suc r) n ≡ (48 + n) ∷ []

@@ -1,52 +1,41 @@
 -- The blanks that the digits leave, and the digits behind them.
-use mathlib.Core.Path.{◌≡◌, ap, ◌∙◌}
-use Prim.Native.Nat.{◌-◌}
-use native.Mathlib.Omega.{arith}
-use lib.ListN.{length}
+use Rattle.std.proofs.Common.{◌≡◌, ◌-◌, ℕ, length, ap, ◌∙◌, arith}
 use Rattle.screen_number.specs.Number.{blank, decimal, times}
-use Rattle.screen_number.proofs.Laid.{laid, both, then, shown-as, right-length, length-times, fills-right}
+use Rattle.screen_number.proofs.Laid.{laid, then, shown-as, right-length, length-times, fills-right}
 use Rattle.screen_number.proofs.column.put_right.Goals as goal
-use Rattle.screen_number.proofs.column.put_right.Lts as lts
-use Rattle.screen_number.proofs.column.put_right.Tie as tie
-use Rattle.screen_number.proofs.column.put_right.Reads as reads
 
--- Places of the code, and what is known at them
-abbrev AtBlanks : Type 0
-AtBlanks = lts.After-lacking tie.the-claims reads.Pre reads.Post tie.handed_clauses
-
-filled : (c : AtBlanks) → c.lacking-blanks.result ≡ c.args.width - length
-    (decimal c.args.n)
-filled c = c.lacking-blanks.ensures ∙ ap (λ k. c.args.width - k) c.figures.ensures
+-- How many they are
+filled : {left taken : ℕ} (width n : ℕ) → left ≡ width - taken → taken ≡ length (decimal n) → left ≡ width - length (decimal n)
+filled width n e f = e ∙ ap (λ k. width - k) f
 
 pub put_times-from-requires : goal.put_times-from-requires
 put_times-from-requires c =
-    let a = c.before.before.before.before in
-    omega (arith, a.well_formed, right-length a.args.width (decimal a.args.n), filled c.before)
+    let a = c.args in
+    omega (arith, c.requires, right-length a.width (decimal a.n), filled a.width a.n c.lacking-blanks.ensures c.figures.ensures)
 
 pub put_decimal-requires : goal.put_decimal-requires
 put_decimal-requires c =
-    let blanks = c.before.before.before.before.before in
-    let a = blanks.before.before.before in
+    let a = c.args in
     let put = c.put_times-from in
     omega (
       arith,
-      a.well_formed,
-      right-length a.args.width (decimal a.args.n),
-      filled blanks,
+      c.requires,
+      right-length a.width (decimal a.n),
+      filled a.width a.n c.lacking-blanks.ensures c.figures.ensures,
       put.ensures.value,
       put.auto.out,
-      length-times
-          blanks.lacking-blanks.result blank,
+      length-times c.lacking-blanks.result blank,
     )
 
 pub returns : goal.returns
 returns c =
-    let blanks = c.before.before.before.before.before.before.before.before.before in
-    let a = blanks.args in
+    let a = c.args in
     let put = c.put_times-from in
     let last = c.put_decimal in
-    let both = both (shown-as
-    (then
-    (laid a.out.now put.new.out a.at put.result (times blanks.lacking-blanks.result blank) put.ensures)
-    (laid put.new.out last.new.out put.result last.result (decimal a.n) last.ensures))
-    (fills-right a.width blanks.lacking-blanks.result (decimal a.n) (filled blanks))) in record { value = both.0; out_after = both.1 }
+    let all =
+    shown-as
+    (then (laid a.out.now put.new.out a.at put.result (times c.lacking-blanks.result blank) (put.ensures.value, put.ensures.out_after))
+    (laid put.new.out last.new.out put.result last.result (decimal a.n) (last.ensures.value, last.ensures.out_after)))
+    (fills-right a.width c.lacking-blanks.result (decimal a.n) (filled a.width a.n c.lacking-blanks.ensures c.figures.ensures))
+    in
+    record { value = all.end; out_after = all.list }

@@ -1,6 +1,6 @@
 -- A word below 2 to the 63 is its digits; any other, a minus sign and those of what it lacks to 2 to the 64.
 use mathlib.Core.Path.{ap, ◌∙◌}
-use Prim.Native.Nat.{◌+◌, ◌-◌}
+use Prim.Native.Nat.{◌+◌}
 use native.Mathlib.Omega.{arith}
 use lib.ListN.{length, length-set}
 use lib.Seq.{sets}
@@ -19,7 +19,11 @@ shape_of-out-then-word-lt9223372036854775808 c = c.put_decimal.auto.out
 pub returns-then-word-lt9223372036854775808 : goal.returns-then-word-lt9223372036854775808
 returns-then-word-lt9223372036854775808 c =
     let a = c.args in
-    let e = signed_low a.word c.if-word-lt9223372036854775808.true in record { value = c.put_decimal.ensures.value ∙ ap (λ x. a.at + length x) e; out_after = c.put_decimal.ensures.out_after ∙ ap (λ x. sets a.out.now a.at x) e }
+    let e = signed_low a.word c.if-word-lt9223372036854775808.true in
+    record {
+      value = c.put_decimal.ensures.value ∙ ap (λ x. a.at + length x) e;
+      out_after = c.put_decimal.ensures.out_after ∙ ap (λ x. sets a.out.now a.at x) e;
+    }
 
 pub bounds-out-at : goal.bounds-out-at
 bounds-out-at c =
@@ -56,4 +60,8 @@ shape_of-out c =
 pub returns : goal.returns
 returns c =
     let a = c.args in
-    let high = c.if-word-lt9223372036854775808.false in record { value = omega (arith, c.put_decimal-2.ensures.value, high-length a.word high (omega arith)); out_after = c.put_decimal-2.ensures.out_after ∙ high-laid a.out.now a.at a.word high (omega arith) }
+    let high = c.if-word-lt9223372036854775808.false in
+    record {
+      value = omega (arith, c.put_decimal-2.ensures.value, high-length a.word high (omega arith));
+      out_after = c.put_decimal-2.ensures.out_after ∙ high-laid a.out.now a.at a.word high (omega arith);
+    }

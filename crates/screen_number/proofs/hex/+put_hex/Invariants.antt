@@ -1,0 +1,5 @@
+-- The digits that are left fall.
+use Rattle.screen_number.proofs.hex.+put_hex.Given as goal
+
+abbrev pub decreases-put_hex : goal.decreases-put_hex
+decreases-put_hex l = l.digits
