@@ -1,4 +1,5 @@
 -- By the kind of the record.
+use native.Mathlib.Omega.{arith}
 use mathlib.Core.Path.{sym, ◌∙◌}
 use borrow.Author.Tests.{eq-eqb, ne_eqb}
 use Rattle.table_offsets.specs.Check.{pick_n}
@@ -15,4 +16,6 @@ returns-in-30 c = simp (sym c.byte-k.ensures, c.in-30.is)
 
 pub returns-in_default : goal.returns-in_default
 unfolding home_within pick_n
-returns-in_default c = simp (sym c.byte-k.ensures, ne_eqb _ _ c.in_default.in_default-own.rest.0.1, ne_eqb _ _ c.in_default.in_default-own.rest.1)
+returns-in_default c =
+    let k = c.byte-k.result in
+    simp (sym c.byte-k.ensures, ne_eqb k 29 (omega arith), ne_eqb k 30 (omega arith))

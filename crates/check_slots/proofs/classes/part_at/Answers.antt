@@ -1,4 +1,5 @@
 -- By the kind of the record.
+use native.Mathlib.Omega.{arith}
 use mathlib.Core.Path.{sym}
 use borrow.Author.Tests.{ne_eqb}
 use Rattle.table_offsets.specs.Check.{pick_n}
@@ -8,14 +9,7 @@ use Rattle.check_slots.proofs.classes.part_at.Goals as goal
 pub returns-in-31 : goal.returns-in-31
 unfolding part_at pick_n
 returns-in-31 c =
-    let k = c.before.before.before.before in
-    simp (
-      sym k.byte-k.ensures,
-      k.in-31.is,
-      sym c.byte.ensures,
-      sym c.wide.ensures.0,
-      c.behind_ranges.ensures,
-    )
+    simp (sym c.byte-k.ensures, c.in-31.is, sym c.byte.ensures, sym c.wide.ensures.0, c.behind_ranges.ensures)
 
 pub returns-in-32 : goal.returns-in-32
 unfolding part_at pick_n
@@ -23,4 +17,6 @@ returns-in-32 c = simp (sym c.byte-k.ensures, c.in-32.is, c.behind_option.ensure
 
 pub returns-in_default : goal.returns-in_default
 unfolding part_at pick_n
-returns-in_default c = simp (sym c.byte-k.ensures, ne_eqb _ _ c.in_default.in_default-own.rest.0.1, ne_eqb _ _ c.in_default.in_default-own.rest.1)
+returns-in_default c =
+    let k = c.byte-k.result in
+    simp (sym c.byte-k.ensures, ne_eqb k 31 (omega arith), ne_eqb k 32 (omega arith))

@@ -5,13 +5,19 @@ use Rattle.screen_number.proofs.Laid.{laid, then, shown-as, right-length, length
 use Rattle.screen_number.proofs.column.put_signed_right.Goals as goal
 
 -- How many they are
-filled : {left taken : ℕ} (width n : ℕ) → left ≡ width - taken → taken ≡ length (signed_decimal n) → left ≡ width - length (signed_decimal n)
+filled : {left taken : ℕ} (width n : ℕ) → left ≡ width - taken → taken ≡ length (signed_decimal n)
+    → left ≡ width - length (signed_decimal n)
 filled width n e f = e ∙ ap (λ k. width - k) f
 
 pub put_times-from-requires : goal.put_times-from-requires
 put_times-from-requires c =
     let a = c.args in
-    omega (arith, c.requires, right-length a.width (signed_decimal a.word), filled a.width a.word c.lacking-free.ensures c.signed_figures.ensures)
+    omega (
+      arith,
+      c.requires,
+      right-length a.width (signed_decimal a.word),
+      filled a.width a.word c.lacking-free.ensures c.signed_figures.ensures,
+    )
 
 pub put_signed-requires : goal.put_signed-requires
 put_signed-requires c =
@@ -32,10 +38,11 @@ returns c =
     let a = c.args in
     let put = c.put_times-from in
     let last = c.put_signed in
+    let free = filled a.width a.word c.lacking-free.ensures c.signed_figures.ensures in
     let all =
     shown-as
     (then (laid a.out.now put.new.out a.at put.result (times c.lacking-free.result blank) (put.ensures.value, put.ensures.out_after))
     (laid put.new.out last.new.out put.result last.result (signed_decimal a.word) (last.ensures.value, last.ensures.out_after)))
-    (fills-right a.width c.lacking-free.result (signed_decimal a.word) (filled a.width a.word c.lacking-free.ensures c.signed_figures.ensures))
+    (fills-right a.width c.lacking-free.result (signed_decimal a.word) free)
     in
     record { value = all.end; out_after = all.list }

@@ -27,11 +27,11 @@ loop-done-smaller c = omega arith
 
 pub loop-done-preserved : goal.loop-done-preserved
 loop-done-preserved c =
-    let at = c.before.before.before in
-    let a = at.args in (
-      copied-step a.out.now at.loop-done.out a.at at.loop-done.done a.given.now (omega arith) at.loop-done.invariant.0,
+    let a = c.args in
+    let l = c.loop-done in (
+      copied-step a.out.now l.out a.at l.done a.given.now (omega arith) l.invariant.0,
       omega arith,
-      length-set at.loop-done.out (a.at + at.loop-done.done) (get_or a.given.now at.loop-done.done 0) ∙ at.loop-done.invariant.2,
+      length-set l.out (a.at + l.done) (get_or a.given.now l.done 0) ∙ l.invariant.2,
     )
 
 pub overflow_add-result : goal.overflow_add-result
@@ -43,4 +43,9 @@ shape_of-out c = c.loop-done.invariant.2
 pub returns : goal.returns
 returns c =
     let a = c.args in
-    let all : c.loop-done.done ≡ length a.given.now = omega arith in record { value = ap (λ k. a.at + k) all; out_after = c.loop-done.invariant.0 ∙ ap (λ x. sets a.out.now a.at x) (take_all c.loop-done.done a.given.now (omega arith)) }
+    let l = c.loop-done in
+    let all : l.done ≡ length a.given.now = omega arith in
+    record {
+      value = ap (λ k. a.at + k) all;
+      out_after = l.invariant.0 ∙ ap (λ x. sets a.out.now a.at x) (take_all l.done a.given.now (omega arith));
+    }

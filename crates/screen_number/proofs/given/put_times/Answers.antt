@@ -26,11 +26,11 @@ loop-i-smaller c = omega arith
 
 pub loop-i-preserved : goal.loop-i-preserved
 loop-i-preserved c =
-    let at = c.before.before in
-    let a = at.args in (
-      ap (λ l. set l (a.at + at.loop-i.i) a.b) at.loop-i.invariant.0 ∙ times-step a.out.now a.at at.loop-i.i a.b,
+    let a = c.args in
+    let l = c.loop-i in (
+      ap (λ x. set x (a.at + l.i) a.b) l.invariant.0 ∙ times-step a.out.now a.at l.i a.b,
       omega arith,
-      length-set at.loop-i.out (a.at + at.loop-i.i) a.b ∙ at.loop-i.invariant.2,
+      length-set l.out (a.at + l.i) a.b ∙ l.invariant.2,
     )
 
 pub overflow_add-result : goal.overflow_add-result
@@ -42,8 +42,8 @@ shape_of-out c = c.loop-i.invariant.2
 pub returns : goal.returns
 returns c =
     let a = c.args in
-    let all : c.loop-i.i ≡ c.args.n = omega arith in record {
+    let all : c.loop-i.i ≡ a.n = omega arith in
+    record {
       value = ap (λ k. a.at + k) (sym (length-times a.n a.b));
-      out_after = c.loop-i.invariant.0 ∙ ap
-          (λ k. sets a.out.now a.at (times k a.b)) all;
+      out_after = c.loop-i.invariant.0 ∙ ap (λ k. sets a.out.now a.at (times k a.b)) all;
     }
