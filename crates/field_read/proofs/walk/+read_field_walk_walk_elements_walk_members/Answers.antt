@@ -35,6 +35,7 @@ use Rattle.listing.proofs.at_place.Reads as at-place-reads
 use Rattle.listing.proofs.entry.is_full.Reads as is-full-reads
 use Rattle.listing.proofs.role.apply.Reads as apply-reads
 use Rattle.table_bytes.proofs.wide.Reads as wide-reads
+use borrow.Author.Rules.{rules}
 use borrow.Author.Tests.{not-true, not-false}
 use mathlib.Core.Path.{◌≡◌, refl, sym, ◌∙◌}
 use mathlib.Core.Bool.{true, false}
@@ -83,9 +84,14 @@ use Rattle.field_read.proofs.Told.{taken-round, FirstAt, taken_next, holds-first
 use Rattle.field_read.proofs.Told.{field-did, field-run, border-some, forgot-one}
 use Rattle.field_read.proofs.Walks.{walk_loop, walk_start, walk-stopped, walk_end, elements-run-stands, elements-run-reads}
 use Rattle.field_read.proofs.walk.+read_field_walk_walk_elements_walk_members.Goals as goal
-use Rattle.field_read.proofs.walk.+read_field_walk_walk_elements_walk_members.Goals.{read_field-then-i-lt64, read_field-else-i-lt64, read_field-then-o, read_field-else-o}
-use Rattle.field_read.proofs.walk.+read_field_walk_walk_elements_walk_members.Goals.{walk-then-is_border+then-run-le-ONE_SLOT, walk-then-is_border+else-run-le-ONE_SLOT, walk-else-is_border}
-use Rattle.field_read.proofs.walk.+read_field_walk_walk_elements_walk_members.Goals.{walk-then-i-lt64, walk-else-i-lt64, walk-then-to-lt64, walk-else-to-lt64, walk-then-i-lt64-2, walk-else-i-lt64-2}
+use Rattle.field_read.proofs.walk.+read_field_walk_walk_elements_walk_members.Goals.{read_field-then-i-lt64, read_field-else-i-lt64}
+use Rattle.field_read.proofs.walk.+read_field_walk_walk_elements_walk_members.Goals.{read_field-then-o, read_field-else-o}
+use Rattle.field_read.proofs.walk.+read_field_walk_walk_elements_walk_members.Goals.{walk-then-is_border+then-run-le-ONE_SLOT}
+use Rattle.field_read.proofs.walk.+read_field_walk_walk_elements_walk_members.Goals.{walk-then-is_border+else-run-le-ONE_SLOT}
+use Rattle.field_read.proofs.walk.+read_field_walk_walk_elements_walk_members.Goals.{walk-else-is_border}
+use Rattle.field_read.proofs.walk.+read_field_walk_walk_elements_walk_members.Goals.{walk-then-i-lt64, walk-else-i-lt64}
+use Rattle.field_read.proofs.walk.+read_field_walk_walk_elements_walk_members.Goals.{walk-then-to-lt64, walk-else-to-lt64}
+use Rattle.field_read.proofs.walk.+read_field_walk_walk_elements_walk_members.Goals.{walk-then-i-lt64-2, walk-else-i-lt64-2}
 
 abbrev read-field-calls : ℕ → read-field-lts.Claims
 read-field-calls t = (
@@ -199,8 +205,6 @@ module _ (t : ℕ) where
   one-depth : (c : AtInside) → 1 ≤ c.args.left
   one-depth c = omega (arith, depth-some _ _ _ (field-holder (inside-met c)).stands)
 
-  -- The slot that it reads, and its entry
-
   -- what they did, members or elements
   field-closed : (c : AtClosed) →
       let a = c.args in
@@ -213,10 +217,14 @@ module _ (t : ℕ) where
       let at = c.at_place-next.ensures in
       elim c.if-o.branch [
         | read_field-then-o w ↦
-            closed_same w.list-is w.r-is (elements-open h o.value o.list_after (was-opened i) w.if-o.true (rw (at) at w.walk_elements-r.ensures))
+            closed_same w.list-is w.r-is
+                (elements-open h o.value o.list_after (was-opened i) w.if-o.true (rw (at) at w.walk_elements-r.ensures))
         | read_field-else-o w ↦
-            closed_same w.list-is w.r-is (members-open h o.value o.list_after (was-opened i) w.if-o.false (rw (at) at w.walk_members-r.ensures))
+            closed_same w.list-is w.r-is
+                (members-open h o.value o.list_after (was-opened i) w.if-o.false (rw (at) at w.walk_members-r.ensures))
       ]
+
+-- The slot that it reads, and its entry
 
 pub read_field-slot_read-i-requires : goal.read_field-slot_read-i-requires
 read_field-slot_read-i-requires t c =
@@ -232,7 +240,11 @@ read_field-bounds-slots-i t c = omega arith
 pub read_field-open_field-o-requires : goal.read_field-open_field-o-requires
 read_field-open_field-o-requires t c =
     let h = field-holder t c.before.before.before in
-    record { holder_stands = can-look h; start_le_place = (h.framed.begun, omega (arith, h.framed.within, h.framed.ends, h.framed.small)); words_per_entry_in_bounds = h.room }
+    record {
+      holder_stands = can-look h;
+      start_le_place = (h.framed.begun, omega (arith, h.framed.within, h.framed.ends, h.framed.small));
+      words_per_entry_in_bounds = h.room;
+    }
 
 pub read_field-shape_of-list-then-not-o : goal.read_field-shape_of-list-then-not-o
 read_field-shape_of-list-then-not-o t c = c.open_field-o.auto.list
@@ -288,7 +300,7 @@ read_field-walk_members-r-requires t c =
     (omega (arith, i.decreases, one-depth t i), (inside.0, (h.noted, rw c.at_place-next.ensures inside.1)))
 
 pub read_field-behind_entry-requires : goal.read_field-behind_entry-requires
-read_field-behind_entry-requires t c = omega (arith, (field-closed t c.before).ranges)
+read_field-behind_entry-requires t c = omega (arith, (field-closed t c.before).fits)
 
 pub read_field-shape_of-list : goal.read_field-shape_of-list
 read_field-shape_of-list t c = (field-closed t c.before.before).same
@@ -353,11 +365,12 @@ walk-calls t = (
 )
 
 abbrev In-walk : (t : ℕ)
-    → ((calls : walk-lts.Claims) (pre : walk-lts.Pre-type) (post : walk-lts.Post-type) → walk-lts.invariant-loop → walk-lts.decreases-loop
-    → walk-lts.the-Clauses calls pre post → Type 0)
+    → ((calls : walk-lts.Claims) (pre : walk-lts.Pre-type) (post : walk-lts.Post-type) → walk-lts.invariant-loop
+    → walk-lts.decreases-loop → walk-lts.the-Clauses calls pre post → Type 0)
     → Type 0
 In-walk t N =
-    N (walk-calls t) (goal.walk-at t) walk.Post goal.the-walk-invariant-loop-only goal.the-walk-decreases-loop-only (goal.the-clauses-walk t)
+    N (walk-calls t) (goal.walk-at t) walk.Post goal.the-walk-invariant-loop-only goal.the-walk-decreases-loop-only
+    (goal.the-clauses-walk t)
 
 module _ (t : ℕ) where
   -- Places of the code: the stream's bytes are known; in front of the loop; a round's start, its run forward; a field left, no room for it,
@@ -721,9 +734,7 @@ module _ (t : ℕ) where
   table_fits c = omega (arith, c.well_formed.0)
 
   bytes : (c : AtLoop) → Bytes c.args.stream.now
-  bytes c i = omega (arith, c.shared_slice_known-5-1.given i)
-
-  -- The loop's start and its end
+  bytes c = search rules
 
   no_room : (c : AtFull) →
       let l = c.loop-only in
@@ -889,6 +900,8 @@ module _ (t : ℕ) where
       c.read_field-r.new.list
   field c = field-did (holds (read_told c)) (holder-next (read-holder c)) c.at-in-loop-only.ensures c.read_field-r.ensures
 
+-- The loop's start and its end
+
 pub walk-loop-only-init : goal.walk-loop-only-init
 walk-loop-only-init t c =
     let s = front-start t c.before in
@@ -930,8 +943,6 @@ walk-returns-then-is_full t c =
     let k = full-field t c.before.before in
     rw c.refused.ensures (stopped t (field-loop t k) (round-full (here t k) (some_left t k) (no_room t c.before.before)))
 
--- Room for an entry
-
 -- Leaves
 
 pub walk-bounds-table-next : goal.walk-bounds-table-next
@@ -941,7 +952,10 @@ pub walk-leaf_slot-i-requires : goal.walk-leaf_slot-i-requires
 unfolding u8
 walk-leaf_slot-i-requires t c =
     let past = c.before.before.before in
-    record { whole = leaf-whole _ _ _ (class-there t past) c.if-kind-lt-FIRST_THAT_HOLDS.true; at_bound = c.if-kind-lt-FIRST_THAT_HOLDS.true }
+    record {
+      whole = leaf-whole _ _ _ (class-there t past) c.if-kind-lt-FIRST_THAT_HOLDS.true;
+      at_bound = c.if-kind-lt-FIRST_THAT_HOLDS.true;
+    }
 
 pub walk-offset_bounds-slots-i : goal.walk-offset_bounds-slots-i
 walk-offset_bounds-slots-i t c = omega arith
@@ -975,11 +989,19 @@ walk-read_leaves-r-requires t c =
     let l = past.loop-only in
     let h = here t k in
     let noted = h.noted in
-    let count = c.count.ensures in record { standing = leaves-in-row h (some_left t k) c.is_element.ensures past.first-next.ensures count; from_bound = (
-          past.if-kind-lt-FIRST_THAT_HOLDS.true,
-          omega (arith, (some_left t k).some, count),
-          omega (arith, lent-room l.used l.list, room t (leaf_room t past)),
-        ); table_in_bounds = (noted.sized.room, λ d p v. (noted.classes d p v).size); table_in_bounds_2 = (noted.room, noted.numbers); framed = h.framed; held = past-unset past.if-is_border.slots _ h.many (leaf-told t past) }
+    let count = c.count.ensures in
+    record {
+      standing = leaves-in-row h (some_left t k) c.is_element.ensures past.first-next.ensures count;
+      from_bound = (
+        past.if-kind-lt-FIRST_THAT_HOLDS.true,
+        omega (arith, (some_left t k).some, count),
+        omega (arith, lent-room l.used l.list, room t (leaf_room t past)),
+      );
+      table_in_bounds = (noted.sized.room, λ d p v. (noted.classes d p v).size);
+      table_in_bounds_2 = (noted.room, noted.numbers);
+      framed = h.framed;
+      held = past-unset past.if-is_border.slots _ h.many (leaf-told t past);
+    }
 
 pub walk-overflow_add-used : goal.walk-overflow_add-used
 walk-overflow_add-used t c =
@@ -1106,7 +1128,12 @@ walk-enter_structure-o-requires t c =
     let l = k.loop-only in
     let h = holder-round t k in
     let there = class-there t (holder-class t k) in
-    let o = opens _ _ h.noted _ _ there k.if-kind-lt-FIRST_THAT_HOLDS.false in record { at_in_bounds = (slot-there t k, omega (arith, whole-inside _ _ _ there, o.aligns), o.align); start_le_from = (h.framed.begun, omega (arith, h.framed.within, h.framed.ends, h.framed.small)); words_per_entry_in_bounds = omega (arith, lent-room l.used l.list, room t (holder-room t k)) }
+    let o = opens _ _ h.noted _ _ there k.if-kind-lt-FIRST_THAT_HOLDS.false in
+    record {
+      at_in_bounds = (slot-there t k, omega (arith, whole-inside _ _ _ there, o.aligns), o.align);
+      start_le_from = (h.framed.begun, omega (arith, h.framed.within, h.framed.ends, h.framed.small));
+      words_per_entry_in_bounds = omega (arith, lent-room l.used l.list, room t (holder-room t k));
+    }
 
 pub walk-shape_of-list-then-not-o : goal.walk-shape_of-list-then-not-o
 walk-shape_of-list-then-not-o t c =
@@ -1202,7 +1229,12 @@ walk-open_field-o-requires t c =
     let past = c.before.before.before.before in
     let k = told-holder t past in
     let l = past.loop-only in
-    let h = holder-round t k in record { holder_stands = opens _ _ h.noted _ _ (class-there t (told-class t past)) k.if-kind-lt-FIRST_THAT_HOLDS.false; start_le_place = (h.framed.begun, omega (arith, h.framed.within, h.framed.ends, h.framed.small)); words_per_entry_in_bounds = omega (arith, lent-room l.used l.list, room t (told-room t past)) }
+    let h = holder-round t k in
+    record {
+      holder_stands = opens _ _ h.noted _ _ (class-there t (told-class t past)) k.if-kind-lt-FIRST_THAT_HOLDS.false;
+      start_le_place = (h.framed.begun, omega (arith, h.framed.within, h.framed.ends, h.framed.small));
+      words_per_entry_in_bounds = omega (arith, lent-room l.used l.list, room t (told-room t past));
+    }
 
 pub walk-shape_of-list-then-not-o-2 : goal.walk-shape_of-list-then-not-o-2
 walk-shape_of-list-then-not-o-2 t c =
@@ -1345,7 +1377,10 @@ walk_elements-returns t c =
 
 pub walk_members-walk-requires : goal.walk_members-walk-requires
 walk_members-walk-requires t c =
-    (omega (arith, c.decreases), (rw c.members.ensures (members-stand _ _ _ _ c.requires.whole_members), (c.requires.prepared, c.requires.framed)))
+    (
+      omega (arith, c.decreases),
+      (rw c.members.ensures (members-stand _ _ _ _ c.requires.whole_members), (c.requires.prepared, c.requires.framed)),
+    )
 
 pub walk_members-shape_of-list : goal.walk_members-shape_of-list
 walk_members-shape_of-list t c = c.walk.auto.list
