@@ -1,10 +1,11 @@
 -- Behind entry 4 one loop: a round reads of a run, or opens a field of it, or brings back a run that was put off, or takes a turn; 38 is
 -- asked behind all. What a round does is a law of field_read's Round and Apart, taken through Told, or of Rounds.
+use borrow.Author.Rules.{rules}
 use borrow.Author.Tests.{not-true, not-false}
 use mathlib.Core.Path.{◌≡◌, refl, sym, ◌∙◌}
 use mathlib.Core.Bool.{true, false}
 use mathlib.Core.List.{List}
-use mathlib.Core.Logic.{◌⊎◌, inl, inr, ⊎_elim}
+use mathlib.Core.Logic.{◌⊎◌, inl, inr}
 use native.Mathlib.Omega.{arith}
 use Prim.Native.Nat.{ℕ, ◌-◌, ◌+◌, ◌*◌, ◌^◌, ◌≤◌, ◌<◌}
 use lib.ListN.{length}
@@ -49,6 +50,8 @@ use Rattle.event_read.proofs.Ending.{packet-length, event-ended}
 use Rattle.event_read.proofs.Rounds.{Given, event_loop, EventRound, gone-on, put-off, come-back, begun-round, event-stopped}
 use Rattle.event_read.proofs.Rounds.{steps_left, opens-off, none-off, still-none, TurnRound, turn-round, round-ends}
 use Rattle.event_read.proofs.read_event.Goals as goal
+use Rattle.event_read.proofs.read_event.Goals.{then-is_border+then-run-le-ONE_SLOT, then-is_border+else-run-le-ONE_SLOT, else-is_border}
+use Rattle.event_read.proofs.read_event.Goals.{then-i-lt64, else-i-lt64, then-to-lt64, else-to-lt64, then-i-lt64-2, else-i-lt64-2}
 use Rattle.event_read.proofs.read_event.Lts as lts
 use Rattle.event_read.proofs.read_event.Tie as tie
 use Rattle.event_read.proofs.read_event.Reads as reads
@@ -61,7 +64,8 @@ abbrev AtStart : Type 0
 AtStart = lts.Start tie.the-claims reads.Pre reads.Post goal.the-invariant-loop-only goal.the-decreases-loop-only tie.handed_clauses
 
 abbrev AtStream : Type 0
-AtStream = lts.After-shared_slice_known6 tie.the-claims reads.Pre reads.Post goal.the-invariant-loop-only goal.the-decreases-loop-only tie.handed_clauses
+AtStream = lts.After-shared_slice_known6 tie.the-claims reads.Pre reads.Post
+    goal.the-invariant-loop-only goal.the-decreases-loop-only tie.handed_clauses
 
 abbrev AtNoEntry : Type 0
 AtNoEntry = lts.Then1 tie.the-claims reads.Pre reads.Post goal.the-invariant-loop-only goal.the-decreases-loop-only tie.handed_clauses
@@ -82,13 +86,15 @@ abbrev AtBorder : Type 0
 AtBorder = lts.Joined2 tie.the-claims reads.Pre reads.Post goal.the-invariant-loop-only goal.the-decreases-loop-only tie.handed_clauses
 
 abbrev AtForward : Type 0
-AtForward = lts.After-forward tie.the-claims reads.Pre reads.Post goal.the-invariant-loop-only goal.the-decreases-loop-only tie.handed_clauses
+AtForward = lts.After-forward tie.the-claims reads.Pre reads.Post
+    goal.the-invariant-loop-only goal.the-decreases-loop-only tie.handed_clauses
 
 abbrev AtOver : Type 0
 AtOver = lts.Then4 tie.the-claims reads.Pre reads.Post goal.the-invariant-loop-only goal.the-decreases-loop-only tie.handed_clauses
 
 abbrev AtTurned : Type 0
-AtTurned = lts.After-open_turn tie.the-claims reads.Pre reads.Post goal.the-invariant-loop-only goal.the-decreases-loop-only tie.handed_clauses
+AtTurned = lts.After-open_turn tie.the-claims reads.Pre reads.Post
+    goal.the-invariant-loop-only goal.the-decreases-loop-only tie.handed_clauses
 
 abbrev AtField : Type 0
 AtField = lts.Else4 tie.the-claims reads.Pre reads.Post goal.the-invariant-loop-only goal.the-decreases-loop-only tie.handed_clauses
@@ -106,7 +112,8 @@ abbrev AtLeaf : Type 0
 AtLeaf = lts.Joined9 tie.the-claims reads.Pre reads.Post goal.the-invariant-loop-only goal.the-decreases-loop-only tie.handed_clauses
 
 abbrev AtLeaves : Type 0
-AtLeaves = lts.After-read_leaves tie.the-claims reads.Pre reads.Post goal.the-invariant-loop-only goal.the-decreases-loop-only tie.handed_clauses
+AtLeaves = lts.After-read_leaves tie.the-claims reads.Pre reads.Post
+    goal.the-invariant-loop-only goal.the-decreases-loop-only tie.handed_clauses
 
 abbrev AtBehind : Type 0
 AtBehind = lts.After-behind tie.the-claims reads.Pre reads.Post goal.the-invariant-loop-only goal.the-decreases-loop-only tie.handed_clauses
@@ -115,7 +122,8 @@ abbrev AtDue : Type 0
 AtDue = lts.Joined11 tie.the-claims reads.Pre reads.Post goal.the-invariant-loop-only goal.the-decreases-loop-only tie.handed_clauses
 
 abbrev AtAdvanced : Type 0
-AtAdvanced = lts.After-advance tie.the-claims reads.Pre reads.Post goal.the-invariant-loop-only goal.the-decreases-loop-only tie.handed_clauses
+AtAdvanced = lts.After-advance tie.the-claims reads.Pre reads.Post
+    goal.the-invariant-loop-only goal.the-decreases-loop-only tie.handed_clauses
 
 abbrev AtApplied : Type 0
 AtApplied = lts.After-apply tie.the-claims reads.Pre reads.Post goal.the-invariant-loop-only goal.the-decreases-loop-only tie.handed_clauses
@@ -124,22 +132,27 @@ abbrev AtHolder : Type 0
 AtHolder = lts.After-taken tie.the-claims reads.Pre reads.Post goal.the-invariant-loop-only goal.the-decreases-loop-only tie.handed_clauses
 
 abbrev AtEntered : Type 0
-AtEntered = lts.After-enter_structure tie.the-claims reads.Pre reads.Post goal.the-invariant-loop-only goal.the-decreases-loop-only tie.handed_clauses
+AtEntered = lts.After-enter_structure tie.the-claims reads.Pre reads.Post
+    goal.the-invariant-loop-only goal.the-decreases-loop-only tie.handed_clauses
 
 abbrev AtStood : Type 0
-AtStood = lts.After-struct_known9 tie.the-claims reads.Pre reads.Post goal.the-invariant-loop-only goal.the-decreases-loop-only tie.handed_clauses
+AtStood = lts.After-struct_known9 tie.the-claims reads.Pre reads.Post
+    goal.the-invariant-loop-only goal.the-decreases-loop-only tie.handed_clauses
 
 abbrev AtMembers : Type 0
-AtMembers = lts.After-opened tie.the-claims reads.Pre reads.Post goal.the-invariant-loop-only goal.the-decreases-loop-only tie.handed_clauses
+AtMembers = lts.After-opened tie.the-claims reads.Pre reads.Post
+    goal.the-invariant-loop-only goal.the-decreases-loop-only tie.handed_clauses
 
 abbrev AtTold : Type 0
 AtTold = lts.Joined18 tie.the-claims reads.Pre reads.Post goal.the-invariant-loop-only goal.the-decreases-loop-only tie.handed_clauses
 
 abbrev AtOpened : Type 0
-AtOpened = lts.After-open_field tie.the-claims reads.Pre reads.Post goal.the-invariant-loop-only goal.the-decreases-loop-only tie.handed_clauses
+AtOpened = lts.After-open_field tie.the-claims reads.Pre reads.Post
+    goal.the-invariant-loop-only goal.the-decreases-loop-only tie.handed_clauses
 
 abbrev AtPlaced : Type 0
-AtPlaced = lts.After-struct_known10 tie.the-claims reads.Pre reads.Post goal.the-invariant-loop-only goal.the-decreases-loop-only tie.handed_clauses
+AtPlaced = lts.After-struct_known10 tie.the-claims reads.Pre reads.Post
+    goal.the-invariant-loop-only goal.the-decreases-loop-only tie.handed_clauses
 
 abbrev AtInside : Type 0
 AtInside = lts.Else20 tie.the-claims reads.Pre reads.Post goal.the-invariant-loop-only goal.the-decreases-loop-only tie.handed_clauses
@@ -148,7 +161,8 @@ abbrev AtRest : Type 0
 AtRest = lts.After-behind2 tie.the-claims reads.Pre reads.Post goal.the-invariant-loop-only goal.the-decreases-loop-only tie.handed_clauses
 
 abbrev AtRead : Type 0
-AtRead = lts.After-read_field tie.the-claims reads.Pre reads.Post goal.the-invariant-loop-only goal.the-decreases-loop-only tie.handed_clauses
+AtRead = lts.After-read_field tie.the-claims reads.Pre reads.Post
+    goal.the-invariant-loop-only goal.the-decreases-loop-only tie.handed_clauses
 
 -- and the ways back
 
@@ -156,22 +170,22 @@ abbrev stream-start : AtStream → AtStart
 stream-start c = c.before.before.before.before.before.before
 
 abbrev none-start : AtNoEntry → AtStart
-none-start c = c.before.before.before.before.before.before.before.before.before
+none-start c = stream-start c.before.before.before
 
 abbrev entry-stream : AtEntry → AtStream
 entry-stream c = c.before.before.before
 
 abbrev entry-start : AtEntry → AtStart
-entry-start c = c.before.before.before.before.before.before.before.before.before
+entry-start c = stream-start (entry-stream c)
 
 abbrev listed-entry : AtListed → AtEntry
 listed-entry c = c.before.before
 
 abbrev listed-stream : AtListed → AtStream
-listed-stream c = c.before.before.before.before.before
+listed-stream c = entry-stream (listed-entry c)
 
 abbrev listed_start : AtListed → AtStart
-listed_start c = c.before.before.before.before.before.before.before.before.before.before.before
+listed_start c = stream-start (listed-stream c)
 
 abbrev loop-front : AtLoop → AtFront
 loop-front c = c.before
@@ -180,13 +194,13 @@ abbrev front-listed : AtFront → AtListed
 front-listed c = c.before.before.before.before.before.before
 
 abbrev front-start : AtFront → AtStart
-front-start c = c.before.before.before.before.before.before.before.before.before.before.before.before.before.before.before.before.before
+front-start c = listed_start (front-listed c)
 
 abbrev loop-start : AtLoop → AtStart
-loop-start c = c.before.before.before.before.before.before.before.before.before.before.before.before.before.before.before.before.before.before
+loop-start c = front-start (loop-front c)
 
 abbrev loop-listed : AtLoop → AtListed
-loop-listed c = c.before.before.before.before.before.before.before
+loop-listed c = front-listed (loop-front c)
 
 abbrev border-loop : AtBorder → AtLoop
 border-loop c = c.before.before
@@ -195,52 +209,52 @@ abbrev forward-border : AtForward → AtBorder
 forward-border c = c.before
 
 abbrev forward-loop : AtForward → AtLoop
-forward-loop c = c.before.before.before
+forward-loop c = border-loop (forward-border c)
 
 abbrev over-forward : AtOver → AtForward
 over-forward c = c.before.before
 
 abbrev forward-listed : AtForward → AtListed
-forward-listed c = c.before.before.before.before.before.before.before.before.before.before
+forward-listed c = loop-listed (forward-loop c)
 
 abbrev over-listed : AtOver → AtListed
-over-listed c = c.before.before.before.before.before.before.before.before.before.before.before.before
+over-listed c = forward-listed (over-forward c)
 
 abbrev over-border : AtOver → AtBorder
-over-border c = c.before.before.before
+over-border c = forward-border (over-forward c)
 
 abbrev over-loop : AtOver → AtLoop
-over-loop c = c.before.before.before.before.before
+over-loop c = forward-loop (over-forward c)
 
 abbrev turned-over : AtTurned → AtOver
 turned-over c = c.before.before.before.before
 
 abbrev turned-border : AtTurned → AtBorder
-turned-border c = c.before.before.before.before.before.before.before
+turned-border c = over-border (turned-over c)
 
 abbrev turned-loop : AtTurned → AtLoop
-turned-loop c = c.before.before.before.before.before.before.before.before.before
+turned-loop c = over-loop (turned-over c)
 
 abbrev field-forward : AtField → AtForward
 field-forward c = c.before.before
 
 abbrev front-stream : AtFront → AtStream
-front-stream c = c.before.before.before.before.before.before.before.before.before.before.before
+front-stream c = listed-stream (front-listed c)
 
 abbrev loop-stream : AtLoop → AtStream
-loop-stream c = c.before.before.before.before.before.before.before.before.before.before.before.before
+loop-stream c = front-stream (loop-front c)
 
 abbrev forward-stream : AtForward → AtStream
-forward-stream c = c.before.before.before.before.before.before.before.before.before.before.before.before.before.before.before
+forward-stream c = loop-stream (forward-loop c)
 
 abbrev field-stream : AtField → AtStream
-field-stream c = c.before.before.before.before.before.before.before.before.before.before.before.before.before.before.before.before.before
+field-stream c = forward-stream (field-forward c)
 
 abbrev field-border : AtField → AtBorder
-field-border c = c.before.before.before
+field-border c = forward-border (field-forward c)
 
 abbrev field-loop : AtField → AtLoop
-field-loop c = c.before.before.before.before.before
+field-loop c = forward-loop (field-forward c)
 
 abbrev class-room : AtClass → AtRoom
 class-room c = c.before
@@ -252,184 +266,184 @@ abbrev room-field : AtRoom → AtField
 room-field c = c.before.before
 
 abbrev room-border : AtRoom → AtBorder
-room-border c = c.before.before.before.before.before
+room-border c = field-border (room-field c)
 
 abbrev room-loop : AtRoom → AtLoop
-room-loop c = c.before.before.before.before.before.before.before
+room-loop c = field-loop (room-field c)
 
 abbrev class-border : AtClass → AtBorder
-class-border c = c.before.before.before.before.before.before
+class-border c = room-border (class-room c)
 
 abbrev class-loop : AtClass → AtLoop
-class-loop c = c.before.before.before.before.before.before.before.before
+class-loop c = room-loop (class-room c)
 
 abbrev class-field : AtClass → AtField
-class-field c = c.before.before.before
+class-field c = room-field (class-room c)
 
 abbrev leaf-class : AtLeaf → AtClass
 leaf-class c = c.before.before.before.before
 
 abbrev leaf-border : AtLeaf → AtBorder
-leaf-border c = c.before.before.before.before.before.before.before.before.before.before
+leaf-border c = class-border (leaf-class c)
 
 abbrev leaf-loop : AtLeaf → AtLoop
-leaf-loop c = c.before.before.before.before.before.before.before.before.before.before.before.before
+leaf-loop c = class-loop (leaf-class c)
 
 abbrev leaf-field : AtLeaf → AtField
-leaf-field c = c.before.before.before.before.before.before.before
+leaf-field c = class-field (leaf-class c)
 
 abbrev leaf_room : AtLeaf → AtRoom
-leaf_room c = c.before.before.before.before.before
+leaf_room c = class-room (leaf-class c)
 
 abbrev leaves-leaf : AtLeaves → AtLeaf
 leaves-leaf c = c.before.before.before.before
 
 abbrev forward-start : AtForward → AtStart
-forward-start c = c.before.before.before.before.before.before.before.before.before.before.before.before.before.before.before.before.before.before.before.before.before
+forward-start c = loop-start (forward-loop c)
 
 abbrev field-start : AtField → AtStart
-field-start c = c.before.before.before.before.before.before.before.before.before.before.before.before.before.before.before.before.before.before.before.before.before.before.before
+field-start c = forward-start (field-forward c)
 
 abbrev room-start : AtRoom → AtStart
-room-start c = c.before.before.before.before.before.before.before.before.before.before.before.before.before.before.before.before.before.before.before.before.before.before.before.before.before
+room-start c = field-start (room-field c)
 
 abbrev class-start : AtClass → AtStart
-class-start c = c.before.before.before.before.before.before.before.before.before.before.before.before.before.before.before.before.before.before.before.before.before.before.before.before.before.before
+class-start c = room-start (class-room c)
 
 abbrev leaf-start : AtLeaf → AtStart
-leaf-start c = c.before.before.before.before.before.before.before.before.before.before.before.before.before.before.before.before.before.before.before.before.before.before.before.before.before.before.before.before.before.before
+leaf-start c = class-start (leaf-class c)
 
 abbrev leaves-start : AtLeaves → AtStart
-leaves-start c = c.before.before.before.before.before.before.before.before.before.before.before.before.before.before.before.before.before.before.before.before.before.before.before.before.before.before.before.before.before.before.before.before.before.before
+leaves-start c = leaf-start (leaves-leaf c)
 
 abbrev leaves-border : AtLeaves → AtBorder
-leaves-border c = c.before.before.before.before.before.before.before.before.before.before.before.before.before.before
+leaves-border c = leaf-border (leaves-leaf c)
 
 abbrev leaves_loop : AtLeaves → AtLoop
-leaves_loop c = c.before.before.before.before.before.before.before.before.before.before.before.before.before.before.before.before
+leaves_loop c = leaf-loop (leaves-leaf c)
 
 abbrev room-forward : AtRoom → AtForward
-room-forward c = c.before.before.before.before
+room-forward c = field-forward (room-field c)
 
 abbrev class-forward : AtClass → AtForward
-class-forward c = c.before.before.before.before.before
+class-forward c = room-forward (class-room c)
 
 abbrev leaf-forward : AtLeaf → AtForward
-leaf-forward c = c.before.before.before.before.before.before.before.before.before
+leaf-forward c = class-forward (leaf-class c)
 
 abbrev leaves-forward : AtLeaves → AtForward
-leaves-forward c = c.before.before.before.before.before.before.before.before.before.before.before.before.before
+leaves-forward c = leaf-forward (leaves-leaf c)
 
 abbrev leaves_field : AtLeaves → AtField
-leaves_field c = c.before.before.before.before.before.before.before.before.before.before.before
+leaves_field c = leaf-field (leaves-leaf c)
 
 abbrev leaves-room : AtLeaves → AtRoom
-leaves-room c = c.before.before.before.before.before.before.before.before.before
+leaves-room c = leaf_room (leaves-leaf c)
 
 abbrev leaves-class : AtLeaves → AtClass
-leaves-class c = c.before.before.before.before.before.before.before.before
+leaves-class c = leaf-class (leaves-leaf c)
 
 abbrev behind-leaves : AtBehind → AtLeaves
 behind-leaves c = c.before.before.before.before.before.before.before
 
 abbrev behind-border : AtBehind → AtBorder
-behind-border c = c.before.before.before.before.before.before.before.before.before.before.before.before.before.before.before.before.before.before.before.before.before
+behind-border c = leaves-border (behind-leaves c)
 
 abbrev behind-loop : AtBehind → AtLoop
-behind-loop c = c.before.before.before.before.before.before.before.before.before.before.before.before.before.before.before.before.before.before.before.before.before.before.before
+behind-loop c = leaves_loop (behind-leaves c)
 
 abbrev due-behind : AtDue → AtBehind
 due-behind c = c.before.before
 
 abbrev due-border : AtDue → AtBorder
-due-border c = c.before.before.before.before.before.before.before.before.before.before.before.before.before.before.before.before.before.before.before.before.before.before.before
+due-border c = behind-border (due-behind c)
 
 abbrev due-loop : AtDue → AtLoop
-due-loop c = c.before.before.before.before.before.before.before.before.before.before.before.before.before.before.before.before.before.before.before.before.before.before.before.before.before
+due-loop c = behind-loop (due-behind c)
 
 abbrev behind-field : AtBehind → AtField
-behind-field c = c.before.before.before.before.before.before.before.before.before.before.before.before.before.before.before.before.before.before
+behind-field c = leaves_field (behind-leaves c)
 
 abbrev due-field : AtDue → AtField
-due-field c = c.before.before.before.before.before.before.before.before.before.before.before.before.before.before.before.before.before.before.before.before
+due-field c = behind-field (due-behind c)
 
 abbrev due-leaves : AtDue → AtLeaves
-due-leaves c = c.before.before.before.before.before.before.before.before.before
+due-leaves c = behind-leaves (due-behind c)
 
 abbrev advanced-due : AtAdvanced → AtDue
 advanced-due c = c.before.before.before.before.before.before
 
 abbrev advanced-border : AtAdvanced → AtBorder
-advanced-border c = c.before.before.before.before.before.before.before.before.before.before.before.before.before.before.before.before.before.before.before.before.before.before.before.before.before.before.before.before.before
+advanced-border c = due-border (advanced-due c)
 
 abbrev advanced-loop : AtAdvanced → AtLoop
-advanced-loop c = c.before.before.before.before.before.before.before.before.before.before.before.before.before.before.before.before.before.before.before.before.before.before.before.before.before.before.before.before.before.before.before
+advanced-loop c = due-loop (advanced-due c)
 
 abbrev advanced-field : AtAdvanced → AtField
-advanced-field c = c.before.before.before.before.before.before.before.before.before.before.before.before.before.before.before.before.before.before.before.before.before.before.before.before.before.before
+advanced-field c = due-field (advanced-due c)
 
 abbrev advanced-leaves : AtAdvanced → AtLeaves
-advanced-leaves c = c.before.before.before.before.before.before.before.before.before.before.before.before.before.before.before
+advanced-leaves c = due-leaves (advanced-due c)
 
 abbrev advanced-behind : AtAdvanced → AtBehind
-advanced-behind c = c.before.before.before.before.before.before.before.before
+advanced-behind c = due-behind (advanced-due c)
 
 abbrev applied-due : AtApplied → AtDue
 applied-due c = c.before.before.before.before.before.before
 
 abbrev applied-border : AtApplied → AtBorder
-applied-border c = c.before.before.before.before.before.before.before.before.before.before.before.before.before.before.before.before.before.before.before.before.before.before.before.before.before.before.before.before.before
+applied-border c = due-border (applied-due c)
 
 abbrev applied-loop : AtApplied → AtLoop
-applied-loop c = c.before.before.before.before.before.before.before.before.before.before.before.before.before.before.before.before.before.before.before.before.before.before.before.before.before.before.before.before.before.before.before
+applied-loop c = due-loop (applied-due c)
 
 abbrev applied-field : AtApplied → AtField
-applied-field c = c.before.before.before.before.before.before.before.before.before.before.before.before.before.before.before.before.before.before.before.before.before.before.before.before.before.before
+applied-field c = due-field (applied-due c)
 
 abbrev applied-leaves : AtApplied → AtLeaves
-applied-leaves c = c.before.before.before.before.before.before.before.before.before.before.before.before.before.before.before
+applied-leaves c = due-leaves (applied-due c)
 
 abbrev applied-behind : AtApplied → AtBehind
-applied-behind c = c.before.before.before.before.before.before.before.before
+applied-behind c = due-behind (applied-due c)
 
 abbrev holder-class : AtHolder → AtClass
 holder-class c = c.before.before.before
 
 abbrev holder-border : AtHolder → AtBorder
-holder-border c = c.before.before.before.before.before.before.before.before.before
+holder-border c = class-border (holder-class c)
 
 abbrev holder-loop : AtHolder → AtLoop
-holder-loop c = c.before.before.before.before.before.before.before.before.before.before.before
+holder-loop c = class-loop (holder-class c)
 
 abbrev holder-field : AtHolder → AtField
-holder-field c = c.before.before.before.before.before.before
+holder-field c = class-field (holder-class c)
 
 abbrev holder-room : AtHolder → AtRoom
-holder-room c = c.before.before.before.before
+holder-room c = class-room (holder-class c)
 
 abbrev entered-holder : AtEntered → AtHolder
 entered-holder c = c.before.before.before
 
 abbrev holder-start : AtHolder → AtStart
-holder-start c = c.before.before.before.before.before.before.before.before.before.before.before.before.before.before.before.before.before.before.before.before.before.before.before.before.before.before.before.before.before
+holder-start c = class-start (holder-class c)
 
 abbrev entered-start : AtEntered → AtStart
-entered-start c = c.before.before.before.before.before.before.before.before.before.before.before.before.before.before.before.before.before.before.before.before.before.before.before.before.before.before.before.before.before.before.before.before
+entered-start c = holder-start (entered-holder c)
 
 abbrev entered-border : AtEntered → AtBorder
-entered-border c = c.before.before.before.before.before.before.before.before.before.before.before.before
+entered-border c = holder-border (entered-holder c)
 
 abbrev entered-loop : AtEntered → AtLoop
-entered-loop c = c.before.before.before.before.before.before.before.before.before.before.before.before.before.before
+entered-loop c = holder-loop (entered-holder c)
 
 abbrev entered-field : AtEntered → AtField
-entered-field c = c.before.before.before.before.before.before.before.before.before
+entered-field c = holder-field (entered-holder c)
 
 abbrev entered-room : AtEntered → AtRoom
-entered-room c = c.before.before.before.before.before.before.before
+entered-room c = holder-room (entered-holder c)
 
 abbrev entered-class : AtEntered → AtClass
-entered-class c = c.before.before.before.before.before.before
+entered-class c = holder-class (entered-holder c)
 
 abbrev stood-entered : AtStood → AtEntered
 stood-entered c = c.before.before.before.before
@@ -438,90 +452,90 @@ abbrev members-stood : AtMembers → AtStood
 members-stood c = c.before.before.before.before
 
 abbrev members-entered : AtMembers → AtEntered
-members-entered c = c.before.before.before.before.before.before.before.before
+members-entered c = stood-entered (members-stood c)
 
 abbrev told-holder : AtTold → AtHolder
 told-holder c = c.before.before.before
 
 abbrev told-border : AtTold → AtBorder
-told-border c = c.before.before.before.before.before.before.before.before.before.before.before.before
+told-border c = holder-border (told-holder c)
 
 abbrev told-loop : AtTold → AtLoop
-told-loop c = c.before.before.before.before.before.before.before.before.before.before.before.before.before.before
+told-loop c = holder-loop (told-holder c)
 
 abbrev told-field : AtTold → AtField
-told-field c = c.before.before.before.before.before.before.before.before.before
+told-field c = holder-field (told-holder c)
 
 abbrev told-room : AtTold → AtRoom
-told-room c = c.before.before.before.before.before.before.before
+told-room c = holder-room (told-holder c)
 
 abbrev told-class : AtTold → AtClass
-told-class c = c.before.before.before.before.before.before
+told-class c = holder-class (told-holder c)
 
 abbrev opened-told : AtOpened → AtTold
 opened-told c = c.before.before.before.before.before
 
 abbrev told-start : AtTold → AtStart
-told-start c = c.before.before.before.before.before.before.before.before.before.before.before.before.before.before.before.before.before.before.before.before.before.before.before.before.before.before.before.before.before.before.before.before
+told-start c = holder-start (told-holder c)
 
 abbrev opened-start : AtOpened → AtStart
-opened-start c = c.before.before.before.before.before.before.before.before.before.before.before.before.before.before.before.before.before.before.before.before.before.before.before.before.before.before.before.before.before.before.before.before.before.before.before.before.before
+opened-start c = told-start (opened-told c)
 
 abbrev opened-border : AtOpened → AtBorder
-opened-border c = c.before.before.before.before.before.before.before.before.before.before.before.before.before.before.before.before.before
+opened-border c = told-border (opened-told c)
 
 abbrev opened-loop : AtOpened → AtLoop
-opened-loop c = c.before.before.before.before.before.before.before.before.before.before.before.before.before.before.before.before.before.before.before
+opened-loop c = told-loop (opened-told c)
 
 abbrev opened-field : AtOpened → AtField
-opened-field c = c.before.before.before.before.before.before.before.before.before.before.before.before.before.before
+opened-field c = told-field (opened-told c)
 
 abbrev opened-room : AtOpened → AtRoom
-opened-room c = c.before.before.before.before.before.before.before.before.before.before.before.before
+opened-room c = told-room (opened-told c)
 
 abbrev opened-class : AtOpened → AtClass
-opened-class c = c.before.before.before.before.before.before.before.before.before.before.before
+opened-class c = told-class (opened-told c)
 
 abbrev opened-holder : AtOpened → AtHolder
-opened-holder c = c.before.before.before.before.before.before.before.before
+opened-holder c = told-holder (opened-told c)
 
 abbrev placed-opened : AtPlaced → AtOpened
 placed-opened c = c.before.before.before.before
 
 abbrev inside-opened : AtInside → AtOpened
-inside-opened c = c.before.before.before.before.before
+inside-opened c = placed-opened c.before
 
 abbrev rest-inside : AtRest → AtInside
 rest-inside c = c.before.before.before
 
 abbrev rest-opened : AtRest → AtOpened
-rest-opened c = c.before.before.before.before.before.before.before.before
+rest-opened c = inside-opened (rest-inside c)
 
 abbrev read_told : AtRead → AtTold
 read_told c = c.before.before.before.before.before.before
 
 abbrev read-start : AtRead → AtStart
-read-start c = c.before.before.before.before.before.before.before.before.before.before.before.before.before.before.before.before.before.before.before.before.before.before.before.before.before.before.before.before.before.before.before.before.before.before.before.before.before.before
+read-start c = told-start (read_told c)
 
 abbrev read-border : AtRead → AtBorder
-read-border c = c.before.before.before.before.before.before.before.before.before.before.before.before.before.before.before.before.before.before
+read-border c = told-border (read_told c)
 
 abbrev read-loop : AtRead → AtLoop
-read-loop c = c.before.before.before.before.before.before.before.before.before.before.before.before.before.before.before.before.before.before.before.before
+read-loop c = told-loop (read_told c)
 
 abbrev read-field : AtRead → AtField
-read-field c = c.before.before.before.before.before.before.before.before.before.before.before.before.before.before.before
+read-field c = told-field (read_told c)
 
 abbrev read-class : AtRead → AtClass
-read-class c = c.before.before.before.before.before.before.before.before.before.before.before.before
+read-class c = told-class (read_told c)
 
 abbrev read-holder : AtRead → AtHolder
-read-holder c = c.before.before.before.before.before.before.before.before.before
+read-holder c = told-holder (read_told c)
 
 -- What is known at them
 
 abbrev start : AtLoop → AtStart
-start c = c.before.before.before.before.before.before.before.before.before.before.before.before.before.before.before.before.before.before
+start c = loop-start c
 
 abbrev given : AtLoop → Given
 given c =
@@ -594,10 +608,12 @@ border-told : {all : Out} {ws : List ℕ} (c : AtBorder) → Now (border-loop c)
 unfolding set_slot
 border-told c h =
     let is = sym c.is_border.ensures in
-    ⊎_elim
-    (λ y. let b = is ∙ y.0.taken in inl (b, forgot-one h.round b y.2.taken refl y.4))
-    (λ x. ⊎_elim (λ y. inl (is ∙ y.0.taken, y.4 ∙ y.3.ensures)) (λ y. inr (is ∙ y.0.left, y.1)) x)
-    c.if-is_border.branch
+    elim c.if-is_border.branch [
+      | then-is_border+then-run-le-ONE_SLOT w ↦
+          let b = is ∙ w.if-is_border.true in inl (b, forgot-one h.round b w.if-run-le-ONE_SLOT.true refl w.slots-is)
+      | then-is_border+else-run-le-ONE_SLOT w ↦ inl (is ∙ w.if-is_border.true, w.slots-is ∙ w.forgotten-slots.ensures)
+      | else-is_border w ↦ inr (is ∙ w.if-is_border.false, w.slots-is)
+    ]
 
 -- the run, with what it had put off in front where nothing else was left
 forwarded : {all : Out} {ws : List ℕ} (c : AtForward) → Now (forward-loop c) all ws →
@@ -764,7 +780,7 @@ here : {all : Out} {ws : List ℕ} (c : AtField) → Now (field-loop c) all ws �
 here c h = (forwarded (field-forward c) h).round
 
 bytes : (c : AtField) → Bytes c.args.stream.now
-bytes c i = omega (arith, c.shared_slice_known-6-1.given i)
+bytes c = search rules
 
 -- room for its entry, or none
 no_room : (c : AtFull) →
@@ -801,7 +817,10 @@ pub leaf_slot-i-requires : goal.leaf_slot-i-requires
 unfolding u8
 leaf_slot-i-requires c =
     let past = c.before.before.before in
-    record { Whole = leaf-whole _ _ _ (class-there past) c.if-kind-lt-FIRST_THAT_HOLDS.true; at_bound = c.if-kind-lt-FIRST_THAT_HOLDS.true }
+    record {
+      whole = leaf-whole _ _ _ (class-there past) c.if-kind-lt-FIRST_THAT_HOLDS.true;
+      at_bound = c.if-kind-lt-FIRST_THAT_HOLDS.true;
+    }
 
 pub offset_bounds-slots-i : goal.offset_bounds-slots-i
 offset_bounds-slots-i c = omega arith
@@ -815,8 +834,11 @@ leaf-told : (c : AtLeaf) →
     c.if-i-lt64.content
 unfolding slot_at
 leaf-told c =
-    content-met c.if-is_border.slots (here (leaf-field c) (now (leaf-loop c))).many c.leaf_slot-i.ensures (λ y. y.2)
-    (λ y. (y.0.left, y.1)) c.if-i-lt64.branch
+    content-met c.if-is_border.slots (here (leaf-field c) (now (leaf-loop c))).many c.leaf_slot-i.ensures (λ y. y) (λ y. y)
+    (elim c.if-i-lt64.branch [
+      | then-i-lt64 w ↦ inl w.content-is
+      | else-i-lt64 w ↦ inr (w.if-i-lt64.false, w.content-is)
+    ])
 
 pub offset_bounds-list-used-then-kind-lt-FIRST_THAT_HOLDS : goal.offset_bounds-list-used-then-kind-lt-FIRST_THAT_HOLDS
 offset_bounds-list-used-then-kind-lt-FIRST_THAT_HOLDS c =
@@ -912,7 +934,11 @@ slot-told : (c : AtDue) →
     (c.if-to-lt64.slots ≡ set_slot c.if-is_border.slots q.slot (content_of (u8 c.args.table.now q.at) q.value))
     ⊎ ((slot_count ≤ q.slot) × (c.if-to-lt64.slots ≡ c.if-is_border.slots))
 unfolding u8 set_slot
-slot-told c = ⊎_elim (λ y. inl (rw y.2.ensures at y.3)) (λ y. inr (y.0.left, y.1)) c.if-to-lt64.branch
+slot-told c =
+    elim c.if-to-lt64.branch [
+      | then-to-lt64 w ↦ inl (rw w.content_of-content.ensures at w.slots-is)
+      | else-to-lt64 w ↦ inr (w.if-to-lt64.false, w.slots-is)
+    ]
 
 -- the last leaf's slot is set, and its role is due
 due : {all : Out} {ws : List ℕ} (c : AtDue) → Now (due-loop c) all ws →
@@ -1045,10 +1071,14 @@ offset_bounds-list-used-then-kind-lt-FIRST_THAT_HOLDS-2 c =
     omega (arith, leaves-fall past, within (due-loop past))
 
 pub slice_bounds-apply-count : goal.slice_bounds-apply-count
-slice_bounds-apply-count c = omega (arith, leaves-fall c.before.before.before.before.before, within (due-loop c.before.before.before.before.before))
+slice_bounds-apply-count c =
+    let past = c.before.before.before.before.before in
+    omega (arith, leaves-fall past, within (due-loop past))
 
 pub slice_bounds-apply-start : goal.slice_bounds-apply-start
-slice_bounds-apply-start c = omega (arith, leaves-fall c.before.before.before.before.before, within (due-loop c.before.before.before.before.before))
+slice_bounds-apply-start c =
+    let past = c.before.before.before.before.before in
+    omega (arith, leaves-fall past, within (due-loop past))
 
 pub slice_bounds-apply-end : goal.slice_bounds-apply-end
 slice_bounds-apply-end c = omega arith
@@ -1143,7 +1173,16 @@ enter_structure-o-requires c =
     let l = k.loop-only in
     let h = holder-round k (now (holder-loop k)) in
     let there = class-there (holder-class k) in
-    let o = opens _ _ h.noted _ _ there k.if-kind-lt-FIRST_THAT_HOLDS.false in record { at_in_bounds = (slot-within _ _ _ there k.if-kind-lt-FIRST_THAT_HOLDS.false, omega (arith, whole-inside _ _ _ there, o.aligns), o.align); start_le_from = (h.framed.begun, omega (arith, h.framed.within, h.framed.ends, h.framed.small)); words_per_entry_in_bounds = omega (arith, lent-room l.used l.list, room (holder-room k)) }
+    let o = opens _ _ h.noted _ _ there k.if-kind-lt-FIRST_THAT_HOLDS.false in
+    record {
+      at_in_bounds = (
+        slot-within _ _ _ there k.if-kind-lt-FIRST_THAT_HOLDS.false,
+        omega (arith, whole-inside _ _ _ there, o.aligns),
+        o.align,
+      );
+      start_le_from = (h.framed.begun, omega (arith, h.framed.within, h.framed.ends, h.framed.small));
+      words_per_entry_in_bounds = omega (arith, lent-room l.used l.list, room (holder-room k));
+    }
 
 -- a structure that was entered
 structure : {all : Out} {ws : List ℕ} (c : AtEntered) → Now (entered-loop c) all ws →
@@ -1242,8 +1281,12 @@ holder-told : (c : AtTold) →
     c.if-i-lt64-2.content
 unfolding slot_at
 holder-told c =
-    content-met c.if-is_border.slots (here (holder-field (told-holder c)) (now (told-loop c))).many c.slot_read-i.ensures.0 (λ y. y.2)
-    (λ y. (y.0.left, y.1)) c.if-i-lt64-2.branch
+    content-met c.if-is_border.slots (here (holder-field (told-holder c)) (now (told-loop c))).many c.slot_read-i.ensures.0
+    (λ y. y) (λ y. y)
+    (elim c.if-i-lt64-2.branch [
+      | then-i-lt64-2 w ↦ inl w.content-is
+      | else-i-lt64-2 w ↦ inr (w.if-i-lt64-2.false, w.content-is)
+    ])
 
 holds : {all : Out} {ws : List ℕ} (c : AtTold) → Now (told-loop c) all ws →
     let l = c.loop-only in
@@ -1275,7 +1318,12 @@ open_field-o-requires c =
     let past = c.before.before.before.before.before in
     let k = told-holder past in
     let l = past.loop-only in
-    let h = holder-round k (now (told-loop past)) in record { holder_stands = opens _ _ h.noted _ _ (class-there (told-class past)) k.if-kind-lt-FIRST_THAT_HOLDS.false; start_le_place = (h.framed.begun, omega (arith, h.framed.within, h.framed.ends, h.framed.small)); words_per_entry_in_bounds = omega (arith, lent-room l.used l.list, room (told-room past)) }
+    let h = holder-round k (now (told-loop past)) in
+    record {
+      holder_stands = opens _ _ h.noted _ _ (class-there (told-class past)) k.if-kind-lt-FIRST_THAT_HOLDS.false;
+      start_le_place = (h.framed.begun, omega (arith, h.framed.within, h.framed.ends, h.framed.small));
+      words_per_entry_in_bounds = omega (arith, lent-room l.used l.list, room (told-room past));
+    }
 
 -- a field that was opened, in a run of its own
 apart : {all : Out} {ws : List ℕ} (c : AtOpened) → Now (opened-loop c) all ws →
@@ -1414,7 +1462,13 @@ read_field-r-requires c =
     let past = c.before.before.before.before.before.before in
     let k = told-holder past in
     let l = past.loop-only in
-    let h = holder-round k (now (told-loop past)) in record { Whole = class-there (told-class past); bound = (k.if-kind-lt-FIRST_THAT_HOLDS.false, omega (arith, lent-room l.used l.list, room (told-room past))); prepared = h.noted; framed = rw c.at-in-loop-only.ensures h.framed }
+    let h = holder-round k (now (told-loop past)) in
+    record {
+      whole = class-there (told-class past);
+      bound = (k.if-kind-lt-FIRST_THAT_HOLDS.false, omega (arith, lent-room l.used l.list, room (told-room past)));
+      prepared = h.noted;
+      framed = rw c.at-in-loop-only.ensures h.framed;
+    }
 
 -- a field that was read by itself
 field : {all : Out} {ws : List ℕ} (c : AtRead) → Now (read-loop c) all ws →

@@ -22,7 +22,8 @@ invariant-loop-only l =
       asking = l.with;
       begun = l.begun;
     } in
-    (all : Out) (ws : List ℕ) → EventRound g all ws l.initial.class l.initial.turn l.initial.run l.initial.pile l.initial.off l.initial.list l.initial.used (state_at l.initial.place l.initial.order l.initial.state) l.initial.slots
+    (all : Out) (ws : List ℕ) → EventRound g all ws l.initial.class l.initial.turn l.initial.run l.initial.pile l.initial.off l.initial.list
+    l.initial.used (state_at l.initial.place l.initial.order l.initial.state) l.initial.slots
     → EventRound g all ws l.class l.turn l.run l.pile l.off l.list l.used (state_at l.place l.order l.state) l.slots
 
 abbrev pub decreases-loop-only : goal.decreases-loop-only
