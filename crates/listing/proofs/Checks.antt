@@ -1,5 +1,5 @@
 -- The rules' tests before something is listed.
-use Prim.Native.Nat.{ℕ, ◌-◌, ◌<◌, ◌≤◌}
+use Prim.Native.Nat.{ℕ, ◌<◌, ◌≤◌}
 use mathlib.Core.Path.{◌≡◌, refl, ap, sym, ◌∙◌}
 use mathlib.Core.List.{[]}
 use mathlib.Core.Bool.{Bool, true, false}

@@ -11,7 +11,7 @@ use borrow.Author.Tests.{eqb-true, eqb-false, eq-eqb, ne_eqb}
 use Rattle.facts.specs.Bytes.{Bytes}
 use Rattle.rules.specs.Record.{trace_class, clock_class, stream_class, event_class}
 use Rattle.rules.specs.Faults.{Ids, no_ids, seen, among, pair_among}
-use Rattle.table_offsets.specs.Check.{pick_b, byte_at, number_at, u64, same, is_named, named, traced}
+use Rattle.table_offsets.specs.Check.{pick_b, byte_at, number_at, u64, same, is_named, named}
 use Rattle.table_offsets.proofs.TieTests.{eqb_swap}
 
 -- Equal bytes, equal numbers

@@ -13,7 +13,7 @@ use Rattle.rules.specs.Class.{Sign, Range, key as rules_key}
 use Rattle.rules.specs.Record.{Record, unknown, fragment, root, class, range, option, record_of, behind}
 use Rattle.rules.specs.Faults.{pick, Ids, sign_of, other_sign, meets, range_fault as rules_fault}
 use Rattle.rules.specs.Parse.{good, then, Ranges, range_of, parse_ranges}
-use Rattle.table_offsets.specs.Bodies.{no_kind, known}
+use Rattle.table_offsets.specs.Bodies.{no_kind}
 use Rattle.table_offsets.specs.Check.{pick_n, byte_at, u64, key, low_at, high_at, meets_here, meets_one, meets_option, meets_any, bounds_fault}
 use Rattle.table_offsets.specs.Check.{range_fault, ranges_at}
 use Rattle.table_offsets.proofs.TieBytes.{Rest}

@@ -1,7 +1,6 @@
 -- `bits::walk` meets its contract. The loop's invariant: the value is the number of the bits done. Each turn joins the next piece by one
 -- law, and what is left of the width falls.
 use mathlib.Core.Path.{◌≡◌, sym}
-use Prim.Native.Nat.{◌-◌}
 use native.Mathlib.Omega.{arith}
 use Rattle.bits.proofs.Laws.{bits-zero, bits_below, bits-join}
 use Rattle.bits.proofs.walk.Goals as goal

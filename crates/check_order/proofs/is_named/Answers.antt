@@ -1,7 +1,7 @@
 -- Kind, then id.
 use mathlib.Core.Path.{sym}
 use borrow.Author.Tests.{eq-eqb, ne_eqb}
-use Rattle.table_offsets.specs.Check.{same, is_named}
+use Rattle.table_offsets.specs.Check.{is_named}
 use Rattle.check_order.proofs.is_named.Goals as goal
 
 pub returns-then-byte-kind : goal.returns-then-byte-kind

@@ -1,7 +1,6 @@
 -- `leb128::first_nine` meets its contract. The loop's invariant: so many bytes are passed. Each turn is one law of the next byte, and
 -- what is left of nine falls.
 use mathlib.Core.Path.{◌≡◌}
-use Prim.Native.Nat.{◌-◌}
 use native.Mathlib.Omega.{arith}
 use Rattle.leb128.specs.FirstNine.{NineSay}
 use Rattle.leb128.proofs.FirstNine.{passed_none, passed-short, passed-end, passed_on, more-fits}

@@ -1,5 +1,4 @@
 -- The whole is well-formed as the rest is, of which so much is due; at the end nothing may be.
-use Prim.Native.Nat.{◌-◌}
 use native.Mathlib.Omega.{arith}
 use borrow.Author.Rules.{rules}
 use Rattle.text.proofs.Characters.{goes_first, goes-next, goes_last}

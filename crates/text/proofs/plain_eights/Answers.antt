@@ -1,6 +1,5 @@
 -- The loop passes eight plain bytes at a time, up to eight of which some are not plain, or to fewer than eight.
 use mathlib.Core.Path.{sym, ◌∙◌}
-use Prim.Native.Nat.{◌-◌}
 use native.Mathlib.Omega.{arith}
 use Rattle.text.proofs.Plain.{passed-some, eight-more, eights-few, eights-end}
 use Rattle.text.proofs.plain_eights.Goals as goal

@@ -1,6 +1,5 @@
 -- Behind whole eights the loop passes plain bytes, up to a zero byte, one that is not ASCII, or the end.
 use mathlib.Core.Path.{refl}
-use Prim.Native.Nat.{◌-◌}
 use native.Mathlib.Omega.{arith}
 use Rattle.text.proofs.Plain.{plain_fits, passed-some, passed-more, passed-zero, passed-high, passed-all}
 use Rattle.text.proofs.plain_from.Goals as goal

@@ -1,5 +1,4 @@
 -- The loop passes the bytes of the text, none of them zero, up to a zero byte or to the end.
-use Prim.Native.Nat.{◌-◌}
 use native.Mathlib.Omega.{arith}
 use borrow.Author.Rules.{rules}
 use borrow.Author.Count.{below_more}
