@@ -24,8 +24,11 @@ asked c = c.before.before.before.before.before.before
 pub returns-then-not-o : goal.returns-then-not-o
 unfolding turn_left
 returns-then-not-o c =
-    let gave = (c.look_up-o.ensures.value, c.look_up-o.ensures.list_after) in
-    record { value = turn_stopped _ _ _ _ _ gave.0 _ (not-true _ c.if-not-o.true) c.stopped_turn.ensures; list_after = gave.1 }
+    let gave = c.look_up-o.ensures in
+    record {
+      value = turn_stopped _ _ _ _ _ gave.value _ (not-true _ c.if-not-o.true) c.stopped_turn.ensures;
+      list_after = gave.list_after;
+    }
 
 pub next_root-due-requires : goal.next_root-due-requires
 next_root-due-requires c =
@@ -38,5 +41,8 @@ pub returns : goal.returns
 unfolding turn_left
 returns c =
     let due = c.before.before in
-    let gave = (due.look_up-o.ensures.value, due.look_up-o.ensures.list_after) in
-    record { value = turn-due _ _ _ _ _ gave.0 _ (not-false _ due.if-not-o.false) due.next_root-due.ensures; list_after = gave.1 }
+    let gave = due.look_up-o.ensures in
+    record {
+      value = turn-due _ _ _ _ _ gave.value _ (not-false _ due.if-not-o.false) due.next_root-due.ensures;
+      list_after = gave.list_after;
+    }
