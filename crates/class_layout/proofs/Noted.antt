@@ -27,7 +27,7 @@ use Rattle.class_layout.specs.Notes.{sets_noted, sets_members, sets_options, set
 use Rattle.class_layout.specs.Notes.{NotedClass, Prepared}
 use Rattle.table_records.specs.Named.{slot_place, named_at}
 use Rattle.class_layout.specs.Words.{word_of, sets_one, SaysSet}
-use Rattle.class_layout.proofs.Named.{place_in, OfShape, of-class, named_in, named-in, optional-sets}
+use Rattle.class_layout.proofs.Named.{place_in, of-class, named_in, named-in, optional-sets}
 use Rattle.class_layout.proofs.Setting.{one-small, both_small, says_none, says-one, says_both}
 use Rattle.class_layout.proofs.NotedWords.{align_word, sets_word, sets-of-small}
 use Rattle.class_layout.proofs.NumbersNoted.{numbers-length, numbers-align, numbers-sets, numbers-number}

@@ -11,7 +11,6 @@ use mathlib.Core.Logic.{⊎_elim}
 use lib.Dec.{T, leb, eqb, eqb→eq}
 use lib.ListN.{length, get_or, take, drop, get_or-eq_default}
 use lib.Seq.{get_or-take, get_or-drop, drop-drop, take-take}
-use Rattle.rules.specs.Record.{says}
 use Rattle.rules.specs.Record.{Fragment, preamble, trace_class, clock_class, stream_class, event_class, Record, unknown, fragment, root, class}
 use Rattle.rules.specs.Record.{range, option}
 use Rattle.rules.specs.Record.{number, u8, u64, Layout, no, bits_layout, layouts, layout_of, size, record_of, behind}

@@ -1,7 +1,7 @@
 -- What a record sets that names a slot, and what two classes set: by the tests of the code; one class behind two others, or two behind one;
 -- and the number is right of both lists of slots, where it is right of each.
 use mathlib.Core.Path.{◌≡◌, refl, sym, ap, ◌∙◌}
-use Prim.Native.Nat.{ℕ, suc, ◌+◌, ◌<◌}
+use Prim.Native.Nat.{ℕ, ◌+◌, ◌<◌}
 use native.Mathlib.Omega.{arith}
 use mathlib.Core.List.{List, [], ◌∷◌, ◌++◌, append-nil}
 use mathlib.Core.Bool.{Bool, true, false}
@@ -9,8 +9,8 @@ use lib.Seq.{set-set}
 use lib.Dec.{eqb}
 use borrow.Author.Tests.{eqb-true, eqb-false, eq-eqb, ne_eqb}
 use Rattle.rules.specs.declared.Content.TheVariants.{Unset}
-use Rattle.rules.specs.Limits.{no_slot, slot_count}
-use Rattle.rules.specs.Slots.{Slots, slot, set_slot, unset}
+use Rattle.rules.specs.Limits.{no_slot}
+use Rattle.rules.specs.Slots.{slot, set_slot, unset}
 use Rattle.rules.specs.Class.{setting}
 use Rattle.facts.proofs.Forgets.{unset-append}
 use Rattle.class_layout.specs.Words.{several, sets_one, sets_both, SaysSet}

@@ -1,5 +1,5 @@
 -- The invariant: so many bytes are copied. The measure: those left.
-use Prim.Native.Nat.{◌+◌, ◌-◌, ◌<◌}
+use Prim.Native.Nat.{◌+◌, ◌<◌}
 use native.Mathlib.Omega.{arith}
 use lib.ListN.{length}
 use Rattle.bundle_table.proofs.Copies.{copies-start, copies-next, copies_length, copies-end}

@@ -1,6 +1,5 @@
 -- The invariant: what stays of the fragments passed is copied, behind the preamble. The measure: the bytes left.
 use mathlib.Core.Path.{◌≡◌}
-use Prim.Native.Nat.{◌-◌}
 use native.Mathlib.Omega.{arith}
 use lib.ListN.{length}
 use Rattle.bundle_table.proofs.Walked.{begun, preamble-fits, copy_start, copy-next, copy-length, copy-end}

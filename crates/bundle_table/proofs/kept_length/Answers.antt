@@ -1,5 +1,4 @@
 -- The invariant: what stays is so many bytes, and what stays of the fragments ahead. The measure: the bytes left.
-use Prim.Native.Nat.{◌-◌}
 use native.Mathlib.Omega.{arith}
 use Rattle.bundle_table.proofs.Walked.{count-start, count_next, count-end, walk_here, walk-onward, walk-fits}
 use Rattle.bundle_table.proofs.kept_length.Goals as goal

@@ -1,7 +1,7 @@
 -- Both tests of the definition, in its order.
 use Rattle.std.proofs.Common.{sym, le-leb}
 use borrow.Author.Tests.{lt-leb}
-use Rattle.table_offsets.specs.Check.{u64, key, low_at, high_at, meets_here}
+use Rattle.table_offsets.specs.Check.{u64, low_at, high_at, meets_here}
 use Rattle.check_ranges.proofs.meets_here.Goals as goal
 
 pub returns-then-key-low : goal.returns-then-key-low

@@ -1,6 +1,5 @@
 -- The invariant: what is to be found is the first of the fragments ahead. The measure: the bytes left.
 use mathlib.Core.Path.{sym, ◌∙◌}
-use Prim.Native.Nat.{◌-◌}
 use native.Mathlib.Omega.{arith}
 use Rattle.class_layout.proofs.Ahead.{ahead-start, ahead-hit, ahead-next, ahead-end, ahead-onward}
 use Rattle.class_lookup.proofs.find_trace_class.Goals as goal

@@ -1,6 +1,5 @@
 -- The invariant: the fragments ahead are still to be put. The measure: the bytes left.
 use mathlib.Core.Path.{◌∙◌}
-use Prim.Native.Nat.{◌-◌}
 use native.Mathlib.Omega.{arith}
 use Rattle.class_lookup.proofs.Index.{index-start, index-here, index-onward, index-next, index-end}
 use Rattle.class_lookup.proofs.make_index.Goals as goal

@@ -1,6 +1,5 @@
 -- The invariant: what is to be found is the first of the fragments ahead. The measure: the bytes left.
 use mathlib.Core.Path.{sym, ◌∙◌}
-use Prim.Native.Nat.{◌-◌}
 use native.Mathlib.Omega.{arith}
 use Rattle.class_layout.proofs.Ahead.{ahead-start, ahead-here, ahead-hit, ahead-next, ahead-end, ahead-onward}
 use Rattle.class_lookup.proofs.search_event_class.Goals as goal

@@ -1,5 +1,5 @@
 use mathlib.Core.Path.{◌≡◌}
-use Prim.Native.Nat.{◌≤◌, ◌-◌}
+use Prim.Native.Nat.{◌≤◌}
 use lib.ListN.{length}
 use Rattle.class_layout.specs.Notes.{notes, note_below}
 use Rattle.class_notes.proofs.note_classes.Given as goal

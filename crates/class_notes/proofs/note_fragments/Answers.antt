@@ -1,6 +1,6 @@
 -- The invariant: the fragments whose sizes are still to be noted. The measure: the bytes left.
 use mathlib.Core.Path.{refl}
-use Prim.Native.Nat.{◌-◌, ◌≤◌, ◌<◌}
+use Prim.Native.Nat.{◌≤◌, ◌<◌}
 use native.Mathlib.Omega.{arith}
 use lib.ListN.{length}
 use Rattle.class_layout.specs.Fragments.{Fragment}
