@@ -24,7 +24,7 @@
  * A reading takes up to 498 KiB of stack beside what is lent, a check up to 98 KiB and a bundle up to 962 KiB (at -O3 on x86-64). host/run
  * measures them over the shared cases and the deepest tables, and fails at 1 MiB.
  *
- * The archive is for Linux on x86-64, or on the machine that host/run built it on; size_t has 64 bits. */
+ * The archive is for Linux on x86-64; size_t has 64 bits. */
 #ifndef TREVOSKEL_H
 #define TREVOSKEL_H
 

@@ -28,6 +28,7 @@ use Rattle.facts.proofs.Faults.{pick-zero, pick-false}
 use Rattle.facts.proofs.Parsed.{parse-table}
 use Rattle.laws.proofs.Law.{Fits, FitMembers, FitOptions, FitRoot}
 use Rattle.laws.proofs.Sound.{no-fault}
+use Rattle.laws.proofs.SlotIn.{SetUnder, slot-in}
 
 -- a sound class's length is 1 to 64
 bits_in : (y : Says) → bad_number y ≡ false → (1 ≤ y.length) × (y.length ≤ 64)
@@ -42,27 +43,6 @@ bits_in y h =
 class-bits : (u : Under) (z : Spot) (deep : Bool) (y : Says) → class_fault u z deep (class y) ≡ 0 → bad_number y ≡ false
 unfolding class_fault
 class-bits u z deep y h = pick-false (bad_number y) 9 _ (pick-zero (is_top z && not (eqb y.kind 28)) 8 _ h)
-
--- the slots that a root's fields may set: an event's none of the packet's, and a packet's none of an event's
-abbrev pub SetUnder : ℕ → ℕ → Type 0
-SetUnder r i = (2 ≤ r → packet_slot_count ≤ i) × (r < 2 → (i < packet_slot_count) ⊎ (slot_count ≤ i))
-
-slot-in : (r : ℕ) (y : Says) → bad_slot (ltb r 2) y ≡ false → SetUnder r y.sets
-unfolding bad_slot out
-slot-in r y h = (event, packet)
-  where
-    event : 2 ≤ r → packet_slot_count ≤ y.sets
-    event g =
-        let k : bad_slot false y ≡ false = subst (λ b. bad_slot b y ≡ false) (le-ltb r 2 g) h in
-        ltb-false y.sets packet_slot_count (or-false (eqb y.reads no_slot) (ltb y.sets packet_slot_count) k).1
-
-    packet : r < 2 → (y.sets < packet_slot_count) ⊎ (slot_count ≤ y.sets)
-    packet g =
-        let k : bad_slot true y ≡ false = subst (λ b. bad_slot b y ≡ false) (lt-ltb r 2 g) h in
-        let o = not-false _ (or-false (ltb (packet_slot_count - 1) y.reads) (not (out packet_slot_count (no_slot - 1) y.sets)) k).1 in
-        or-true (ltb y.sets packet_slot_count) (ltb (no_slot - 1) y.sets) o
-        (λ b. inl (ltb-true y.sets packet_slot_count b))
-        (λ b. inr (omega (arith, ltb-true (no_slot - 1) y.sets b)))
 
 class-slot : (u : Under) (z : Spot) (deep : Bool) (y : Says) → class_fault u z deep (class y) ≡ 0 → bad_slot (ltb u.root 2) y ≡ false
 unfolding class_fault

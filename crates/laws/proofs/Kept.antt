@@ -1,33 +1,29 @@
 -- What the slots that a root's fields set cannot change, the root keeps: an accepted table's event roots the packet's slots, and its packet
 -- roots that slots 16 to 63 are unset (11 refuses others). No other step sets a slot.
-use mathlib.Core.Path.{◌≡◌, refl, ap, ◌∙◌, subst}
-use mathlib.Core.Logic.{◌⊎◌, inl, inr}
-use Prim.Native.Nat.{ℕ, zero, suc, ◌-◌, ◌≤◌, ◌<◌}
+use mathlib.Core.Path.{◌≡◌, refl, ◌∙◌, subst}
+use Prim.Native.Nat.{ℕ, ◌≤◌, ◌<◌}
 use native.Mathlib.Omega.{arith}
-use mathlib.Core.List.{List, [], ◌∷◌, ◌++◌}
+use mathlib.Core.List.{List}
 use mathlib.Core.Option.{Option}
-use lib.ListN.{length, take, set, replicate, length-append, length-take, length-replicate}
 use Rattle.rules.specs.declared.Content.{Content}
-use Rattle.rules.specs.declared.Content.TheVariants.{Unset}
-use Rattle.rules.specs.declared.Slot.{Slot}
 use Rattle.rules.specs.declared.Entry.{Entry}
 use Rattle.rules.specs.declared.Refusal.{Refusal}
 use Rattle.rules.specs.declared.Stop.{Stop}
-use Rattle.rules.specs.Limits.{slot_count, packet_slot_count}
 use Rattle.rules.specs.Verdict.{stop_at}
-use Rattle.rules.specs.Slots.{Slots, slot, slot_at, packet_slots, set_slot}
+use Rattle.rules.specs.Slots.{Slots, slot_at, packet_slots, set_slot}
 use Rattle.rules.specs.Step.{State, Step, go, refuse_at, listed, with_slots, with_order, with_clock, with_said}
 use Rattle.rules.specs.Class.{Class}
 use Rattle.rules.specs.Field.{Env, field, store, say, from_slot}
 use Rattle.rules.specs.Table.{Table, asked}
 use Rattle.rules.specs.Packet.{read_root}
 use Rattle.rules.specs.Parse.{good, parse}
-use Rattle.facts.proofs.Slots.{no-slot}
 use Rattle.laws.specs.Kept.{RootKeeps, LeavesUnset, KeepsSlots}
 use Rattle.laws.proofs.Law.{Any, AnyRecord, FitRoot}
 use Rattle.laws.proofs.Simple.{view, Simple, simple-fits}
 use Rattle.laws.proofs.Triple.{Ok, Triple, then, passing, changing, refusing, refusing-at, checks, untested, untested-at, dued}
-use Rattle.laws.proofs.Accepted.{SetUnder, Tells, accepted-fits}
+use Rattle.laws.proofs.SlotIn.{SetUnder}
+use Rattle.laws.proofs.Accepted.{Tells, accepted-fits}
+use Rattle.laws.proofs.SetKept.{set_keeps, set-leaves}
 
 -- Any root
 
@@ -81,47 +77,11 @@ module _ (P : Slots → Type 0) (S : ℕ → Type 0) (set-kept : (l : Slots) (i 
       → P s.slots → P s'.slots
   root-keeps c w e m s es s' g h = (subst (Ok AnyEntry AnyStop AnyRefusal Has) g ((simple-fits e (keeps-simple e) m c w).at s h)).1
 
--- An event's root: the packet's slots are kept where another is set; 255, no slot, is another
-
-take-set : (l : Slots) (n i : ℕ) (x : Slot) → n ≤ i → take n (set l i x) ≡ take n l
-take-set l zero i x h = refl
-take-set [] (suc n) i x h = refl
-take-set (y ∷ l) (suc n) zero x h = absurd (omega arith)
-take-set (y ∷ l) (suc n) (suc i) x h = ap (λ k. y ∷ k) (take-set l n i x (omega arith))
-
-set_keeps : (l : Slots) (i : ℕ) (x : Content) → packet_slot_count ≤ i → packet_slots (set_slot l i x) ≡ packet_slots l
-unfolding packet_slots set_slot
-set_keeps l i x h = rw (take-set l packet_slot_count i (slot x) h) refl
+-- An event's root, and a packet's
 
 event-root : (r : ℕ) → 2 ≤ r → (c : Option Class) → FitRoot Any (SetUnder r) Any c → RootKeeps c
 event-root r h c w e m s es s' g =
     root-keeps (λ l. packet_slots l ≡ packet_slots s.slots) (SetUnder r) (λ l i x k q. set_keeps l i x (k.0 h) ∙ q) c w e m s es s' g refl
-
--- A packet's root: slots 16 to 63 stay unset where another is set
-
-set-in-front : (l r : Slots) (n i : ℕ) (x : Slot) → i < n → take n l ++ r ≡ l → take n (set l i x) ++ r ≡ set l i x
-set-in-front l r zero i x h e = absurd (omega arith)
-set-in-front [] r (suc n) i x h e = e
-set-in-front (y ∷ l) r (suc n) zero x h e = let k : take n l ++ r ≡ l = cc in ap (λ k. x ∷ k) k
-set-in-front (y ∷ l) r (suc n) (suc i) x h e = let k : take n l ++ r ≡ l = cc in ap (λ k. y ∷ k) (set-in-front l r n i x (omega arith) k)
-
-unset-many : (l : Slots) → packet_slots l ≡ l → length l ≡ slot_count
-unfolding packet_slots
-unset-many l h =
-    let n : length (take packet_slot_count l ++ replicate (slot_count - packet_slot_count) (slot Unset)) ≡ length l = ap length h in
-    omega (
-      arith,
-      n,
-      length-append (take packet_slot_count l) (replicate (slot_count - packet_slot_count) (slot Unset)),
-      length-take packet_slot_count l,
-      length-replicate (slot_count - packet_slot_count) (slot Unset),
-    )
-
-set-leaves : (l : Slots) (i : ℕ) (x : Content) → (i < packet_slot_count) ⊎ (slot_count ≤ i) → packet_slots l ≡ l
-    → packet_slots (set_slot l i x) ≡ set_slot l i x
-set-leaves l i x (inl k) h =
-    unfold packet_slots set_slot in set-in-front l (replicate (slot_count - packet_slot_count) (slot Unset)) packet_slot_count i (slot x) k h
-set-leaves l i x (inr k) h = rw (no-slot l i x (unset-many l h) k) h
 
 packet-root : (r : ℕ) → r < 2 → (c : Option Class) → FitRoot Any (SetUnder r) Any c → LeavesUnset c
 packet-root r h c w = root-keeps (λ l. packet_slots l ≡ l) (SetUnder r) (λ l i x k q. set-leaves l i x (k.1 h) q) c w

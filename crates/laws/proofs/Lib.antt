@@ -6,8 +6,10 @@ pub mod Places
 pub mod Between
 pub mod Moved
 pub mod Sound
+mod SlotIn
 pub mod Accepted
 pub mod Numbering
+mod SetKept
 pub mod Kept
 pub mod Two
 pub mod Far
