@@ -191,8 +191,14 @@ pub read_events-r-requires : goal.read_events-r-requires
 read_events-r-requires c =
     let h = lengths-of (to-listed c.before.before) in
     let p = h.requires in
-    rw (c.further-bound.ensures, c.further-to.ensures)
-    (p.readable.ready, (c.asking-with.ensures.0, ((framed h).0, ((framed h).1, p.@tail.3))))
+    record {
+      ready = p.readable.ready;
+      of_stream = c.asking-with.ensures.0;
+      framed = rw c.further-bound.ensures (framed h).0;
+      bound_le_to = rw (c.further-bound.ensures, c.further-to.ensures) (framed h).1;
+      hints = p.hints;
+      slots_value = p.slots_value;
+    }
 
 pub with_last-requires : goal.with_last-requires
 with_last-requires c =

@@ -117,7 +117,13 @@ read_event-r-requires c =
     let loop = to-loop-from-event event in
     let start = to_start loop in
     let p = start.requires in
-    (p.ready, (p.of_stream, (loop.loop-state.invariant.framed, p.@tail.4)))
+    record {
+      ready = p.ready;
+      of_stream = p.of_stream;
+      framed = loop.loop-state.invariant.framed;
+      hints = p.hints;
+      given_value = p.slots_value;
+    }
 
 pub overflow_add-used : goal.overflow_add-used
 overflow_add-used c =
