@@ -162,16 +162,15 @@ rest-left : (c : AtRest) (l : Slots) →
     RestLeft a.table.now a.stream.now a.number a.first a.begun a.list.now c.write.new.list
     r.result r.new.list l
 rest-left d l =
-    let c = to-header d in
-    let a = (given c).args in
-    let w = listed_of c in
-    let f = (to-frame (to_slots c)).whole-frame in
-    let b = (to_slots c).before.fresh in
-    let n = (to_slots c).no-slots in
-    behind-part a.table.now (notes a.sizes.now a.aligns.now) a.uuid.now a.stream.now a.header (given c).pre.0
+    let a = d.args in
+    let w = listed_of (to-header d) in
+    let f = d.whole_frame-frame in
+    let b = d.fresh in
+    let n = d.no_slots in
+    behind-part a.table.now (notes a.sizes.now a.aligns.now) a.uuid.now a.stream.now a.header d.requires.lent
     a.number a.first a.begun a.list.now (has_room (to_room w)) w.write.ensures f.result f.ensures
-    b.result b.ensures n.result n.ensures c.read-root.ensures l
-    d.before.before.enum_told.given.1
+    b.result b.ensures n.result n.ensures d.read_root-h.ensures l
+    d.in-On.is
 
 -- No room for entry 1
 
