@@ -31,7 +31,7 @@ use Rattle.laws.specs.Far.{far_entry, far_all, far}
 use Rattle.laws.specs.Far.{Like}
 use Rattle.packet_alone.proofs.Through.{Split, split, join, do-change}
 use Rattle.packet_alone.proofs.Ran.{Ran, run, run-whole, headed}
-use Rattle.packet_alone.proofs.Lower.{Low}
+use Rattle.packet_alone.proofs.LowClock.{Low}
 use Rattle.packet_alone.proofs.Roles.{HeaderOnly}
 use Rattle.packet_alone.proofs.Ends.{ends-class, ends_found, any-first}
 use Rattle.packet_alone.proofs.There.{RanThere, goes-there}
