@@ -155,7 +155,7 @@ placed x b room = by (parse x) refl
         record {
           accepted = λ h. w.ends b room h;
           by-table = λ h. absurd (stream-not-20 (asked t) b room (ap (λ r. number_of r.verdict) (sym q) ∙ h));
-          at-bit = λ h. w.place-in b room;
+          at-bit = λ h. w.place_in b room;
         }
 
 -- Demand 1

@@ -299,14 +299,13 @@ module _ (x : List ℕ) where
     unfolding read_packet
     packet-names b k i = record {
       at = λ o a s₀.
-          (steady Anyone (λ o a. each-due (Steady o))
-          ⨾ᵒ mark-1 k
+          (◌⨾ᵒ◌ {C = Anyone} (steady Anyone (λ o a. each-due (Steady o))) (mark-1 k
           ⨾ᵒ steady-is of_trace (each-change (Steady of_trace) _)
           ⨾ᵒ steady-is of_trace (steady-root of_trace (Named x of_trace) (λ n k z. z) _ first_root t.header numbers.packet)
           ⨾ᵒ steady-is of_trace (each-check (Steady of_trace) _ StreamClassChanged) ⨾ᵒ steady-is of_trace (each-due (Steady of_trace))
           ⨾ᵒ record {
             at = λ o q s. (stream-names b s₀.place _ _ _ s.said.stream (t.stream s.said.stream) refl).at o q s;
-          }).at o a s₀;
+          })).at o a s₀;
     }
 
     packets-names : (b : List ℕ) (k : ℕ) (i : Stated) (left : ℕ) → Naming Anyone (read_packets t b k i left) Anyone
@@ -314,7 +313,9 @@ module _ (x : List ℕ) where
     packets-names b k i zero = steady Anyone (λ o a. each-pass (Steady o))
     packets-names b k i (suc left) = record {
       at = λ o a s. by-test o Anyone (ltb s.place.0 (8 * length b)) _ _
-          ((packet-names b k i ⨾ᵒ record { at = λ o a s. (packets-names b (k + 1) (As s.said.stream) left).at o a s }).at o a s)
+          ((◌⨾ᵒ◌ {C = Anyone} (packet-names b k i) (record {
+            at = λ o a s. (packets-names b (k + 1) (As s.said.stream) left).at o a s;
+          })).at o a s)
           ((steady Anyone (λ o a. each-pass (Steady o))).at o a s);
     }
 
