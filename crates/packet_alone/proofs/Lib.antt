@@ -2,6 +2,7 @@ pub mod Through
 pub mod Beside
 pub mod Alone
 pub mod Ran
+pub mod LowClock
 pub mod Lower
 pub mod Roles
 pub mod Ends

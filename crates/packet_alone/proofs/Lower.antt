@@ -25,13 +25,10 @@ use Rattle.laws.specs.Far.{away, far_entry, far_all, far, far_out, Rel}
 use Rattle.laws.proofs.Far.{far-append, Exact}
 use Rattle.laws.specs.Far.{Like}
 use Rattle.laws.proofs.Pair.{Pair, pair-root, exact-change, exact-due}
+use Rattle.packet_alone.proofs.LowClock.{Low}
 use Rattle.packet_alone.proofs.Through.{Split, split, join, passed, pass-check, do-change}
 use Rattle.packet_alone.proofs.Beside.{same, Alike, held-here, held-change, held-check, pair-due, pair_found, pair-moved, pair-event}
 use Rattle.packet_alone.proofs.Beside.{◌⨾ᵖ◌, body, end_same, before-bound, loops}
-
--- a last clock that is lower, where there is a clock
-abbrev pub Low : StreamClass → (ℕ → ℕ) → Type 0
-Low c l = c.timed ≡ true → (n : ℕ) → l n ≤ n
 
 pub low_same : (c : StreamClass) → Low c same
 low_same c q n = le_refl n

@@ -26,7 +26,8 @@ use Rattle.laws.proofs.Far.{far-append}
 use Rattle.laws.specs.Far.{Like}
 use Rattle.laws.proofs.Pair.{pair-root}
 use Rattle.packet_alone.proofs.Beside.{like, none_of_four, contradict-same, entries-same}
-use Rattle.packet_alone.proofs.Lower.{Low, Lowered, out_of, still-in, lowers-events}
+use Rattle.packet_alone.proofs.LowClock.{Low}
+use Rattle.packet_alone.proofs.Lower.{Lowered, out_of, still-in, lowers-events}
 use Rattle.packet_alone.proofs.Ran.{RanContent, Ran}
 
 module _ (t : Asked) (b b' : List ℕ) (p p' : BitPlace) (y : Like (to_end t b p) (to_end t b' p')) (l : ℕ → ℕ) where

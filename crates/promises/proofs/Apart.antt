@@ -43,7 +43,8 @@ use Rattle.promises.proofs.Rising.{Onward}
 use Rattle.promises.proofs.Laws.{accepted-positive}
 use Rattle.promises.proofs.Spent.{packet-spent}
 use Rattle.promises.proofs.Whole.{Whole, whole-packet}
-use Rattle.promises.proofs.Onwards.{Gap, Onwards, Rest, onward-packets}
+use Rattle.promises.proofs.TwoStates.{Onwards}
+use Rattle.promises.proofs.Onwards.{Gap, Rest, onward-packets}
 use Rattle.promises.proofs.Cut.{before-skip, from-skip, packet-passed, before_at, from_at, place_at, packets-at, total-at}
 
 module _ (t : Asked) (w : Fitting Positive (λ r. Any) Any t) (only : HeaderOnly t) (b : List ℕ) where
@@ -295,7 +296,7 @@ module _ (t : Asked) (w : Fitting Positive (λ r. Any) Any t) (only : HeaderOnly
         class-found : t.stream j ≡ some r.packet.ran.c
         class-found = ends_found t b s.place _ i (less s) r.packet.others r.middle r.packet.ran only
 
-        o : Onwards t w only b b' total ((place + total) / 8) gap (k + 1) k (As j) i r.middle s
+        o : Onwards t total ((place + total) / 8) (k + 1) k (As j) i r.middle s
         o = record {
           place = to;
           whole = r.packet.whole;

@@ -42,6 +42,7 @@ mod PlacedFields
 mod Placed
 mod Sizes
 mod Whole
+mod TwoStates
 mod Onwards
 mod Cut
 mod Apart

@@ -31,11 +31,12 @@ use Rattle.laws.specs.Far.{far_entry, far_all, far}
 use Rattle.laws.specs.Far.{Like}
 use Rattle.packet_alone.proofs.Through.{Split, split, join, do-change}
 use Rattle.packet_alone.proofs.Ran.{Ran, run, run-whole, headed}
-use Rattle.packet_alone.proofs.Lower.{Low}
+use Rattle.packet_alone.proofs.LowClock.{Low}
 use Rattle.packet_alone.proofs.Roles.{HeaderOnly}
 use Rattle.packet_alone.proofs.Ends.{ends-class, ends_found, any-first}
 use Rattle.packet_alone.proofs.There.{RanThere, goes-there}
 use Rattle.promises.specs.Apart.{number_lower, lower}
+use Rattle.promises.proofs.TwoStates.{Onwards}
 use Rattle.promises.proofs.Packets.{Positive}
 use Rattle.promises.proofs.Room.{more, room-packet}
 use Rattle.promises.proofs.Whole.{NotOf, if-false, Whole, whole-packet}
@@ -124,29 +125,13 @@ lower-all e e' total h (x ∷ es) n l = λ z. lower-one e e' total h x n.0 l.0 z
 
 module _ (t : Asked) (w : Fitting Positive (λ r. Any) Any t) (only : HeaderOnly t) (b b' : List ℕ) (total from : ℕ)
     (gap : Gap b b' total from) where
-  pub record Onwards (k k' : ℕ) (i i' : Stated) (s s' : State) : Type 0 where
-    -- the place is lower by the total, at a whole byte, behind the gap
-    pub place : s'.place.0 + total ≡ s.place.0
-    pub whole : s.place.0 % 8 ≡ 0
-    pub behind : 8 * from ≤ s.place.0
-    -- there is as much room, or more
-    pub room : s.room ≤ s'.room
-    -- the number is lower by one
-    pub number : k ≡ k' + 1
-    -- the first packet's class, if one is known, is that of the packets before
-    pub class : ℕ
-    pub first : i ≡ As class
-    pub same : differs class i' ≡ false
-    -- the last clock is no higher, where there is a clock
-    pub last : (c : StreamClass) → t.stream class ≡ some c → c.timed ≡ true → s'.last ≤ s.last
-
   -- a packet, and where it leaves the two
   pub record Next (k k' : ℕ) (i' : Stated) (s' : State) (es : List Entry) (u : State) : Type 0 where
     pub u' : State
     pub goes : read_packet t b' k' i' s' ≡ go (map (lower total) es) u'
-    pub onwards : Onwards (k + 1) (k' + 1) (As u.said.stream) (As u'.said.stream) u u'
+    pub onwards : Onwards t total from (k + 1) (k' + 1) (As u.said.stream) (As u'.said.stream) u u'
 
-  module _ (k k' : ℕ) (i i' : Stated) (s s' : State) (es : List Entry) (u : State) (o : Onwards k k' i i' s s')
+  module _ (k k' : ℕ) (i i' : Stated) (s s' : State) (es : List Entry) (u : State) (o : Onwards t total from k k' i i' s s')
       (l : s.place.0 < 8 * length b) (q : read_packet t b k i s ≡ go es u) where
     abbrev e : Env
     e = to_end t b s.place
@@ -266,7 +251,7 @@ module _ (t : Asked) (w : Fitting Positive (λ r. Any) Any t) (only : HeaderOnly
               s'.said;
         }) r
 
-    on : Onwards (k + 1) (k' + 1) (As u.said.stream) (As (more d u'').said.stream) u (more d u'')
+    on : Onwards t total from (k + 1) (k' + 1) (As u.said.stream) (As (more d u'').said.stream) u (more d u'')
     unfolding more far
     on = record {
       place = omega (arith, o.place, x.takes);
@@ -304,7 +289,7 @@ module _ (t : Asked) (w : Fitting Positive (λ r. Any) Any t) (only : HeaderOnly
       let g : s ≡ u = cc in
       record { u' = s'; goes = r ∙ ap (λ l. go l s') (ap (map (lower total)) f); place = p ∙ ap (λ z. z.place.0) g }
 
-  pub onward-packets : (left k k' : ℕ) (i i' : Stated) (s s' : State) (es : List Entry) (u : State) → Onwards k k' i i' s s'
+  pub onward-packets : (left k k' : ℕ) (i i' : Stated) (s s' : State) (es : List Entry) (u : State) → Onwards t total from k k' i i' s s'
       → read_packets t b k i left s ≡ go es u → Rest k' i' left s' es u
   unfolding read_packets
   onward-packets zero k k' i i' s s' es u o q = over k' i' zero s s' es u o.place refl q
@@ -327,7 +312,7 @@ module _ (t : Asked) (w : Fitting Positive (λ r. Any) Any t) (only : HeaderOnly
           let c : 8 * length b' ≤ s'.place.0 = omega (arith, o.place, gap.lengths) in le-ltb _ _ c
 
       by : (x : Bool) → ltb s.place.0 (8 * length b) ≡ x → elim x [ true ↦ (read_packet t b k i ⨾ next) s | false ↦ pass s ] ≡ go es u
-          → ((m m' : State) → Onwards (k + 1) (k' + 1) (As m.said.stream) (As m'.said.stream) m m'
+          → ((m m' : State) → Onwards t total from (k + 1) (k' + 1) (As m.said.stream) (As m'.said.stream) m m'
           → (fs : List Entry) → next m ≡ go fs u → Rest (k' + 1) (As m'.said.stream) left m' fs u)
           → Rest k' i' (suc left) s' es u
       by false h q rec = over k' i' (suc left) s s' es u o.place (ap whole (ended false h)) q
