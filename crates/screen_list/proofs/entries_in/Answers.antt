@@ -5,10 +5,8 @@ use Rattle.screen_list.proofs.entries_in.Goals as goal
 
 pub returns-then-all-entries : goal.returns-then-all-entries
 returns-then-all-entries c =
-    let s = c.before in
-    entries-words (length s.args.list.now) s.args.entries c.if-all-entries.true
+    entries-words (length c.args.list.now) c.args.entries c.if-all-entries.true
 
 pub returns : goal.returns
 returns c =
-    let s = c.before in
-    entries-asked (length s.args.list.now) s.args.entries c.if-all-entries.false
+    entries-asked (length c.args.list.now) c.args.entries c.if-all-entries.false

@@ -5,10 +5,8 @@ use Rattle.screen_line.proofs.shown.from_of.Goals as goal
 
 pub returns-then-stream-from : goal.returns-then-stream-from
 returns-then-stream-from c =
-    let s = c.before in
-    from_first (length s.args.stream.now) s.args.place c.if-stream-from.true
+    from_first (length c.args.stream.now) c.args.place c.if-stream-from.true
 
 pub returns : goal.returns
 returns c =
-    let s = c.before in
-    from_second (length s.args.stream.now) s.args.place c.if-stream-from.false
+    from_second (length c.args.stream.now) c.args.place c.if-stream-from.false

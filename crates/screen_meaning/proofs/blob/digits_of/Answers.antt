@@ -4,10 +4,8 @@ use Rattle.screen_meaning.proofs.blob.digits_of.Goals as goal
 
 pub returns-then-bits-gt60 : goal.returns-then-bits-gt60
 returns-then-bits-gt60 c =
-    let s = c.before in
-    digits-all s.args.bits c.if-bits-gt60.true
+    digits-all c.args.bits c.if-bits-gt60.true
 
 pub returns : goal.returns
 returns c =
-    let s = c.before in
-    digits-some s.args.bits c.if-bits-gt60.false
+    digits-some c.args.bits c.if-bits-gt60.false

@@ -4,10 +4,8 @@ use Rattle.screen_meaning.proofs.float.power_of.Goals as goal
 
 pub returns-then-raised-eq0 : goal.returns-then-raised-eq0
 returns-then-raised-eq0 c =
-    let s = c.before in
-    power-one s.args.raised c.if-raised-eq0.true
+    power-one c.args.raised c.if-raised-eq0.true
 
 pub returns : goal.returns
 returns c =
-    let s = c.before in
-    power-same s.args.raised c.if-raised-eq0.false
+    power-same c.args.raised c.if-raised-eq0.false

@@ -14,46 +14,37 @@ loop-turns-init c = (turn-none c.args.frequency c.args.part c.requires, omega ar
 
 pub overflow_add-whole : goal.overflow_add-whole
 overflow_add-whole c =
-    let at-loop = c.before.before.before in
-    omega (arith, at-loop.loop-turns.invariant.0.few, at-loop.loop-turns.invariant.1)
+    omega (arith, c.loop-turns.invariant.0.few, c.loop-turns.invariant.1)
 
 pub overflow_add-left : goal.overflow_add-left
 overflow_add-left c =
-    let s = c.before.before.before.before in
-    omega (arith, s.requires, s.ranges, c.if-lacking-left.false)
+    omega (arith, c.requires, c.ranges, c.if-lacking-left.false)
 
 pub overflow_add-turns : goal.overflow_add-turns
 overflow_add-turns c =
-    let at-loop = c.before.before.before in
-    omega (arith, at-loop.loop-turns.invariant.1)
+    omega (arith, c.loop-turns.invariant.1)
 
 pub loop-turns-smaller : goal.loop-turns-smaller
 loop-turns-smaller c =
-    let at-loop-test = c.before.before in
-    omega (arith, at-loop-test.loop-turns-test.true)
+    omega (arith, c.loop-turns-test.true)
 
 pub loop-turns-preserved : goal.loop-turns-preserved
 loop-turns-preserved c =
-    let at-loop-test = c.before.before in
-    let at-loop = at-loop-test.before in
-    let s = at-loop.before in
-    let a = s.args in
-    let at = at-loop.loop-turns in (
+    let a = c.args in
+    let at = c.loop-turns in (
       ⊎_elim
-          (λ y. turn-over a.frequency a.part at.whole at.false at.turns c.if-lacking-left.whole c.if-lacking-left.false s.requires
+          (λ y. turn-over a.frequency a.part at.whole at.false at.turns c.if-lacking-left.whole c.if-lacking-left.false c.requires
           at.invariant.0 y.0.taken y.1 y.2)
-          (λ y. turn_on a.frequency a.part at.whole at.false at.turns c.if-lacking-left.whole c.if-lacking-left.false s.requires at.invariant.0
+          (λ y. turn_on a.frequency a.part at.whole at.false at.turns c.if-lacking-left.whole c.if-lacking-left.false c.requires at.invariant.0
           y.0.left y.1 y.2)
           c.if-lacking-left.branch,
-      omega (arith, at-loop-test.loop-turns-test.true),
+      omega (arith, c.loop-turns-test.true),
     )
 
 pub returns : goal.returns
 returns c =
-    let at-loop = c.before.before in
-    let s = at-loop.before in
-    let a = s.args in
-    let at = at-loop.loop-turns in
+    let a = c.args in
+    let at = c.loop-turns in
     let ten : at.turns ≡ 10 = omega (arith, c.loop-turns-test.false, at.invariant.1) in (
       ten-whole a.frequency a.part at.whole at.false at.turns at.invariant.0 ten,
       ten-left a.frequency a.part
