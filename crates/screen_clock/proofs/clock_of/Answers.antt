@@ -18,8 +18,7 @@ pub is_stream-requires : goal.is_stream-requires
 is_stream-requires c = c.if-table-at.false
 
 pub overflow_add-at : goal.overflow_add-at
-overflow_add-at c =
-    omega (arith, c.if-table-at.false, c.requires)
+overflow_add-at c = omega (arith, c.if-table-at.false, c.requires)
 
 pub returns-then-is_stream : goal.returns-then-is_stream
 returns-then-is_stream c =
@@ -27,16 +26,13 @@ returns-then-is_stream c =
     c.args.id (sym c.is_stream.ensures ∙ c.if-is_stream.true) ∙ sym c.loop-left.invariant
 
 pub behind-at-requires : goal.behind-at-requires
-behind-at-requires c =
-    c.if-table-at.false
+behind-at-requires c = c.if-table-at.false
 
 pub overflow_sub-left : goal.overflow_sub-left
-overflow_sub-left c =
-    omega (arith, c.loop-left-test.true)
+overflow_sub-left c = omega (arith, c.loop-left-test.true)
 
 pub loop-left-smaller : goal.loop-left-smaller
-loop-left-smaller c =
-    omega (arith, c.loop-left-test.true)
+loop-left-smaller c = omega (arith, c.loop-left-test.true)
 
 pub loop-left-preserved : goal.loop-left-preserved
 loop-left-preserved c =

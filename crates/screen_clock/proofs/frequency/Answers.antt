@@ -19,8 +19,7 @@ pub is_clock-requires : goal.is_clock-requires
 is_clock-requires c = c.if-table-at.false
 
 pub frequency_at-requires : goal.frequency_at-requires
-frequency_at-requires c =
-    c.if-table-at.false
+frequency_at-requires c = c.if-table-at.false
 
 pub returns-then-is_clock : goal.returns-then-is_clock
 returns-then-is_clock c =
@@ -28,16 +27,13 @@ returns-then-is_clock c =
     c.loop-left.at c.args.clock (sym c.is_clock.ensures ∙ c.if-is_clock.true) ∙ sym c.loop-left.invariant
 
 pub behind-at-requires : goal.behind-at-requires
-behind-at-requires c =
-    c.if-table-at.false
+behind-at-requires c = c.if-table-at.false
 
 pub overflow_sub-left : goal.overflow_sub-left
-overflow_sub-left c =
-    omega (arith, c.loop-left-test.true)
+overflow_sub-left c = omega (arith, c.loop-left-test.true)
 
 pub loop-left-smaller : goal.loop-left-smaller
-loop-left-smaller c =
-    omega (arith, c.loop-left-test.true)
+loop-left-smaller c = omega (arith, c.loop-left-test.true)
 
 pub loop-left-preserved : goal.loop-left-preserved
 loop-left-preserved c =

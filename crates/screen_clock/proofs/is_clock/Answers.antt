@@ -6,8 +6,7 @@ use Rattle.screen_clock.proofs.Walked.{clock-here, no-clock}
 use Rattle.screen_clock.proofs.is_clock.Goals as goal
 
 pub overflow_add-at : goal.overflow_add-at
-overflow_add-at c =
-    omega (arith, c.requires)
+overflow_add-at c = omega (arith, c.requires)
 
 pub returns-then-byte-eq-CLOCK_CLASS : goal.returns-then-byte-eq-CLOCK_CLASS
 returns-then-byte-eq-CLOCK_CLASS c =

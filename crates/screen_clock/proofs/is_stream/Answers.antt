@@ -6,12 +6,10 @@ use Rattle.screen_clock.proofs.Walked.{stream-here, no_stream}
 use Rattle.screen_clock.proofs.is_stream.Goals as goal
 
 pub overflow_add-at : goal.overflow_add-at
-overflow_add-at c =
-    omega (arith, c.requires)
+overflow_add-at c = omega (arith, c.requires)
 
 pub number-requires : goal.number-requires
-number-requires c =
-    (lit≤ tt, omega (arith, c.requires))
+number-requires c = (lit≤ tt, omega (arith, c.requires))
 
 pub returns-then-byte-eq-STREAM_CLASS : goal.returns-then-byte-eq-STREAM_CLASS
 returns-then-byte-eq-STREAM_CLASS c =

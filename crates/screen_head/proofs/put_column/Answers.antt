@@ -21,9 +21,10 @@ pub returns : goal.returns
 returns c =
     let a = c.args in
     let put = c.put_right in
-    let all = (shown-as
+    let all = shown-as
     (then
     (one_byte a.out.now a.at blank)
-    (laid (set a.out.now a.at blank) put.new.out (a.at + 1) put.result (right a.width (decimal a.n)) (put.ensures.value, put.ensures.out_after)))
-    (column-is a.width (decimal a.n))) in
+    (laid (set a.out.now a.at blank) put.new.out (a.at + 1) put.result (right a.width (decimal a.n))
+    (put.ensures.value, put.ensures.out_after)))
+    (column-is a.width (decimal a.n)) in
     record { value = all.end; out_after = all.list }

@@ -12,7 +12,17 @@ use Rattle.screen_head.proofs.put_head.Goals as goal
 pub put_column-behind_place-requires : goal.put_column-behind_place-requires
 put_column-behind_place-requires c =
     let kind = c.put_kind-behind_kind in
-    record { at_in_bounds = omega (arith, c.requires, kind.ensures.value, kind.auto.out, left-length 15 (word c.args.kind), word-length c.args.kind); width_bound = lit≤ tt }
+    record {
+      at_in_bounds = omega (
+        arith,
+        c.requires,
+        kind.ensures.value,
+        kind.auto.out,
+        left-length 15 (word c.args.kind),
+        word-length c.args.kind,
+      );
+      width_bound = lit≤ tt;
+    }
 
 pub put_column-behind_bits-requires : goal.put_column-behind_bits-requires
 put_column-behind_bits-requires c =
@@ -89,10 +99,12 @@ returns c =
     let bits = c.put_column-behind_bits in
     let value = c.put_value-behind_value in
     let number = c.put_column in
-    let all = (then (then (then (then
+    let all = then (then (then (then
     (laid a.out.now kind.new.out a.at kind.result (left 15 (word a.kind)) (kind.ensures.value, kind.ensures.out_after))
     (laid kind.new.out place.new.out kind.result place.result (column 10 (decimal a.place)) (place.ensures.value, place.ensures.out_after)))
     (laid place.new.out bits.new.out place.result bits.result (column 9 (decimal a.bits)) (bits.ensures.value, bits.ensures.out_after)))
-    (laid bits.new.out value.new.out bits.result value.result (column 21 (value_of_kind a.kind a.value)) (value.ensures.value, value.ensures.out_after)))
-    (laid value.new.out number.new.out value.result number.result (column 5 (decimal a.number)) (number.ensures.value, number.ensures.out_after))) in
+    (laid bits.new.out value.new.out bits.result value.result (column 21 (value_of_kind a.kind a.value))
+    (value.ensures.value, value.ensures.out_after)))
+    (laid value.new.out number.new.out value.result number.result (column 5 (decimal a.number))
+    (number.ensures.value, number.ensures.out_after)) in
     record { value = all.end; out_after = all.list }

@@ -13,11 +13,11 @@ returns-then-width-lt-KIND_WIDTH c =
     let put = c.put_word-end in
     let more = c.put_times in
     let n = 15 - (put.result - a.at) in
-    let all = (shown-as
+    let all = shown-as
     (then
     (laid a.out.now put.new.out a.at put.result (word a.kind) (put.ensures.value, put.ensures.out_after))
     (laid put.new.out more.new.out put.result more.result (times n blank) (more.ensures.value, more.ensures.out_after)))
-    (left-fills 15 n (word a.kind) (omega (arith, put.ensures.value)))) in
+    (left-fills 15 n (word a.kind) (omega (arith, put.ensures.value))) in
     record { value = all.end; out_after = all.list }
 
 pub returns : goal.returns
@@ -25,5 +25,6 @@ returns c =
     let a = c.args in
     let put = c.put_word-end in
     let all = same_text a.out.now put.new.out a.at put.result (word a.kind) (left 15 (word a.kind))
-    (left-full 15 (word a.kind) (omega (arith, put.ensures.value, c.if-width-lt-KIND_WIDTH.false))) (put.ensures.value, put.ensures.out_after) in
+    (left-full 15 (word a.kind) (omega (arith, put.ensures.value, c.if-width-lt-KIND_WIDTH.false)))
+    (put.ensures.value, put.ensures.out_after) in
     record { value = all.0; out_after = all.1 }

@@ -22,13 +22,14 @@ pub returns-then-has_sign : goal.returns-then-has_sign
 returns-then-has_sign c =
     let a = c.args in
     let put = c.put_signed_right in
-    let all = (shown-as
+    let all = shown-as
     (then
     (one_byte a.out.now a.at blank)
-    (laid (set a.out.now a.at blank) put.new.out (a.at + 1) put.result (right 21 (signed_decimal a.value)) (put.ensures.value, put.ensures.out_after)))
+    (laid (set a.out.now a.at blank) put.new.out (a.at + 1) put.result (right 21 (signed_decimal a.value))
+    (put.ensures.value, put.ensures.out_after)))
     (column-is 21 (signed_decimal a.value) ∙ ap (λ x. column 21 x)
     (value-signed a.kind a.value (sym c.has_sign.ensures
-    ∙ c.if-has_sign.true)))) in
+    ∙ c.if-has_sign.true))) in
     record { value = all.end; out_after = all.list }
 
 pub put_right-requires : goal.put_right-requires
@@ -44,11 +45,12 @@ pub returns : goal.returns
 returns c =
     let a = c.args in
     let put = c.put_right in
-    let all = (shown-as
+    let all = shown-as
     (then
     (one_byte a.out.now a.at blank)
-    (laid (set a.out.now a.at blank) put.new.out (a.at + 1) put.result (right 21 (decimal a.value)) (put.ensures.value, put.ensures.out_after)))
+    (laid (set a.out.now a.at blank) put.new.out (a.at + 1) put.result (right 21 (decimal a.value))
+    (put.ensures.value, put.ensures.out_after)))
     (column-is 21 (decimal a.value) ∙ ap (λ x. column 21 x)
     (value-plain a.kind a.value (sym c.has_sign.ensures
-    ∙ c.if-has_sign.false)))) in
+    ∙ c.if-has_sign.false))) in
     record { value = all.end; out_after = all.list }

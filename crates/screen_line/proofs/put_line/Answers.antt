@@ -13,8 +13,7 @@ use Rattle.screen_number.proofs.Laid.{laid, both, then, shown-as}
 use Rattle.screen_line.proofs.put_line.Goals as goal
 
 pub put_head-a-requires : goal.put_head-a-requires
-put_head-a-requires c =
-    omega (arith, c.requires.in_bounds)
+put_head-a-requires c = omega (arith, c.requires.in_bounds)
 
 pub put_meaning-b-requires : goal.put_meaning-b-requires
 put_meaning-b-requires c =
@@ -45,11 +44,12 @@ put_bytes-requires c =
 pub returns : goal.returns
 unfolding line bytes
 returns c =
-    let all = (shown-as
+    let all = shown-as
     (then
     (then
     (laid c.args.out.now c.put_head-a.new.out (0) c.put_head-a.result
-    (head (five c.args.kind c.args.place c.args.bits c.args.value c.args.number)) (c.put_head-a.ensures.value, c.put_head-a.ensures.out_after))
+    (head (five c.args.kind c.args.place c.args.bits c.args.value c.args.number))
+    (c.put_head-a.ensures.value, c.put_head-a.ensures.out_after))
     (laid c.put_head-a.new.out c.put_meaning-b.new.out c.put_head-a.result
     c.put_meaning-b.result
     (short_meaning c.args.sort c.args.stream.now c.args.frequency
@@ -64,5 +64,5 @@ returns c =
     (same-meaning c.args.sort c.args.stream.now c.args.frequency c.args.kind c.args.place c.args.bits
     c.args.value c.args.number ∙ meant-by c.args.stream.now c.args.frequency
     (five c.args.kind c.args.place c.args.bits c.args.value c.args.number) c.args.sort c.requires.sort_value.0
-    c.requires.sort_value.1))) in
+    c.requires.sort_value.1)) in
     record { value = all.end; out_after = all.list }

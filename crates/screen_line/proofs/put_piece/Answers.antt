@@ -18,8 +18,7 @@ returns-then-out-lt-PIECE_ROOM c =
     record { value = all.0; out_after = all.1 }
 
 pub put_text_piece-requires : goal.put_text_piece-requires
-put_text_piece-requires c =
-    omega (arith, c.if-out-lt-PIECE_ROOM.false)
+put_text_piece-requires c = omega (arith, c.if-out-lt-PIECE_ROOM.false)
 
 pub returns-then-sort-eq-TEXT : goal.returns-then-sort-eq-TEXT
 returns-then-sort-eq-TEXT c =
@@ -31,7 +30,8 @@ returns-then-sort-eq-TEXT c =
     c.put_text_piece.result c.if-out-lt-PIECE_ROOM.false
     (piece-text c.args.stream.now c.args.frequency (five c.args.kind c.args.place c.args.bits c.args.value
     c.args.number) c.args.i (is-text (five c.args.kind c.args.place c.args.bits c.args.value c.args.number)
-    c.sort_of-sort.result c.sort_of-sort.ensures c.if-sort-eq-TEXT.true)) (c.put_text_piece.ensures.value, c.put_text_piece.ensures.out_after) in
+    c.sort_of-sort.result c.sort_of-sort.ensures c.if-sort-eq-TEXT.true))
+    (c.put_text_piece.ensures.value, c.put_text_piece.ensures.out_after) in
     record { value = all.0; out_after = all.1 }
 
 pub put_line-requires : goal.put_line-requires

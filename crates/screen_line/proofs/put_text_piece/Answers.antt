@@ -14,8 +14,7 @@ use Rattle.screen_number.proofs.Laid.{laid, both, then, shown-as}
 use Rattle.screen_line.proofs.put_text_piece.Goals as goal
 
 pub put_head-a-requires : goal.put_head-a-requires
-put_head-a-requires c =
-    omega (arith, c.requires)
+put_head-a-requires c = omega (arith, c.requires)
 
 pub put_bytes-requires : goal.put_bytes-requires
 put_bytes-requires c =
@@ -31,21 +30,21 @@ put_bytes-requires c =
 pub returns-then-i-eq0 : goal.returns-then-i-eq0
 unfolding bytes
 returns-then-i-eq0 c =
-    let all = (shown-as
+    let all = shown-as
     (then
     (laid c.args.out.now c.put_head-a.new.out (0) c.put_head-a.result
-    (head (five c.args.kind c.args.place c.args.bits c.args.value c.args.number)) (c.put_head-a.ensures.value, c.put_head-a.ensures.out_after))
+    (head (five c.args.kind c.args.place c.args.bits c.args.value c.args.number))
+    (c.put_head-a.ensures.value, c.put_head-a.ensures.out_after))
     (laid c.put_head-a.new.out c.put_bytes.new.out c.put_head-a.result
     c.put_bytes.result
     (bytes "  \"") (c.put_bytes.ensures.value, c.put_bytes.ensures.out_after)))
     (piece-opens (five c.args.kind c.args.place c.args.bits c.args.value c.args.number)
     (bytes_of c.args.stream.now (five c.args.kind c.args.place c.args.bits c.args.value c.args.number))
-    c.args.i c.if-i-eq0.true)) in
+    c.args.i c.if-i-eq0.true) in
     record { value = all.end; out_after = all.list }
 
 pub overflow_sub-i : goal.overflow_sub-i
-overflow_sub-i c =
-    omega (arith, c.if-i-eq0.false)
+overflow_sub-i c = omega (arith, c.if-i-eq0.false)
 
 pub put_text_part-requires : goal.put_text_part-requires
 put_text_part-requires c =
@@ -63,7 +62,7 @@ put_text_part-requires c =
 pub returns : goal.returns
 unfolding bytes
 returns c =
-    let all = (shown-as
+    let all = shown-as
     (laid c.args.out.now c.put_text_part.new.out (0) c.put_text_part.result
     (text_part (take c.bytes_of.result (drop c.from_of.result c.args.stream.now)) (c.args.i - 1))
     (c.put_text_part.ensures.value, c.put_text_part.ensures.out_after))
@@ -74,5 +73,5 @@ returns c =
     (five c.args.kind c.args.place c.args.bits c.args.value c.args.number))
     ∙ piece-behind (five c.args.kind c.args.place c.args.bits c.args.value c.args.number)
     (bytes_of c.args.stream.now (five c.args.kind c.args.place c.args.bits c.args.value c.args.number))
-    c.args.i c.if-i-eq0.false)) in
+    c.args.i c.if-i-eq0.false) in
     record { value = all.end; out_after = all.list }

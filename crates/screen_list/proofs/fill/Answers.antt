@@ -6,13 +6,6 @@ use lib.ListN.{length}
 use Rattle.screen_list.proofs.Entries.{entries-most}
 use Rattle.screen_list.proofs.Fills.{filling-start, filling_step, filling-part, filling-end, came}
 use Rattle.screen_list.proofs.fill.Goals as goal
-use Rattle.screen_list.proofs.fill.Lts as lts
-use Rattle.screen_list.proofs.fill.Tie as tie
-use Rattle.screen_list.proofs.fill.Reads as reads
-
--- The way back from where the entries are counted
-abbrev start : lts.After-entries_in tie.the-claims reads.Pre reads.Post goal.the-invariant-loop-at goal.the-decreases-loop-at tie.handed_clauses → lts.Start tie.the-claims reads.Pre reads.Post goal.the-invariant-loop-at goal.the-decreases-loop-at tie.handed_clauses
-start c = c.before.before.before.before.before
 
 pub loop-at-init : goal.loop-at-init
 loop-at-init c =
@@ -34,8 +27,7 @@ put_entry-put-requires c =
     )
 
 pub shape_of-out-else-put : goal.shape_of-out-else-put
-shape_of-out-else-put c =
-    c.put_entry-put.auto.out ∙ c.loop-at.invariant.same
+shape_of-out-else-put c = c.put_entry-put.auto.out ∙ c.loop-at.invariant.same
 
 pub returns-else-put : goal.returns-else-put
 returns-else-put c =

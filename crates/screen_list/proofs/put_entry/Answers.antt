@@ -5,16 +5,6 @@ use Rattle.rules.specs.Limits.{words_per_entry}
 use Rattle.screen_list.specs.Lines.{entry_at}
 use Rattle.screen_list.proofs.Entries.{entry-put}
 use Rattle.screen_list.proofs.put_entry.Goals as goal
-use Rattle.screen_list.proofs.put_entry.Lts as lts
-use Rattle.screen_list.proofs.put_entry.Tie as tie
-use Rattle.screen_list.proofs.put_entry.Reads as reads
-
--- The way back from where the frequency is settled: past the reading of the five words, and to the start
-abbrev words : lts.After-settle tie.the-claims reads.Pre reads.Post tie.handed_clauses → lts.After-shared_slice_known3 tie.the-claims reads.Pre reads.Post tie.handed_clauses
-words c = c.before.before.before.before.before.before
-
-abbrev start : lts.After-shared_slice_known3 tie.the-claims reads.Pre reads.Post tie.handed_clauses → lts.Start tie.the-claims reads.Pre reads.Post tie.handed_clauses
-start c = c.before.before.before.before
 
 pub returns : goal.returns
 unfolding entry_at

@@ -20,8 +20,7 @@ loop-shown-init c =
     )
 
 pub overflow_add-done : goal.overflow_add-done
-overflow_add-done c =
-    omega (arith, c.requires.bytes_in_bounds, c.requires, c.loop-shown-test.true)
+overflow_add-done c = omega (arith, c.requires.bytes_in_bounds, c.requires, c.loop-shown-test.true)
 
 pub put_byte-end-requires : goal.put_byte-end-requires
 put_byte-end-requires c =
@@ -39,8 +38,7 @@ put_byte-end-requires c =
     }
 
 pub overflow_add-shown : goal.overflow_add-shown
-overflow_add-shown c =
-    omega (arith, c.requires.bytes_in_bounds, c.requires, c.loop-shown-test.true)
+overflow_add-shown c = omega (arith, c.requires.bytes_in_bounds, c.requires, c.loop-shown-test.true)
 
 pub loop-shown-smaller : goal.loop-shown-smaller
 loop-shown-smaller c = omega (arith, c.loop-shown-test.true)
@@ -53,7 +51,8 @@ loop-shown-preserved c =
     let i = c.loop-shown.shown in
     let so_far = laid a.out.now c.loop-shown.out a.at c.loop-shown.end (part t a.done i)
     (c.loop-shown.invariant.0, c.loop-shown.invariant.1) in
-    let one = laid c.loop-shown.out put.new.out c.loop-shown.end put.result (shown_at t (a.done + i)) (put.ensures.value, put.ensures.out_after) in
+    let one = laid c.loop-shown.out put.new.out c.loop-shown.end put.result (shown_at t (a.done + i))
+    (put.ensures.value, put.ensures.out_after) in
     let all = both (shown-as (then so_far one) (part-more t a.done i)) in
     (all.0, all.1, omega (arith, c.loop-shown-test.true), put.auto.out ∙ c.loop-shown.invariant.3)
 

@@ -23,7 +23,7 @@ returns c =
     let a = c.args in
     let word = c.put_bytes-end in
     let number = c.put_decimal in
-    let all = (then
+    let all = then
     (laid a.out.now word.new.out a.at word.result (bytes "kind-") (word.ensures.value, word.ensures.out_after))
-    (laid word.new.out number.new.out word.result number.result (decimal a.kind) (number.ensures.value, number.ensures.out_after))) in
+    (laid word.new.out number.new.out word.result number.result (decimal a.kind) (number.ensures.value, number.ensures.out_after)) in
     record { value = all.end; out_after = all.list }

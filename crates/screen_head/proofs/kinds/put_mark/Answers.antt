@@ -1,5 +1,6 @@
 -- Entries that are of no field, each by its own word.
 use mathlib.Core.Path.{◌≡◌, sym, ap}
+use native.Mathlib.Omega.{arith}
 use Rattle.screen_number.specs.Number.{bytes}
 use Rattle.screen_number.proofs.Laid.{same_text}
 use Rattle.screen_head.proofs.Words.{last-mark}
@@ -65,7 +66,9 @@ returns-in-7 c =
 pub returns-in_default : goal.returns-in_default
 unfolding word named row_of rows row bytes
 returns-in_default c =
-    let last : 8 ≡ c.args.kind = last-mark c.args.kind c.requires.le_kind (omega arith) (omega arith) (omega arith) (omega arith) (omega arith) (omega arith) (omega arith) in
+    let last : 8 ≡ c.args.kind =
+    last-mark c.args.kind c.requires.le_kind
+    (omega arith) (omega arith) (omega arith) (omega arith) (omega arith) (omega arith) (omega arith) in
     let a = c.args in
     let all = same_text a.out.now c.put_bytes-in_default.new.out a.at c.put_bytes-in_default.result (word 8)
     (word a.kind) (ap word last) (c.put_bytes-in_default.ensures.value, c.put_bytes-in_default.ensures.out_after) in

@@ -16,11 +16,11 @@ use Rattle.screen_line.proofs.meant.put_bytes_meant.Goals as goal
 
 pub returns-then-n-eq0 : goal.returns-then-n-eq0
 returns-then-n-eq0 c =
-    let all = (shown-as
+    let all = shown-as
     (laid_none c.args.out.now c.args.at)
     (no-blob-meant (bytes_of c.args.stream.now (five 0 c.args.place c.args.bits c.args.value 0))
     (sym (c.bytes_of-n.ensures ∙ sym (bytes-length c.args.stream.now
-    (five 0 c.args.place c.args.bits c.args.value 0))) ∙ c.if-n-eq0.true))) in
+    (five 0 c.args.place c.args.bits c.args.value 0))) ∙ c.if-n-eq0.true)) in
     record { value = all.end; out_after = all.list }
 
 pub put_blob-requires : goal.put_blob-requires
@@ -39,7 +39,7 @@ put_blob-requires c =
 pub returns : goal.returns
 unfolding bytes
 returns c =
-    let all = (shown-as
+    let all = shown-as
     (then
     (laid c.args.out.now c.put_bytes-a.new.out c.args.at c.put_bytes-a.result
     (bytes "  ") (c.put_bytes-a.ensures.value, c.put_bytes-a.ensures.out_after))
@@ -53,5 +53,5 @@ returns c =
     c.from_of-from.ensures ∙ bytes-are c.args.stream.now (five 0 c.args.place c.args.bits c.args.value 0))
     ∙ blob-meant (bytes_of c.args.stream.now (five 0 c.args.place c.args.bits c.args.value 0))
     (λ e. c.if-n-eq0.false (c.bytes_of-n.ensures ∙ sym
-    (bytes-length c.args.stream.now (five 0 c.args.place c.args.bits c.args.value 0)) ∙ e)))) in
+    (bytes-length c.args.stream.now (five 0 c.args.place c.args.bits c.args.value 0)) ∙ e))) in
     record { value = all.end; out_after = all.list }

@@ -9,24 +9,23 @@ use Rattle.screen_line.proofs.meant.put_clock.Goals as goal
 
 pub returns-then-frequency-eq0 : goal.returns-then-frequency-eq0
 returns-then-frequency-eq0 c =
-    let all = (shown-as
+    let all = shown-as
     (laid_none c.args.out.now c.args.at)
-    (no-clock-meant c.args.frequency c.args.clock c.if-frequency-eq0.true)) in
+    (no-clock-meant c.args.frequency c.args.clock c.if-frequency-eq0.true) in
     record { value = all.end; out_after = all.list }
 
 pub put_seconds-requires : goal.put_seconds-requires
-put_seconds-requires c =
-    omega (arith, c.requires, c.put_bytes-a.ensures.value, c.put_bytes-a.auto.out)
+put_seconds-requires c = omega (arith, c.requires, c.put_bytes-a.ensures.value, c.put_bytes-a.auto.out)
 
 pub returns : goal.returns
 unfolding bytes
 returns c =
-    let all = (shown-as
+    let all = shown-as
     (then
     (laid c.args.out.now c.put_bytes-a.new.out c.args.at c.put_bytes-a.result
     (bytes "  ") (c.put_bytes-a.ensures.value, c.put_bytes-a.ensures.out_after))
     (laid c.put_bytes-a.new.out c.put_seconds.new.out c.put_bytes-a.result
     c.put_seconds.result
     (seconds c.args.frequency c.args.clock) (c.put_seconds.ensures.value, c.put_seconds.ensures.out_after)))
-    (clock-meant c.args.frequency c.args.clock c.if-frequency-eq0.false)) in
+    (clock-meant c.args.frequency c.args.clock c.if-frequency-eq0.false) in
     record { value = all.end; out_after = all.list }

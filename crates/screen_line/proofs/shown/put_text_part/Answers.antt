@@ -10,28 +10,33 @@ use Rattle.screen_number.proofs.Laid.{laid, both, then, shown-as}
 use Rattle.screen_line.proofs.shown.put_text_part.Goals as goal
 
 pub overflow_mul-k : goal.overflow_mul-k
-overflow_mul-k c =
-    omega (arith, c.if-k-bytes.true)
+overflow_mul-k c = omega (arith, c.if-k-bytes.true)
 
 pub put_part-requires : goal.put_part-requires
 put_part-requires c =
-    record { n_in_bounds = omega (arith, c.requires.in_bounds); bytes_in_bounds = (c.requires.bytes_in_bounds, omega (arith, c.if-k-bytes.true)) }
+    record {
+      n_in_bounds = omega (arith, c.requires.in_bounds);
+      bytes_in_bounds = (c.requires.bytes_in_bounds, omega (arith, c.if-k-bytes.true));
+    }
 
 pub returns-then-k-bytes : goal.returns-then-k-bytes
 returns-then-k-bytes c =
-    let all = (shown-as
+    let all = shown-as
     (laid c.args.out.now c.put_part.new.out (0) c.put_part.result
-    (part (take c.args.bytes (drop c.args.from c.args.stream.now)) (32 * c.args.k) 32) (c.put_part.ensures.value, c.put_part.ensures.out_after))
-    (whole_of c.args.stream.now c.args.from c.args.bytes c.requires.bytes_in_bounds c.args.k c.if-k-bytes.true)) in
+    (part (take c.args.bytes (drop c.args.from c.args.stream.now)) (32 * c.args.k) 32)
+    (c.put_part.ensures.value, c.put_part.ensures.out_after))
+    (whole_of c.args.stream.now c.args.from c.args.bytes c.requires.bytes_in_bounds c.args.k c.if-k-bytes.true) in
     record { value = all.end; out_after = all.list }
 
 pub overflow_mul-k-then-k-bytes-2 : goal.overflow_mul-k-then-k-bytes-2
-overflow_mul-k-then-k-bytes-2 c =
-    omega (arith, c.if-k-bytes-2.true)
+overflow_mul-k-then-k-bytes-2 c = omega (arith, c.if-k-bytes-2.true)
 
 pub put_part-a-requires : goal.put_part-a-requires
 put_part-a-requires c =
-    record { n_in_bounds = omega (arith, c.requires.in_bounds); bytes_in_bounds = (c.requires.bytes_in_bounds, omega (arith, c.if-k-bytes-2.true)) }
+    record {
+      n_in_bounds = omega (arith, c.requires.in_bounds);
+      bytes_in_bounds = (c.requires.bytes_in_bounds, omega (arith, c.if-k-bytes-2.true));
+    }
 
 pub put_bytes-requires : goal.put_bytes-requires
 put_bytes-requires c =
@@ -47,7 +52,7 @@ put_bytes-requires c =
 pub returns-then-k-bytes-2 : goal.returns-then-k-bytes-2
 unfolding bytes
 returns-then-k-bytes-2 c =
-    let all = (shown-as
+    let all = shown-as
     (then
     (laid c.args.out.now c.put_part-a.new.out (0) c.put_part-a.result
     (part (take c.args.bytes (drop c.args.from c.args.stream.now)) (32 * c.args.k) (c.args.bytes % 32))
@@ -55,11 +60,11 @@ returns-then-k-bytes-2 c =
     (laid c.put_part-a.new.out c.put_bytes.new.out c.put_part-a.result
     c.put_bytes.result
     (bytes "\"\n") (c.put_bytes.ensures.value, c.put_bytes.ensures.out_after)))
-    (last_of c.args.stream.now c.args.from c.args.bytes c.requires.bytes_in_bounds c.args.k c.if-k-bytes-2.true)) in
+    (last_of c.args.stream.now c.args.from c.args.bytes c.requires.bytes_in_bounds c.args.k c.if-k-bytes-2.true) in
     record { value = all.end; out_after = all.list }
 
 pub returns : goal.returns
 returns c =
-    let all = (shown-as (laid_none c.args.out.now 0) (none_of c.args.stream.now c.args.from c.args.bytes c.requires.bytes_in_bounds
-    c.args.k c.if-k-bytes.false c.if-k-bytes-2.false)) in
+    let all = shown-as (laid_none c.args.out.now 0) (none_of c.args.stream.now c.args.from c.args.bytes c.requires.bytes_in_bounds
+    c.args.k c.if-k-bytes.false c.if-k-bytes-2.false) in
     record { value = all.end; out_after = all.list }

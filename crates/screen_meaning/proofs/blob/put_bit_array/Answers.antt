@@ -22,11 +22,11 @@ put_hex-requires c =
 pub returns : goal.returns
 unfolding bit_array bytes
 returns c =
-    let all = (shown-as
+    let all = shown-as
     (then
     (laid c.args.out.now c.put_bytes-end.new.out c.args.at c.put_bytes-end.result
     (bytes "0x") (c.put_bytes-end.ensures.value, c.put_bytes-end.ensures.out_after))
     (laid c.put_bytes-end.new.out c.put_hex.new.out c.put_bytes-end.result c.put_hex.result
     (hex c.digits_of-digits.result c.args.value) (c.put_hex.ensures.value, c.put_hex.ensures.out_after)))
-    (ap (λ k. bytes "0x" ++ hex k c.args.value) c.digits_of-digits.ensures)) in
+    (ap (λ k. bytes "0x" ++ hex k c.args.value) c.digits_of-digits.ensures) in
     record { value = all.end; out_after = all.list }

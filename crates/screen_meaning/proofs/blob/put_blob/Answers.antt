@@ -11,7 +11,10 @@ use Rattle.screen_meaning.proofs.blob.put_blob.Goals as goal
 
 pub put_hexes-end-requires : goal.put_hexes-end-requires
 put_hexes-end-requires c =
-    record { n_in_bounds = omega (arith, c.requires.at_in_bounds); n_in_bounds_2 = omega (arith, c.requires.bytes_in_bounds, c.if-bytes-gt32.true) }
+    record {
+      n_in_bounds = omega (arith, c.requires.at_in_bounds);
+      n_in_bounds_2 = omega (arith, c.requires.bytes_in_bounds, c.if-bytes-gt32.true);
+    }
 
 pub put_more-requires : goal.put_more-requires
 put_more-requires c =
@@ -31,7 +34,7 @@ put_more-requires c =
 
 pub returns-then-bytes-gt32 : goal.returns-then-bytes-gt32
 returns-then-bytes-gt32 c =
-    let all = (shown-as
+    let all = shown-as
     (then
     (laid c.args.out.now c.put_hexes-end.new.out c.args.at c.put_hexes-end.result
     (hexes (take 32 (drop c.args.from c.args.stream.now))) (c.put_hexes-end.ensures.value, c.put_hexes-end.ensures.out_after))
@@ -42,7 +45,7 @@ returns-then-bytes-gt32 c =
     ∙ ap (λ k. hexes (take 32 (take c.args.bytes (drop c.args.from c.args.stream.now))) ++ more k)
     (sym (length_part c.args.stream.now c.args.from c.args.bytes c.requires.bytes_in_bounds))
     ∙ blob-long (take c.args.bytes (drop c.args.from c.args.stream.now))
-    (omega (arith, c.if-bytes-gt32.true, length_part c.args.stream.now c.args.from c.args.bytes c.requires.bytes_in_bounds)))) in
+    (omega (arith, c.if-bytes-gt32.true, length_part c.args.stream.now c.args.from c.args.bytes c.requires.bytes_in_bounds))) in
     record { value = all.end; out_after = all.list }
 
 pub put_hexes-requires : goal.put_hexes-requires
@@ -51,9 +54,9 @@ put_hexes-requires c =
 
 pub returns : goal.returns
 returns c =
-    let all = (shown-as
+    let all = shown-as
     (laid c.args.out.now c.put_hexes.new.out c.args.at c.put_hexes.result
     (hexes (take c.args.bytes (drop c.args.from c.args.stream.now))) (c.put_hexes.ensures.value, c.put_hexes.ensures.out_after))
     (blob-short (take c.args.bytes (drop c.args.from c.args.stream.now))
-    (omega (arith, c.if-bytes-gt32.false, length_part c.args.stream.now c.args.from c.args.bytes c.requires.bytes_in_bounds)))) in
+    (omega (arith, c.if-bytes-gt32.false, length_part c.args.stream.now c.args.from c.args.bytes c.requires.bytes_in_bounds))) in
     record { value = all.end; out_after = all.list }

@@ -20,12 +20,10 @@ loop-shown-init c =
     )
 
 pub overflow_add-from : goal.overflow_add-from
-overflow_add-from c =
-    omega (arith, c.requires.n_in_bounds_2, c.requires, c.loop-shown-test.true)
+overflow_add-from c = omega (arith, c.requires.n_in_bounds_2, c.requires, c.loop-shown-test.true)
 
 pub bounds-stream-from : goal.bounds-stream-from
-bounds-stream-from c =
-    omega (arith, c.requires.n_in_bounds_2, c.loop-shown-test.true)
+bounds-stream-from c = omega (arith, c.requires.n_in_bounds_2, c.loop-shown-test.true)
 
 pub put_hex-end-requires : goal.put_hex-end-requires
 put_hex-end-requires c =
@@ -48,12 +46,10 @@ put_hex-end-requires c =
     )
 
 pub overflow_add-shown : goal.overflow_add-shown
-overflow_add-shown c =
-    omega (arith, c.requires.n_in_bounds_2, c.requires, c.loop-shown-test.true)
+overflow_add-shown c = omega (arith, c.requires.n_in_bounds_2, c.requires, c.loop-shown-test.true)
 
 pub loop-shown-smaller : goal.loop-shown-smaller
-loop-shown-smaller c =
-    omega (arith, c.loop-shown-test.true)
+loop-shown-smaller c = omega (arith, c.loop-shown-test.true)
 
 pub loop-shown-preserved : goal.loop-shown-preserved
 loop-shown-preserved c =
@@ -72,8 +68,7 @@ loop-shown-preserved c =
     (all.0, all.1, omega (arith, c.loop-shown-test.true), put.auto.out ∙ c.loop-shown.invariant.3)
 
 pub shape_of-out : goal.shape_of-out
-shape_of-out c =
-    c.loop-shown.invariant.3
+shape_of-out c = c.loop-shown.invariant.3
 
 pub returns : goal.returns
 returns c =

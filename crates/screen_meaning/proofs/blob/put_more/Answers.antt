@@ -26,7 +26,7 @@ put_bytes-requires c =
 pub returns : goal.returns
 unfolding more bytes
 returns c =
-    let all = (then
+    let all = then
     (then
     (laid c.args.out.now c.put_bytes-a.new.out c.args.at c.put_bytes-a.result
     (bytes " + ") (c.put_bytes-a.ensures.value, c.put_bytes-a.ensures.out_after))
@@ -35,5 +35,5 @@ returns c =
     (decimal (c.args.bytes - 32)) (c.put_decimal-b.ensures.value, c.put_decimal-b.ensures.out_after)))
     (laid c.put_decimal-b.new.out c.put_bytes.new.out c.put_decimal-b.result
     c.put_bytes.result
-    (bytes " bytes") (c.put_bytes.ensures.value, c.put_bytes.ensures.out_after))) in
+    (bytes " bytes") (c.put_bytes.ensures.value, c.put_bytes.ensures.out_after)) in
     record { value = all.end; out_after = all.list }

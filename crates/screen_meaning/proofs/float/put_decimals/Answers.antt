@@ -7,15 +7,14 @@ use Rattle.screen_number.proofs.Laid.{laid, both, shown-as}
 use Rattle.screen_meaning.proofs.float.put_decimals.Goals as goal
 
 pub put_whole-requires : goal.put_whole-requires
-put_whole-requires c =
-    c.requires.at_in_bounds
+put_whole-requires c = c.requires.at_in_bounds
 
 pub returns-then-down-eq0 : goal.returns-then-down-eq0
 returns-then-down-eq0 c =
-    let all = (shown-as
+    let all = shown-as
     (laid c.args.out.now c.put_whole.new.out c.args.at c.put_whole.result
     (decimals c.args.negative c.args.m c.args.up 0) (c.put_whole.ensures.value, c.put_whole.ensures.out_after))
-    (ap (λ d. decimals c.args.negative c.args.m c.args.up d) (sym c.if-down-eq0.true))) in
+    (ap (λ d. decimals c.args.negative c.args.m c.args.up d) (sym c.if-down-eq0.true)) in
     record { value = all.end; out_after = all.list }
 
 pub put_fraction-requires : goal.put_fraction-requires
@@ -24,9 +23,9 @@ put_fraction-requires c =
 
 pub returns : goal.returns
 returns c =
-    let all = (shown-as
+    let all = shown-as
     (laid c.args.out.now c.put_fraction.new.out c.args.at c.put_fraction.result
     (decimals c.args.negative c.args.m 0 c.args.down) (c.put_fraction.ensures.value, c.put_fraction.ensures.out_after))
     (ap (λ u. decimals c.args.negative c.args.m u c.args.down)
-    (sym (no-up c.args.up c.args.down c.requires.m_bound.1 c.if-down-eq0.false)))) in
+    (sym (no-up c.args.up c.args.down c.requires.m_bound.1 c.if-down-eq0.false))) in
     record { value = all.end; out_after = all.list }

@@ -82,7 +82,7 @@ put_exponent-requires c =
 pub returns : goal.returns
 unfolding exact bytes
 returns c =
-    let all = (then
+    let all = then
     (then
     (then
     (then
@@ -103,5 +103,5 @@ returns c =
     (bytes "p") (c.put_bytes-e.ensures.value, c.put_bytes-e.ensures.out_after)))
     (laid c.put_bytes-e.new.out c.put_exponent.new.out c.put_bytes-e.result
     c.put_exponent.result
-    (exponent c.args.bias c.args.raised c.args.fraction) (c.put_exponent.ensures.value, c.put_exponent.ensures.out_after))) in
+    (exponent c.args.bias c.args.raised c.args.fraction) (c.put_exponent.ensures.value, c.put_exponent.ensures.out_after)) in
     record { value = all.end; out_after = all.list }

@@ -12,11 +12,13 @@ use Rattle.screen_meaning.proofs.float.put_finite.Goals as goal
 
 pub put_exact-b-requires : goal.put_exact-b-requires
 put_exact-b-requires c =
-    record { at_in_bounds = omega (arith, c.requires, c.put_sign-a.ensures.value, c.put_sign-a.auto.out, sign-length c.args.negative); digits_bound = (c.requires.digits_bound.0, omega (arith, c.requires.digits_bound.1)) }
+    record {
+      at_in_bounds = omega (arith, c.requires, c.put_sign-a.ensures.value, c.put_sign-a.auto.out, sign-length c.args.negative);
+      digits_bound = (c.requires.digits_bound.0, omega (arith, c.requires.digits_bound.1));
+    }
 
 pub significand-m-requires : goal.significand-m-requires
-significand-m-requires c =
-    c.requires.digits_bound.1.0
+significand-m-requires c = c.requires.digits_bound.1.0
 
 pub put_decimals-requires : goal.put_decimals-requires
 put_decimals-requires c =
@@ -42,14 +44,15 @@ put_decimals-requires c =
 pub returns : goal.returns
 unfolding finite
 returns c =
-    let all = (shown-as
+    let all = shown-as
     (then
     (then
     (laid c.args.out.now c.put_sign-a.new.out c.args.at c.put_sign-a.result
     (sign c.args.negative) (c.put_sign-a.ensures.value, c.put_sign-a.ensures.out_after))
     (laid c.put_sign-a.new.out c.put_exact-b.new.out c.put_sign-a.result
     c.put_exact-b.result
-    (exact c.args.digits c.args.full c.args.bias c.args.raised c.args.fraction) (c.put_exact-b.ensures.value, c.put_exact-b.ensures.out_after)))
+    (exact c.args.digits c.args.full c.args.bias c.args.raised c.args.fraction)
+    (c.put_exact-b.ensures.value, c.put_exact-b.ensures.out_after)))
     (laid c.put_exact-b.new.out c.put_decimals.new.out c.put_exact-b.result
     c.put_decimals.result
     (decimals c.args.negative c.significand-m.result c.lacking.result c.lacking-2.result)
@@ -60,5 +63,5 @@ returns c =
       c.lacking.ensures,
       c.lacking-2.ensures,
       c.power_of-power.ensures,
-    )))) in
+    ))) in
     record { value = all.end; out_after = all.list }

@@ -7,27 +7,25 @@ use Rattle.screen_number.proofs.Laid.{laid, both, shown-as}
 use Rattle.screen_meaning.proofs.float.put_float.Goals as goal
 
 pub put_binary32-requires : goal.put_binary32-requires
-put_binary32-requires c =
-    record { at_in_bounds = c.requires; raised_bound = (omega arith, omega arith) }
+put_binary32-requires c = record { at_in_bounds = c.requires; raised_bound = (omega arith, omega arith) }
 
 pub returns-then-bits-eq32 : goal.returns-then-bits-eq32
 returns-then-bits-eq32 c =
-    let all = (shown-as
+    let all = shown-as
     (laid c.args.out.now c.put_binary32.new.out c.args.at c.put_binary32.result
     (binary32 (c.args.value / 2147483648 % 2) (c.args.value / 8388608 % 256) (c.args.value % 8388608))
     (c.put_binary32.ensures.value, c.put_binary32.ensures.out_after))
-    (float-32 c.args.bits c.args.value c.if-bits-eq32.true)) in
+    (float-32 c.args.bits c.args.value c.if-bits-eq32.true) in
     record { value = all.end; out_after = all.list }
 
 pub put_binary64-requires : goal.put_binary64-requires
-put_binary64-requires c =
-    record { at_in_bounds = c.requires; raised_bound = (omega arith, omega arith) }
+put_binary64-requires c = record { at_in_bounds = c.requires; raised_bound = (omega arith, omega arith) }
 
 pub returns : goal.returns
 returns c =
-    let all = (shown-as
+    let all = shown-as
     (laid c.args.out.now c.put_binary64.new.out c.args.at c.put_binary64.result
     (binary64 (c.args.value / 9223372036854775808 % 2) (c.args.value / 4503599627370496 % 2048) (c.args.value % 4503599627370496))
     (c.put_binary64.ensures.value, c.put_binary64.ensures.out_after))
-    (float-64 c.args.bits c.args.value c.if-bits-eq32.false)) in
+    (float-64 c.args.bits c.args.value c.if-bits-eq32.false) in
     record { value = all.end; out_after = all.list }

@@ -8,34 +8,31 @@ use Rattle.screen_number.proofs.Laid.{laid, both, shown-as}
 use Rattle.screen_meaning.proofs.float.put_fraction.Goals as goal
 
 pub below_down-requires : goal.below_down-requires
-below_down-requires c =
-    c.requires.m_bound.0
+below_down-requires c = c.requires.m_bound.0
 
 pub is_exact-exactly-requires : goal.is_exact-exactly-requires
-is_exact-exactly-requires c =
-    c.requires.m_bound.0
+is_exact-exactly-requires c = c.requires.m_bound.0
 
 pub millionths-requires : goal.millionths-requires
 millionths-requires c =
     record { m_bound = c.requires.m_bound; down_value = sym c.below_down.ensures ∙ c.if-below_down.true }
 
 pub put_marked-requires : goal.put_marked-requires
-put_marked-requires c =
-    c.requires.at_in_bounds
+put_marked-requires c = c.requires.at_in_bounds
 
 pub returns-then-below_down : goal.returns-then-below_down
 returns-then-below_down c =
-    let all = (shown-as
+    let all = shown-as
     (laid c.args.out.now c.put_marked.new.out c.args.at c.put_marked.result
     (marked c.is_exact-exactly.result c.args.negative c.millionths.result) (c.put_marked.ensures.value, c.put_marked.ensures.out_after))
     (decimals-some c.args.negative c.args.m 0 c.args.down c.is_exact-exactly.result
     c.millionths.result (sym c.below_down.ensures ∙ c.if-below_down.true) c.is_exact-exactly.ensures
-    c.millionths.ensures)) in
+    c.millionths.ensures) in
     record { value = all.end; out_after = all.list }
 
 pub returns : goal.returns
 returns c =
-    let all = (shown-as
+    let all = shown-as
     (laid_none c.args.out.now c.args.at)
-    (decimals-none c.args.negative c.args.m 0 c.args.down (sym c.below_down.ensures ∙ c.if-below_down.false))) in
+    (decimals-none c.args.negative c.args.m 0 c.args.down (sym c.below_down.ensures ∙ c.if-below_down.false)) in
     record { value = all.end; out_after = all.list }

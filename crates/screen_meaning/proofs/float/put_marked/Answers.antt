@@ -8,8 +8,7 @@ use Rattle.screen_number.proofs.Laid.{laid, both, then}
 use Rattle.screen_meaning.proofs.float.put_marked.Goals as goal
 
 pub put_mark-a-requires : goal.put_mark-a-requires
-put_mark-a-requires c =
-    omega (arith, c.requires, mark-length c.args.exactly)
+put_mark-a-requires c = omega (arith, c.requires, mark-length c.args.exactly)
 
 pub put_sign-b-requires : goal.put_sign-b-requires
 put_sign-b-requires c =
@@ -39,12 +38,12 @@ put_six-requires c =
 pub returns : goal.returns
 unfolding marked
 returns c =
-    let all = (then
+    let all = then
     (then
     (laid c.args.out.now c.put_mark-a.new.out c.args.at c.put_mark-a.result
     (mark c.args.exactly) (c.put_mark-a.ensures.value, c.put_mark-a.ensures.out_after))
     (laid c.put_mark-a.new.out c.put_sign-b.new.out c.put_mark-a.result c.put_sign-b.result
     (sign c.args.negative) (c.put_sign-b.ensures.value, c.put_sign-b.ensures.out_after)))
     (laid c.put_sign-b.new.out c.put_six.new.out c.put_sign-b.result c.put_six.result
-    (six_decimals c.args.q) (c.put_six.ensures.value, c.put_six.ensures.out_after))) in
+    (six_decimals c.args.q) (c.put_six.ensures.value, c.put_six.ensures.out_after)) in
     record { value = all.end; out_after = all.list }

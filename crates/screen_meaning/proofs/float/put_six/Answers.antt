@@ -10,8 +10,7 @@ use Rattle.screen_number.proofs.Laid.{laid, both, then}
 use Rattle.screen_meaning.proofs.float.put_six.Goals as goal
 
 pub put_decimal-a-requires : goal.put_decimal-a-requires
-put_decimal-a-requires c =
-    omega (arith, c.requires, decimal-length (c.args.q / 1000000))
+put_decimal-a-requires c = omega (arith, c.requires, decimal-length (c.args.q / 1000000))
 
 pub put_bytes-b-requires : goal.put_bytes-b-requires
 put_bytes-b-requires c =
@@ -42,7 +41,7 @@ put_zeros-requires c =
 pub returns : goal.returns
 unfolding six_decimals bytes
 returns c =
-    let all = (then
+    let all = then
     (then
     (laid c.args.out.now c.put_decimal-a.new.out c.args.at c.put_decimal-a.result
     (decimal (c.args.q / 1000000)) (c.put_decimal-a.ensures.value, c.put_decimal-a.ensures.out_after))
@@ -51,5 +50,5 @@ returns c =
     (bytes ".") (c.put_bytes-b.ensures.value, c.put_bytes-b.ensures.out_after)))
     (laid c.put_bytes-b.new.out c.put_zeros.new.out c.put_bytes-b.result
     c.put_zeros.result
-    (zeros 6 (c.args.q % 1000000)) (c.put_zeros.ensures.value, c.put_zeros.ensures.out_after))) in
+    (zeros 6 (c.args.q % 1000000)) (c.put_zeros.ensures.value, c.put_zeros.ensures.out_after)) in
     record { value = all.end; out_after = all.list }

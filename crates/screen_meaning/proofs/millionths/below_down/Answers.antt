@@ -8,8 +8,7 @@ use Rattle.screen_meaning.proofs.Nearest.{below-far, below-near}
 use Rattle.screen_meaning.proofs.millionths.below_down.Goals as goal
 
 pub returns-then-down-ge14 : goal.returns-then-down-ge14
-returns-then-down-ge14 c =
-    below-far c.args.m c.args.down c.requires c.if-down-ge14.true
+returns-then-down-ge14 c = below-far c.args.m c.args.down c.requires c.if-down-ge14.true
 
 pub power-requires : goal.power-requires
 power-requires c = omega (arith, c.if-down-ge14.false)
@@ -19,5 +18,4 @@ overflow_mul-result c =
     omega (arith, c.power.ensures, c.if-down-ge14.false, pow_mono {i = c.args.down} {j = 13} (omega (arith, c.if-down-ge14.false)))
 
 pub returns : goal.returns
-returns c =
-    ap (λ k. ltb c.args.m (1000000000000 * k)) c.power.ensures ∙ below-near c.args.m c.args.down
+returns c = ap (λ k. ltb c.args.m (1000000000000 * k)) c.power.ensures ∙ below-near c.args.m c.args.down

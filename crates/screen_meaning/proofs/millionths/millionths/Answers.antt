@@ -7,15 +7,13 @@ use Rattle.screen_meaning.proofs.Nearest.{over_zero, near-is, near-room, far_non
 use Rattle.screen_meaning.proofs.millionths.millionths.Goals as goal
 
 pub overflow_sub-down : goal.overflow_sub-down
-overflow_sub-down c =
-    omega (arith, c.requires.m_bound.1)
+overflow_sub-down c = omega (arith, c.requires.m_bound.1)
 
 pub power-half-requires : goal.power-half-requires
 power-half-requires c = omega (arith, c.if-down-le32.true)
 
 pub high-requires : goal.high-requires
-high-requires c =
-    c.requires.m_bound.0
+high-requires c = c.requires.m_bound.0
 
 pub power-requires : goal.power-requires
 power-requires c = omega arith
@@ -33,12 +31,10 @@ overflow_add-result c =
     omega (arith, c.low.ensures, c.power-half.ensures, pow_mono {i = c.args.down - 1} {j = 31} (omega (arith, c.if-down-le32.true)))
 
 pub power-requires-then-down-le32 : goal.power-requires-then-down-le32
-power-requires-then-down-le32 c =
-    omega (arith, c.if-down-le32.true)
+power-requires-then-down-le32 c = omega (arith, c.if-down-le32.true)
 
 pub nonzero_div-result : goal.nonzero_div-result
-nonzero_div-result c =
-    omega (arith, c.power-then-down-le32.ensures, pow_pos c.args.down)
+nonzero_div-result c = omega (arith, c.power-then-down-le32.ensures, pow_pos c.args.down)
 
 pub overflow_add-result-then-down-le32 : goal.overflow_add-result-then-down-le32
 overflow_add-result-then-down-le32 c =
@@ -61,19 +57,16 @@ returns-then-down-le32 c =
     c.power-half.ensures c.power.ensures c.power-then-down-le32.ensures
 
 pub returns-then-down-gt94 : goal.returns-then-down-gt94
-returns-then-down-gt94 c =
-    far_none c.args.m c.args.down c.requires.m_bound.0 c.if-down-gt94.true
+returns-then-down-gt94 c = far_none c.args.m c.args.down c.requires.m_bound.0 c.if-down-gt94.true
 
 pub overflow_sub-down-2 : goal.overflow_sub-down-2
-overflow_sub-down-2 c =
-    omega (arith, c.if-down-le32.false)
+overflow_sub-down-2 c = omega (arith, c.if-down-le32.false)
 
 pub power-half-requires-2 : goal.power-half-requires-2
 power-half-requires-2 c = omega (arith, c.if-down-gt94.false)
 
 pub high-requires-2 : goal.high-requires-2
-high-requires-2 c =
-    c.requires.m_bound.0
+high-requires-2 c = c.requires.m_bound.0
 
 pub overflow_add-result-2 : goal.overflow_add-result-2
 overflow_add-result-2 c =
@@ -88,16 +81,13 @@ overflow_add-result-2 c =
     )
 
 pub overflow_sub-down-3 : goal.overflow_sub-down-3
-overflow_sub-down-3 c =
-    omega (arith, c.if-down-le32.false)
+overflow_sub-down-3 c = omega (arith, c.if-down-le32.false)
 
 pub power-requires-2 : goal.power-requires-2
-power-requires-2 c =
-    omega (arith, c.if-down-gt94.false)
+power-requires-2 c = omega (arith, c.if-down-gt94.false)
 
 pub nonzero_div-result-2 : goal.nonzero_div-result-2
-nonzero_div-result-2 c =
-    omega (arith, c.power-2.ensures, pow_pos (c.args.down - 32))
+nonzero_div-result-2 c = omega (arith, c.power-2.ensures, pow_pos (c.args.down - 32))
 
 pub returns : goal.returns
 returns c =

@@ -12,25 +12,22 @@ use Rattle.screen_meaning.proofs.seconds.put_seconds.Goals as goal
 
 pub returns-then-frequency-eq0 : goal.returns-then-frequency-eq0
 returns-then-frequency-eq0 c =
-    let all = (shown-as
+    let all = shown-as
     (laid_none c.args.out.now c.args.at)
-    (no-seconds c.args.frequency c.args.clock c.if-frequency-eq0.true)) in
+    (no-seconds c.args.frequency c.args.clock c.if-frequency-eq0.true) in
     record { value = all.end; out_after = all.list }
 
 pub nonzero_rem-clock : goal.nonzero_rem-clock
 nonzero_rem-clock c = omega (arith, c.if-frequency-eq0.false)
 
 pub nanos-cut-requires : goal.nanos-cut-requires
-nanos-cut-requires c =
-    mod-lt c.args.clock (omega (arith, c.if-frequency-eq0.false))
+nanos-cut-requires c = mod-lt c.args.clock (omega (arith, c.if-frequency-eq0.false))
 
 pub nonzero_div-clock : goal.nonzero_div-clock
-nonzero_div-clock c =
-    omega (arith, c.if-frequency-eq0.false)
+nonzero_div-clock c = omega (arith, c.if-frequency-eq0.false)
 
 pub put_decimal-a-requires : goal.put_decimal-a-requires
-put_decimal-a-requires c =
-    omega (arith, c.requires, decimal-length (c.args.clock / c.args.frequency))
+put_decimal-a-requires c = omega (arith, c.requires, decimal-length (c.args.clock / c.args.frequency))
 
 pub put_bytes-b-requires : goal.put_bytes-b-requires
 put_bytes-b-requires c =
@@ -77,7 +74,7 @@ put_bytes-requires c =
 pub returns : goal.returns
 unfolding bytes
 returns c =
-    let all = (shown-as
+    let all = shown-as
     (then
     (then
     (then
@@ -92,5 +89,5 @@ returns c =
     (laid c.put_zeros-c.new.out c.put_bytes.new.out c.put_zeros-c.result
     c.put_bytes.result
     (bytes " s") (c.put_bytes.ensures.value, c.put_bytes.ensures.out_after)))
-    (some-seconds c.args.frequency c.args.clock c.nanos-cut.result c.if-frequency-eq0.false c.nanos-cut.ensures)) in
+    (some-seconds c.args.frequency c.args.clock c.nanos-cut.result c.if-frequency-eq0.false c.nanos-cut.ensures) in
     record { value = all.end; out_after = all.list }

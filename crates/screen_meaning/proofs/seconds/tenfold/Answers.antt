@@ -1,7 +1,6 @@
 -- So many turns are added up.
 use mathlib.Core.Path.{◌≡◌}
 use native.Mathlib.Omega.{arith}
-use mathlib.Core.Logic.{⊎_elim}
 use Prim.Native.Nat.{◌-◌}
 use Rattle.screen_meaning.proofs.Turns.{turn-over, turn_on, turn-none, ten-whole, ten-left}
 use Rattle.screen_meaning.proofs.seconds.tenfold.Goals as goal
@@ -13,31 +12,27 @@ pub loop-turns-init : goal.loop-turns-init
 loop-turns-init c = (turn-none c.args.frequency c.args.part c.requires, omega arith)
 
 pub overflow_add-whole : goal.overflow_add-whole
-overflow_add-whole c =
-    omega (arith, c.loop-turns.invariant.0.few, c.loop-turns.invariant.1)
+overflow_add-whole c = omega (arith, c.loop-turns.invariant.0.few, c.loop-turns.invariant.1)
 
 pub overflow_add-left : goal.overflow_add-left
-overflow_add-left c =
-    omega (arith, c.requires, c.ranges, c.if-lacking-left.false)
+overflow_add-left c = omega arith
 
 pub overflow_add-turns : goal.overflow_add-turns
-overflow_add-turns c =
-    omega (arith, c.loop-turns.invariant.1)
+overflow_add-turns c = omega (arith, c.loop-turns.invariant.1)
 
 pub loop-turns-smaller : goal.loop-turns-smaller
-loop-turns-smaller c =
-    omega (arith, c.loop-turns-test.true)
+loop-turns-smaller c = omega (arith, c.loop-turns-test.true)
 
 pub loop-turns-preserved : goal.loop-turns-preserved
 loop-turns-preserved c =
     let a = c.args in
     let at = c.loop-turns in (
-      ⊎_elim
-          (λ y. turn-over a.frequency a.part at.whole at.false at.turns c.if-lacking-left.whole c.if-lacking-left.false c.requires
-          at.invariant.0 y.0.taken y.1 y.2)
-          (λ y. turn_on a.frequency a.part at.whole at.false at.turns c.if-lacking-left.whole c.if-lacking-left.false c.requires at.invariant.0
-          y.0.left y.1 y.2)
-          c.if-lacking-left.branch,
+      elim c.if-lacking-left.branch [
+        | then-lacking-left y ↦
+          turn-over a.frequency a.part at.whole at.left at.turns _ _ c.requires at.invariant.0 y.if-lacking-left.true y.whole-is y.left-is
+        | else-lacking-left y ↦
+          turn_on a.frequency a.part at.whole at.left at.turns _ _ c.requires at.invariant.0 y.if-lacking-left.false y.whole-is y.left-is
+      ],
       omega (arith, c.loop-turns-test.true),
     )
 
@@ -46,7 +41,7 @@ returns c =
     let a = c.args in
     let at = c.loop-turns in
     let ten : at.turns ≡ 10 = omega (arith, c.loop-turns-test.false, at.invariant.1) in (
-      ten-whole a.frequency a.part at.whole at.false at.turns at.invariant.0 ten,
+      ten-whole a.frequency a.part at.whole at.left at.turns at.invariant.0 ten,
       ten-left a.frequency a.part
-          at.whole at.false at.turns at.invariant.0 ten,
+          at.whole at.left at.turns at.invariant.0 ten,
     )

@@ -1,4 +1,5 @@
 -- Those that name numbers, each by its own sentence, and the others.
+use native.Mathlib.Omega.{arith}
 use Rattle.screen_number.proofs.Laid.{same_text}
 use Rattle.screen_verdict.specs.Sentences.{reason, plain_reason, table_refused, bound_crossed, no_stream_class, no_event_class}
 use Rattle.screen_verdict.proofs.Sentences.{reason-20, reason-22, reason-33, reason-37, reason-plain}
