@@ -37,12 +37,12 @@ returns c =
     let p1 = c.put_bytes-a in
     let p2 = c.put_decimal-b in
     let p3 = c.put_bytes in
-    let all = (then
+    let all = then
     (then
     (laid a.out.now p1.new.out (0) p1.result
     (bytes "accepted: ") (p1.ensures.value, p1.ensures.out_after))
     (laid p1.new.out p2.new.out p1.result p2.result
     (decimal a.bytes.0) (p2.ensures.value, p2.ensures.out_after)))
     (laid p2.new.out p3.new.out p2.result p3.result
-    (bytes " bytes\n") (p3.ensures.value, p3.ensures.out_after))) in
+    (bytes " bytes\n") (p3.ensures.value, p3.ensures.out_after)) in
     record { value = all.end; out_after = all.list }

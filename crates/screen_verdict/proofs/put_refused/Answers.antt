@@ -40,12 +40,12 @@ returns c =
     let p1 = c.put_refused_at-a in
     let p2 = c.put_reason-b in
     let p3 = c.put_listed in
-    let all = (then
+    let all = then
     (then
     (laid a.out.now p1.new.out (0) p1.result
     (refused_at a.number (unit a.number) a.place) (p1.ensures.value, p1.ensures.out_after))
     (laid p1.new.out p2.new.out p1.result p2.result
     (reason a.number a.place a.first a.second) (p2.ensures.value, p2.ensures.out_after)))
     (laid p2.new.out p3.new.out p2.result p3.result
-    (listed a.entries) (p3.ensures.value, p3.ensures.out_after))) in
+    (listed a.entries) (p3.ensures.value, p3.ensures.out_after)) in
     record { value = all.end; out_after = all.list }

@@ -77,7 +77,7 @@ returns c =
     let p3 = c.put_unit-c in
     let p4 = c.put_decimal-d in
     let p5 = c.put_bytes in
-    let all = (then
+    let all = then
     (then
     (then
     (then
@@ -90,5 +90,5 @@ returns c =
     (laid p3.new.out p4.new.out p3.result p4.result
     (decimal a.place) (p4.ensures.value, p4.ensures.out_after)))
     (laid p4.new.out p5.new.out p4.result p5.result
-    (bytes ": ") (p5.ensures.value, p5.ensures.out_after))) in
+    (bytes ": ") (p5.ensures.value, p5.ensures.out_after)) in
     record { value = all.end; out_after = all.list }

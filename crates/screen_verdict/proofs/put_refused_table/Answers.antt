@@ -121,7 +121,7 @@ returns c =
     let p5 = c.put_bytes-e in
     let p6 = c.put_fault-f in
     let p7 = c.put_bytes in
-    let all = (then
+    let all = then
     (then
     (then
     (then
@@ -140,5 +140,5 @@ returns c =
     (laid p5.new.out p6.new.out p5.result p6.result
     (fault a.number) (p6.ensures.value, p6.ensures.out_after)))
     (laid p6.new.out p7.new.out p6.result p7.result
-    (bytes "\n") (p7.ensures.value, p7.ensures.out_after))) in
+    (bytes "\n") (p7.ensures.value, p7.ensures.out_after)) in
     record { value = all.end; out_after = all.list }

@@ -3,6 +3,7 @@ use mathlib.Core.Path.{◌≡◌}
 use native.Mathlib.Omega.{arith}
 use Prim.Native.Nat.{◌-◌}
 use Rattle.screen_meaning.proofs.Turns.{turn-over, turn_on, turn-none, ten-whole, ten-left}
+use Rattle.screen_meaning.proofs.seconds.tenfold.Goals.{then-lacking-left, else-lacking-left}
 use Rattle.screen_meaning.proofs.seconds.tenfold.Goals as goal
 
 pub overflow_sub-lacking : goal.overflow_sub-lacking

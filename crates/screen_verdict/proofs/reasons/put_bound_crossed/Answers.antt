@@ -23,9 +23,9 @@ returns c =
     let a = c.args in
     let p1 = c.put_bytes-a in
     let p2 = c.put_decimal in
-    let all = (then
+    let all = then
     (laid a.out.now p1.new.out a.at p1.result
     (bytes "the field behind the last entry crosses the bound at bit ") (p1.ensures.value, p1.ensures.out_after))
     (laid p1.new.out p2.new.out p1.result p2.result
-    (decimal a.bound) (p2.ensures.value, p2.ensures.out_after))) in
+    (decimal a.bound) (p2.ensures.value, p2.ensures.out_after)) in
     record { value = all.end; out_after = all.list }

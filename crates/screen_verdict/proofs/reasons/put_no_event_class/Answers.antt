@@ -54,7 +54,7 @@ returns c =
     let p2 = c.put_decimal-b in
     let p3 = c.put_bytes-c in
     let p4 = c.put_decimal in
-    let all = (then
+    let all = then
     (then
     (then
     (laid a.out.now p1.new.out a.at p1.result
@@ -64,5 +64,5 @@ returns c =
     (laid p2.new.out p3.new.out p2.result p3.result
     (bytes " in stream class ") (p3.ensures.value, p3.ensures.out_after)))
     (laid p3.new.out p4.new.out p3.result p4.result
-    (decimal a.stream) (p4.ensures.value, p4.ensures.out_after))) in
+    (decimal a.stream) (p4.ensures.value, p4.ensures.out_after)) in
     record { value = all.end; out_after = all.list }
