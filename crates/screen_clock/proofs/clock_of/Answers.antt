@@ -18,7 +18,7 @@ pub is_stream-requires : goal.is_stream-requires
 is_stream-requires c = c.if-table-at.false
 
 pub overflow_add-at : goal.overflow_add-at
-overflow_add-at c = omega (arith, c.if-table-at.false, c.requires)
+overflow_add-at c = omega (arith, c.if-table-at.false)
 
 pub returns-then-is_stream : goal.returns-then-is_stream
 returns-then-is_stream c =
