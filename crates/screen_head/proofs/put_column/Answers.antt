@@ -4,7 +4,7 @@ use native.Mathlib.Omega.{arith}
 use lib.ListN.{set, length-set}
 use Prim.Native.Nat.{◌+◌}
 use Rattle.screen_number.specs.Number.{blank, decimal, right}
-use Rattle.screen_number.proofs.Laid.{laid, both, then, shown-as, one_byte}
+use Rattle.screen_number.proofs.Laid.{laid, then, shown-as, one_byte}
 use Rattle.screen_head.proofs.Columns.{right-room, column-is}
 use Rattle.screen_head.proofs.put_column.Goals as goal
 

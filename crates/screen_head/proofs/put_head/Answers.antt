@@ -4,7 +4,7 @@ use lib.Dec.{lit≤}
 use Rattle.screen_number.specs.Number.{decimal, left}
 use Rattle.screen_head.specs.Kinds.{word}
 use Rattle.screen_head.specs.Head.{head, column, value_of_kind}
-use Rattle.screen_number.proofs.Laid.{laid, both, then}
+use Rattle.screen_number.proofs.Laid.{laid, then}
 use Rattle.screen_head.proofs.Words.{word-length}
 use Rattle.screen_head.proofs.Columns.{left-length, column-length, value-length}
 use Rattle.screen_head.proofs.put_head.Goals as goal

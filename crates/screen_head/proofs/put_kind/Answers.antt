@@ -3,7 +3,7 @@ use Prim.Native.Nat.{◌-◌}
 use native.Mathlib.Omega.{arith}
 use Rattle.screen_number.specs.Number.{blank, left, times}
 use Rattle.screen_head.specs.Kinds.{word}
-use Rattle.screen_number.proofs.Laid.{laid, both, then, shown-as, same_text}
+use Rattle.screen_number.proofs.Laid.{laid, then, shown-as, same_text}
 use Rattle.screen_head.proofs.Columns.{left-fills, left-full}
 use Rattle.screen_head.proofs.put_kind.Goals as goal
 

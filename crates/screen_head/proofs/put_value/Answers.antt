@@ -5,7 +5,7 @@ use lib.ListN.{set, length-set}
 use Prim.Native.Nat.{◌+◌}
 use Rattle.screen_number.specs.Number.{blank, decimal, signed_decimal, right}
 use Rattle.screen_head.specs.Head.{column}
-use Rattle.screen_number.proofs.Laid.{laid, both, then, shown-as, one_byte}
+use Rattle.screen_number.proofs.Laid.{laid, then, shown-as, one_byte}
 use Rattle.screen_head.proofs.Columns.{right-room-21, signed-room, column-is, value-signed, value-plain}
 use Rattle.screen_head.proofs.put_value.Goals as goal
 

@@ -9,7 +9,7 @@ use Rattle.screen_line.specs.Sorts.{short_meaning}
 use Rattle.screen_line.proofs.Sorted.{meant-by, same-meaning}
 use Rattle.screen_line.proofs.Lengths.{short-length}
 use Rattle.screen_line.proofs.Parts.{head-length}
-use Rattle.screen_number.proofs.Laid.{laid, both, then, shown-as}
+use Rattle.screen_number.proofs.Laid.{laid, then, shown-as}
 use Rattle.screen_line.proofs.put_line.Goals as goal
 
 pub put_head-a-requires : goal.put_head-a-requires

@@ -10,7 +10,7 @@ use Rattle.screen_line.specs.Pieces.{text_part}
 use Rattle.screen_line.specs.Room.{bytes_in}
 use Rattle.screen_line.proofs.Standing.{bytes_fit, bytes-are}
 use Rattle.screen_line.proofs.Parts.{head-length, piece-opens, piece-behind}
-use Rattle.screen_number.proofs.Laid.{laid, both, then, shown-as}
+use Rattle.screen_number.proofs.Laid.{laid, then, shown-as}
 use Rattle.screen_line.proofs.put_text_piece.Goals as goal
 
 pub put_head-a-requires : goal.put_head-a-requires

@@ -1,5 +1,4 @@
 -- Each turn puts an entry's line; the loop ends behind the last entry, or where the room is full.
-use Prim.Native.Nat.{◌-◌}
 use mathlib.Core.Path.{◌∙◌}
 use native.Mathlib.Omega.{arith}
 use lib.ListN.{length}

@@ -1,5 +1,4 @@
 -- Each turn lays a piece; the loop ends behind the last, or where the room is full.
-use Prim.Native.Nat.{◌-◌}
 use native.Mathlib.Omega.{arith}
 use Rattle.screen_head.specs.Head.{five}
 use Rattle.screen_list.proofs.Pieces.{lays-start, lays_step, lays-full, lays-end}

@@ -6,7 +6,7 @@ use Prim.Native.Nat.{◌+◌}
 use lib.ListN.{set, length-set}
 use Rattle.screen_number.specs.Number.{hex}
 use Rattle.screen_text.specs.Escape.{escaped}
-use Rattle.screen_number.proofs.Laid.{Laid, laid, both, then, shown-as, one_byte}
+use Rattle.screen_number.proofs.Laid.{Laid, laid, then, shown-as, one_byte}
 use Rattle.screen_text.proofs.Texts.{by_digits, behind-backslash, as-it-is}
 use Rattle.screen_text.proofs.put_escaped.Goals as goal
 

@@ -1,7 +1,7 @@
 -- The first `shown` of the bytes are laid.
 use mathlib.Core.Path.{◌≡◌, refl, sym, ap, ◌∙◌}
 use native.Mathlib.Omega.{arith}
-use Prim.Native.Nat.{◌+◌, ◌-◌}
+use Prim.Native.Nat.{◌+◌}
 use lib.ListN.{length, take, drop}
 use lib.Seq.{sets}
 use Rattle.screen_text.specs.Escape.{part, shown_at}

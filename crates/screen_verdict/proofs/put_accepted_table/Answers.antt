@@ -2,7 +2,7 @@
 use native.Mathlib.Omega.{arith}
 use Rattle.screen_number.specs.Number.{bytes, decimal}
 use Rattle.screen_number.proofs.Decimal.{decimal-length}
-use Rattle.screen_number.proofs.Laid.{laid, both, then}
+use Rattle.screen_number.proofs.Laid.{laid, then}
 use Rattle.screen_verdict.specs.Verdict.{accepted_table}
 use Rattle.screen_verdict.proofs.put_accepted_table.Goals as goal
 

@@ -1,7 +1,7 @@
 -- Where, and why; behind it no list.
 use native.Mathlib.Omega.{arith}
 use Rattle.screen_number.specs.Number.{bytes}
-use Rattle.screen_number.proofs.Laid.{laid, both, then}
+use Rattle.screen_number.proofs.Laid.{laid, then}
 use Rattle.screen_verdict.specs.Sentences.{reason}
 use Rattle.screen_verdict.specs.Verdict.{cut_refused, refused_at, unit}
 use Rattle.screen_verdict.proofs.Sentences.{reason-length}

@@ -1,6 +1,6 @@
 -- Where, why, and what was listed.
 use native.Mathlib.Omega.{arith}
-use Rattle.screen_number.proofs.Laid.{laid, both, then}
+use Rattle.screen_number.proofs.Laid.{laid, then}
 use Rattle.screen_verdict.specs.Sentences.{reason}
 use Rattle.screen_verdict.specs.Verdict.{refused_line, refused_at, unit, listed}
 use Rattle.screen_verdict.proofs.Sentences.{reason-length}

@@ -2,7 +2,7 @@
 use native.Mathlib.Omega.{arith}
 use Rattle.screen_number.specs.Number.{bytes, decimal}
 use Rattle.screen_number.proofs.Decimal.{decimal-length}
-use Rattle.screen_number.proofs.Laid.{laid, both, then}
+use Rattle.screen_number.proofs.Laid.{laid, then}
 use Rattle.screen_head.specs.Kinds.{kind_number}
 use Rattle.screen_head.proofs.kinds.put_kind_number.Goals as goal
 

@@ -11,7 +11,7 @@ use Rattle.screen_line.specs.Room.{bytes_in}
 use Rattle.screen_line.proofs.Sorted.{no-blob-meant, blob-meant}
 use Rattle.screen_line.proofs.Standing.{bytes_fit, bytes-are, bytes-length}
 use Rattle.screen_line.proofs.Parts.{laid_none}
-use Rattle.screen_number.proofs.Laid.{laid, both, then, shown-as}
+use Rattle.screen_number.proofs.Laid.{laid, then, shown-as}
 use Rattle.screen_line.proofs.meant.put_bytes_meant.Goals as goal
 
 pub returns-then-n-eq0 : goal.returns-then-n-eq0

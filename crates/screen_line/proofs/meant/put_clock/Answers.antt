@@ -4,7 +4,7 @@ use Rattle.screen_number.specs.Number.{bytes}
 use Rattle.screen_meaning.specs.Seconds.{seconds}
 use Rattle.screen_line.proofs.Sorted.{no-clock-meant, clock-meant}
 use Rattle.screen_line.proofs.Parts.{laid_none}
-use Rattle.screen_number.proofs.Laid.{laid, both, then, shown-as}
+use Rattle.screen_number.proofs.Laid.{laid, then, shown-as}
 use Rattle.screen_line.proofs.meant.put_clock.Goals as goal
 
 pub returns-then-frequency-eq0 : goal.returns-then-frequency-eq0

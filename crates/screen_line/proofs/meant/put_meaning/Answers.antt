@@ -8,7 +8,7 @@ use Rattle.screen_line.specs.Line.{bytes_of, clock_meaning, blob_meaning}
 use Rattle.screen_line.proofs.Sorted.{means-hex, means-float, means-seconds}
 use Rattle.screen_line.proofs.Sorted.{means-bytes, means-nothing}
 use Rattle.screen_line.proofs.Parts.{laid_none}
-use Rattle.screen_number.proofs.Laid.{laid, both, then, shown-as}
+use Rattle.screen_number.proofs.Laid.{laid, then, shown-as}
 use Rattle.screen_line.proofs.meant.put_meaning.Goals as goal
 
 pub put_bit_array-requires : goal.put_bit_array-requires

@@ -6,7 +6,7 @@ use Rattle.screen_number.specs.Number.{bytes}
 use Rattle.screen_text.specs.Escape.{part}
 use Rattle.screen_text.proofs.Texts.{part_length}
 use Rattle.screen_line.proofs.Parts.{laid_none, whole_of, last_of, none_of}
-use Rattle.screen_number.proofs.Laid.{laid, both, then, shown-as}
+use Rattle.screen_number.proofs.Laid.{laid, then, shown-as}
 use Rattle.screen_line.proofs.shown.put_text_part.Goals as goal
 
 pub overflow_mul-k : goal.overflow_mul-k

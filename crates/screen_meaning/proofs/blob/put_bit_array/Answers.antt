@@ -5,7 +5,7 @@ use mathlib.Core.List.{◌++◌}
 use Rattle.screen_number.specs.Number.{bytes, hex}
 use Rattle.screen_meaning.specs.Bytes.{bit_array}
 use Rattle.screen_meaning.proofs.Hexes.{digits-most}
-use Rattle.screen_number.proofs.Laid.{laid, both, then, shown-as}
+use Rattle.screen_number.proofs.Laid.{laid, then, shown-as}
 use Rattle.screen_meaning.proofs.blob.put_bit_array.Goals as goal
 
 pub put_hex-requires : goal.put_hex-requires

@@ -3,10 +3,9 @@ use mathlib.Core.Path.{sym, ap, ◌∙◌}
 use native.Mathlib.Omega.{arith}
 use mathlib.Core.List.{◌++◌}
 use lib.ListN.{take, drop}
-use Rattle.screen_number.specs.Number.{bytes}
 use Rattle.screen_meaning.specs.Bytes.{hexes, more}
 use Rattle.screen_meaning.proofs.Hexes.{length-hexes, length_part, first-bytes, blob-short, blob-long}
-use Rattle.screen_number.proofs.Laid.{laid, both, then, shown-as}
+use Rattle.screen_number.proofs.Laid.{laid, then, shown-as}
 use Rattle.screen_meaning.proofs.blob.put_blob.Goals as goal
 
 pub put_hexes-end-requires : goal.put_hexes-end-requires

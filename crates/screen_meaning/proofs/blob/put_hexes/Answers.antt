@@ -1,7 +1,7 @@
 -- The first `shown` of the bytes are laid.
 use mathlib.Core.Path.{◌≡◌, refl, sym, ap, ◌∙◌}
 use native.Mathlib.Omega.{arith}
-use Prim.Native.Nat.{◌+◌, ◌-◌}
+use Prim.Native.Nat.{◌+◌}
 use lib.ListN.{length, take, drop, get_or}
 use lib.Seq.{sets, take_all, length-take-le}
 use Rattle.screen_number.specs.Number.{hex}

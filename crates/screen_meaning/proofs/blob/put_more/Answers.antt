@@ -1,10 +1,10 @@
 -- The words around the number.
 use native.Mathlib.Omega.{arith}
-use Prim.Native.Nat.{◌+◌, ◌-◌}
+use Prim.Native.Nat.{◌-◌}
 use Rattle.screen_number.specs.Number.{bytes, decimal}
 use Rattle.screen_number.proofs.Decimal.{decimal-length}
 use Rattle.screen_meaning.specs.Bytes.{more}
-use Rattle.screen_number.proofs.Laid.{laid, both, then}
+use Rattle.screen_number.proofs.Laid.{laid, then}
 use Rattle.screen_meaning.proofs.blob.put_more.Goals as goal
 
 pub put_decimal-b-requires : goal.put_decimal-b-requires

@@ -4,7 +4,7 @@ use Prim.Native.Nat.{◌*◌}
 use lib.Dec.{lit≤}
 use Rattle.screen_meaning.specs.Float.{special, format, finite}
 use Rattle.screen_meaning.proofs.Forms.{top_32, finite-32}
-use Rattle.screen_number.proofs.Laid.{laid, both, shown-as}
+use Rattle.screen_number.proofs.Laid.{laid, shown-as}
 use Rattle.screen_meaning.proofs.float.put_binary32.Goals as goal
 
 pub put_special-requires : goal.put_special-requires

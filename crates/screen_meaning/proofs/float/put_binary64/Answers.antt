@@ -3,7 +3,7 @@ use native.Mathlib.Omega.{arith}
 use lib.Dec.{lit≤}
 use Rattle.screen_meaning.specs.Float.{special, format, finite}
 use Rattle.screen_meaning.proofs.Forms.{top_64, finite-64}
-use Rattle.screen_number.proofs.Laid.{laid, both, shown-as}
+use Rattle.screen_number.proofs.Laid.{laid, shown-as}
 use Rattle.screen_meaning.proofs.float.put_binary64.Goals as goal
 
 pub put_special-requires : goal.put_special-requires

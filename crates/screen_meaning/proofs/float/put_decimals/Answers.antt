@@ -3,7 +3,7 @@ use mathlib.Core.Path.{sym, ap}
 use native.Mathlib.Omega.{arith}
 use Rattle.screen_meaning.specs.Float.{decimals}
 use Rattle.screen_meaning.proofs.Forms.{no-up}
-use Rattle.screen_number.proofs.Laid.{laid, both, shown-as}
+use Rattle.screen_number.proofs.Laid.{laid, shown-as}
 use Rattle.screen_meaning.proofs.float.put_decimals.Goals as goal
 
 pub put_whole-requires : goal.put_whole-requires

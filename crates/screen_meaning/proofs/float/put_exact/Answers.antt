@@ -4,7 +4,7 @@ use Rattle.screen_number.specs.Number.{bytes, hex}
 use Rattle.screen_number.proofs.Laid.{length-hex}
 use Rattle.screen_meaning.specs.Float.{lead, exponent, exact}
 use Rattle.screen_meaning.proofs.Forms.{lead-length}
-use Rattle.screen_number.proofs.Laid.{laid, both, then}
+use Rattle.screen_number.proofs.Laid.{laid, then}
 use Rattle.screen_meaning.proofs.float.put_exact.Goals as goal
 
 pub put_lead-b-requires : goal.put_lead-b-requires

@@ -3,7 +3,7 @@ use native.Mathlib.Omega.{arith}
 use Rattle.screen_number.specs.Number.{bytes}
 use Rattle.screen_meaning.specs.Float.{power_signed}
 use Rattle.screen_meaning.proofs.Forms.{exponent-none, exponent-some}
-use Rattle.screen_number.proofs.Laid.{laid, both, shown-as}
+use Rattle.screen_number.proofs.Laid.{laid, shown-as}
 use Rattle.screen_meaning.proofs.float.put_exponent.Goals as goal
 
 pub overflow_add-raised : goal.overflow_add-raised

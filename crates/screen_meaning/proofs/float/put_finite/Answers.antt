@@ -7,7 +7,7 @@ use Rattle.screen_meaning.specs.Float.{decimals, finite}
 use Rattle.screen_meaning.proofs.Forms.{sign-length}
 use Rattle.screen_meaning.proofs.Forms.{significand-room}
 use Rattle.screen_meaning.proofs.Forms.{exact-length, one_way}
-use Rattle.screen_number.proofs.Laid.{laid, both, then, shown-as}
+use Rattle.screen_number.proofs.Laid.{laid, then, shown-as}
 use Rattle.screen_meaning.proofs.float.put_finite.Goals as goal
 
 pub put_exact-b-requires : goal.put_exact-b-requires

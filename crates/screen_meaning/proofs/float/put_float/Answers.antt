@@ -3,7 +3,7 @@ use native.Mathlib.Omega.{arith}
 use Prim.Native.Nat.{◌/◌, ◌%◌}
 use Rattle.screen_meaning.specs.Float.{binary32, binary64}
 use Rattle.screen_meaning.proofs.Forms.{float-32, float-64}
-use Rattle.screen_number.proofs.Laid.{laid, both, shown-as}
+use Rattle.screen_number.proofs.Laid.{laid, shown-as}
 use Rattle.screen_meaning.proofs.float.put_float.Goals as goal
 
 pub put_binary32-requires : goal.put_binary32-requires

@@ -1,10 +1,9 @@
 -- To the nearest one, below the limit.
 use mathlib.Core.Path.{sym, ◌∙◌}
-use Rattle.screen_meaning.specs.Float.{millionths}
 use Rattle.screen_meaning.specs.Float.{marked}
 use Rattle.screen_meaning.proofs.Forms.{laid_none}
 use Rattle.screen_meaning.proofs.Forms.{decimals-none, decimals-some}
-use Rattle.screen_number.proofs.Laid.{laid, both, shown-as}
+use Rattle.screen_number.proofs.Laid.{laid, shown-as}
 use Rattle.screen_meaning.proofs.float.put_fraction.Goals as goal
 
 pub below_down-requires : goal.below_down-requires

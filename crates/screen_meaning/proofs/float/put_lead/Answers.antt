@@ -1,7 +1,7 @@
 -- By the exponent.
 use Rattle.screen_number.specs.Number.{bytes}
 use Rattle.screen_meaning.proofs.Forms.{lead_zero, lead-one}
-use Rattle.screen_number.proofs.Laid.{laid, both, shown-as}
+use Rattle.screen_number.proofs.Laid.{laid, shown-as}
 use Rattle.screen_meaning.proofs.float.put_lead.Goals as goal
 
 pub returns-then-raised-eq0 : goal.returns-then-raised-eq0

@@ -1,7 +1,7 @@
 -- One of two.
 use Rattle.screen_number.specs.Number.{bytes}
 use Rattle.screen_meaning.proofs.Forms.{mark-exact, mark-rounded}
-use Rattle.screen_number.proofs.Laid.{laid, both, shown-as}
+use Rattle.screen_number.proofs.Laid.{laid, shown-as}
 use Rattle.screen_meaning.proofs.float.put_mark.Goals as goal
 
 pub returns-then-exactly : goal.returns-then-exactly

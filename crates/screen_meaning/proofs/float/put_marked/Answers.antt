@@ -4,7 +4,7 @@ use Rattle.screen_meaning.specs.Float.{sign}
 use Rattle.screen_meaning.specs.Float.{mark, six_decimals, marked}
 use Rattle.screen_meaning.proofs.Forms.{sign-length}
 use Rattle.screen_meaning.proofs.Forms.{mark-length}
-use Rattle.screen_number.proofs.Laid.{laid, both, then}
+use Rattle.screen_number.proofs.Laid.{laid, then}
 use Rattle.screen_meaning.proofs.float.put_marked.Goals as goal
 
 pub put_mark-a-requires : goal.put_mark-a-requires

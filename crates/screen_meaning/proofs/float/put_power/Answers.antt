@@ -4,7 +4,7 @@ use Prim.Native.Nat.{◌-◌}
 use Rattle.screen_number.specs.Number.{bytes, decimal}
 use Rattle.screen_number.proofs.Decimal.{decimal-length}
 use Rattle.screen_meaning.proofs.Forms.{power-down, power-up}
-use Rattle.screen_number.proofs.Laid.{laid, both, then, shown-as}
+use Rattle.screen_number.proofs.Laid.{laid, then, shown-as}
 use Rattle.screen_meaning.proofs.float.put_power.Goals as goal
 
 pub overflow_sub-down : goal.overflow_sub-down

@@ -2,7 +2,7 @@
 use mathlib.Core.List.{[], ◌∷◌}
 use Rattle.screen_number.specs.Number.{minus}
 use Rattle.screen_meaning.proofs.Forms.{laid_none, sign-none, sign-minus}
-use Rattle.screen_number.proofs.Laid.{laid, both, shown-as}
+use Rattle.screen_number.proofs.Laid.{laid, shown-as}
 use Rattle.screen_meaning.proofs.float.put_sign.Goals as goal
 
 pub returns-then-negative-eq0 : goal.returns-then-negative-eq0

@@ -6,7 +6,7 @@ use Rattle.screen_number.specs.Number.{bytes, decimal, zeros}
 use Rattle.screen_number.proofs.Decimal.{decimal-length}
 use Rattle.screen_meaning.specs.Float.{six_decimals}
 use Rattle.screen_meaning.proofs.Turns.{zeros-most}
-use Rattle.screen_number.proofs.Laid.{laid, both, then}
+use Rattle.screen_number.proofs.Laid.{laid, then}
 use Rattle.screen_meaning.proofs.float.put_six.Goals as goal
 
 pub put_decimal-a-requires : goal.put_decimal-a-requires

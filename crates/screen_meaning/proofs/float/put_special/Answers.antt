@@ -4,7 +4,7 @@ use Rattle.screen_number.specs.Number.{bytes}
 use Rattle.screen_meaning.specs.Float.{sign}
 use Rattle.screen_meaning.proofs.Forms.{sign-length}
 use Rattle.screen_meaning.proofs.Forms.{special-inf, special-nan}
-use Rattle.screen_number.proofs.Laid.{laid, both, then, shown-as}
+use Rattle.screen_number.proofs.Laid.{laid, then, shown-as}
 use Rattle.screen_meaning.proofs.float.put_special.Goals as goal
 
 pub put_sign-end-requires : goal.put_sign-end-requires

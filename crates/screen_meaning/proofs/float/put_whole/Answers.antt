@@ -5,7 +5,7 @@ use Rattle.screen_meaning.specs.Float.{marked}
 use Rattle.screen_meaning.proofs.Forms.{laid_none}
 use Rattle.screen_meaning.proofs.Forms.{decimals-none, decimals-some}
 use Rattle.screen_meaning.proofs.Nearest.{whole-exact}
-use Rattle.screen_number.proofs.Laid.{laid, both, shown-as}
+use Rattle.screen_number.proofs.Laid.{laid, shown-as}
 use Rattle.screen_meaning.proofs.float.put_whole.Goals as goal
 
 pub whole-requires : goal.whole-requires

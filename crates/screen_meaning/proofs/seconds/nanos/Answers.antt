@@ -1,6 +1,5 @@
 -- So many digits are found.
 use native.Mathlib.Omega.{arith}
-use Prim.Native.Nat.{◌-◌}
 use Rattle.screen_meaning.proofs.Turns.{cut-none, cut-more, cut-nine, cut-room, digit-few}
 use Rattle.screen_meaning.proofs.seconds.nanos.Goals as goal
 

@@ -7,7 +7,7 @@ use Rattle.screen_number.specs.Number.{bytes, decimal, zeros}
 use Rattle.screen_number.proofs.Decimal.{decimal-length}
 use Rattle.screen_meaning.proofs.Forms.{laid_none}
 use Rattle.screen_meaning.proofs.Turns.{zeros-most, no-seconds, some-seconds}
-use Rattle.screen_number.proofs.Laid.{laid, both, then, shown-as}
+use Rattle.screen_number.proofs.Laid.{laid, then, shown-as}
 use Rattle.screen_meaning.proofs.seconds.put_seconds.Goals as goal
 
 pub returns-then-frequency-eq0 : goal.returns-then-frequency-eq0

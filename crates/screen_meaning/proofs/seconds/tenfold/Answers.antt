@@ -1,7 +1,6 @@
 -- So many turns are added up.
 use mathlib.Core.Path.{◌≡◌}
 use native.Mathlib.Omega.{arith}
-use Prim.Native.Nat.{◌-◌}
 use Rattle.screen_meaning.proofs.Turns.{turn-over, turn_on, turn-none, ten-whole, ten-left}
 use Rattle.screen_meaning.proofs.seconds.tenfold.Goals.{then-lacking-left, else-lacking-left}
 use Rattle.screen_meaning.proofs.seconds.tenfold.Goals as goal
@@ -30,9 +29,9 @@ loop-turns-preserved c =
     let at = c.loop-turns in (
       elim c.if-lacking-left.branch [
         | then-lacking-left y ↦
-          turn-over a.frequency a.part at.whole at.left at.turns _ _ c.requires at.invariant.0 y.if-lacking-left.true y.whole-is y.left-is
+            turn-over a.frequency a.part at.whole at.left at.turns _ _ c.requires at.invariant.0 y.if-lacking-left.true y.whole-is y.left-is
         | else-lacking-left y ↦
-          turn_on a.frequency a.part at.whole at.left at.turns _ _ c.requires at.invariant.0 y.if-lacking-left.false y.whole-is y.left-is
+            turn_on a.frequency a.part at.whole at.left at.turns _ _ c.requires at.invariant.0 y.if-lacking-left.false y.whole-is y.left-is
       ],
       omega (arith, c.loop-turns-test.true),
     )

@@ -2,7 +2,7 @@
 use native.Mathlib.Omega.{arith}
 use Rattle.screen_number.specs.Number.{bytes, decimal}
 use Rattle.screen_number.proofs.Decimal.{decimal-length}
-use Rattle.screen_number.proofs.Laid.{laid, both, then}
+use Rattle.screen_number.proofs.Laid.{laid, then}
 use Rattle.screen_verdict.specs.Sentences.{no_stream_class}
 use Rattle.screen_verdict.proofs.reasons.put_no_stream_class.Goals as goal
 
