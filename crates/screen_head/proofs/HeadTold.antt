@@ -1,16 +1,16 @@
 -- From a line the entry's five words can be told, whatever stands behind its head.
-use mathlib.Core.Path.{◌≡◌, refl, sym, ap, ◌∙◌}
+use mathlib.Core.Path.{◌≡◌, refl, ap, ◌∙◌}
 use mathlib.Core.Logic.{⊎_elim}
 use mathlib.Core.List.{List, [], ◌∷◌, ◌++◌, append_assoc}
 use mathlib.Core.Bool.{Bool, true, false}
-use Prim.Native.Nat.{ℕ, zero, suc, ◌+◌, ◌-◌, ◌*◌, ◌/◌, ◌^◌, ◌<◌, ◌≤◌}
+use Prim.Native.Nat.{ℕ, zero, suc, ◌-◌, ◌/◌, ◌^◌, ◌<◌, ◌≤◌}
 use native.Mathlib.Omega.{arith}
-use borrow.Author.Tests.{lt-ltb, le-ltb, ne_eqb, eq-eqb}
-use lib.ListN.{length, get_or, drop, get_or-eq_default}
-use lib.Dec.{eqb, T}
+use borrow.Author.Tests.{lt-ltb, le-ltb, ne_eqb}
+use lib.ListN.{length, get_or-eq_default}
+use lib.Dec.{T}
 use Rattle.facts.proofs.Numbers.{lt-or-ge}
 use Rattle.facts.proofs.Cases.{Each, below, ◌▷◌}
-use Rattle.screen_number.specs.Number.{decimal_of, decimal, signed_decimal, minus, blank, line_end, times, left, right, bytes}
+use Rattle.screen_number.specs.Number.{decimal_of, decimal, signed_decimal, minus, blank, times, left, right, bytes}
 use Rattle.screen_number.specs.Back.{number_from, number_of, value_of, same, is_end, token, after_token, skip, from}
 use Rattle.screen_head.specs.Kinds.{rows, row_of, word, named, unknown, row, kind_number}
 use Rattle.screen_head.specs.Head.{Five, column, value_of_kind, shown_value, has_sign, head}

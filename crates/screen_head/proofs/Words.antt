@@ -1,18 +1,18 @@
 -- Laws of the words of kinds: which kinds have none, and how long a word is.
 use mathlib.Core.Path.{◌≡◌, refl, sym, ap, ◌∙◌}
 use mathlib.Core.Logic.{⊎_elim}
-use mathlib.Core.List.{List, [], ◌∷◌, ◌++◌}
-use mathlib.Core.Bool.{Bool, true, false, ◌||◌}
+use mathlib.Core.List.{List, [], ◌∷◌}
+use mathlib.Core.Bool.{false, ◌||◌}
 use Prim.Native.Nat.{ℕ, ◌+◌, ◌-◌, ◌<◌, ◌≤◌}
 use native.Mathlib.Omega.{arith}
-use borrow.Author.Tests.{eq-eqb, ne_eqb}
+use borrow.Author.Tests.{ne_eqb}
 use lib.ListN.{length, length-append, get_or-eq_default}
 use lib.Dec.{T, leb, eqb, leb→le}
 use Rattle.facts.proofs.Numbers.{lt-or-ge}
 use Rattle.facts.proofs.Cases.{Each, below, ◌▷◌}
 use Rattle.screen_number.specs.Number.{bytes, decimal}
 use Rattle.screen_number.proofs.Decimal.{decimal-length}
-use Rattle.screen_head.specs.Kinds.{rows, row, row_of, word, named, unknown, kind_number, Shows, plain, signed}
+use Rattle.screen_head.specs.Kinds.{rows, row, row_of, word, named, unknown, kind_number}
 use Rattle.screen_head.specs.Head.{has_sign}
 
 pub no_word : (k : ℕ) → row_of k ≡ unknown → kind_number k ≡ word k

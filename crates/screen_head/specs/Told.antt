@@ -1,7 +1,6 @@
 -- From a line back to its entry's five words, and what is promised of it. Whoever reads the lines of `ctf read`, a writer among them,
 -- reads them so.
 use Rattle.std.specs.Prelude.{ℕ, ◌+◌, ◌^◌, ◌<◌, ◌≡◌, List, [], ◌∷◌, ◌++◌, true, false, drop}
-use Rattle.screen_number.specs.Number.{line_end, blank}
 use Rattle.screen_number.specs.Back.{token, number_of, value_of, same, from, is_end}
 use Rattle.screen_head.specs.Kinds.{Row, rows}
 use Rattle.screen_head.specs.Head.{Five, head}

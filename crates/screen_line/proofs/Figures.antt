@@ -1,7 +1,7 @@
 -- Lines of a few entries, whole, each computed from the definitions, as README shows them.
 use mathlib.Core.Path.{◌≡◌, refl}
 use Prim.Native.Nat.{ℕ}
-use mathlib.Core.List.{List, [], ◌∷◌}
+use mathlib.Core.List.{[], ◌∷◌}
 use Rattle.screen_number.specs.Number.{bytes}
 use Rattle.screen_head.specs.Head.{five}
 use Rattle.screen_head.specs.Shown.{shown}

@@ -1,18 +1,18 @@
 -- A line's pieces, one behind the other, are the line.
 use mathlib.Core.Path.{◌≡◌, refl, sym, ap, ◌∙◌}
-use mathlib.Core.List.{List, [], ◌∷◌, ◌++◌, append-nil, append_assoc}
+use mathlib.Core.List.{List, [], ◌++◌, append-nil, append_assoc}
 use mathlib.Core.Bool.{Bool, true, false}
-use Prim.Native.Nat.{ℕ, zero, suc, ◌+◌, ◌-◌, ◌*◌, ◌/◌, ◌%◌, ◌<◌, ◌≤◌}
+use Prim.Native.Nat.{ℕ, zero, suc, ◌+◌, ◌-◌, ◌*◌, ◌/◌, ◌%◌, ◌≤◌}
 use native.Mathlib.Omega.{arith}
 use lib.ListN.{length}
 use Rattle.screen_number.specs.Number.{bytes}
 use Rattle.screen_head.specs.Kinds.{Shows, plain, signed, as_hex, as_float, as_seconds, as_text, as_bytes, row_of}
 use Rattle.screen_head.specs.Head.{Five, head}
-use Rattle.screen_text.specs.Escape.{part, quoted, quote}
+use Rattle.screen_text.specs.Escape.{part, quoted}
 use Rattle.screen_text.proofs.Texts.{part-append}
 use Rattle.screen_text.proofs.Texts as texts
 use Rattle.screen_line.specs.Line.{line, bytes_of, meaning}
-use Rattle.screen_line.specs.Pieces.{sort_of, sort_of_kind, is_text, text_part, text_piece, piece, pieces, joined}
+use Rattle.screen_line.specs.Pieces.{sort_of, sort_of_kind, is_text, text_part, piece, pieces, joined}
 use Rattle.screen_line.specs.Promised.{LineJoined}
 use Rattle.screen_line.proofs.Parts.{part-whole, part-last, piece-opens, piece-behind}
 use Rattle.screen_line.proofs.Parts.{piece-text, piece-only, pieces-text, pieces-one}

@@ -1,6 +1,6 @@
 -- From a line the entry's five words are told: behind its head stands a blank or the line's end.
-use mathlib.Core.Path.{◌≡◌, refl, sym, ap, ◌∙◌}
-use mathlib.Core.List.{List, [], ◌∷◌, ◌++◌}
+use mathlib.Core.Path.{refl, sym, ap, ◌∙◌}
+use mathlib.Core.List.{List, [], ◌++◌}
 use mathlib.Core.Bool.{Bool, true, false}
 use Prim.Native.Nat.{ℕ}
 use lib.ListN.{length}
@@ -8,8 +8,8 @@ use lib.Dec.{eqb}
 use Rattle.screen_number.specs.Number.{bytes}
 use Rattle.screen_number.specs.Back.{is_end}
 use Rattle.screen_head.specs.Kinds.{Shows, plain, signed, as_hex, as_float, as_seconds, as_text, as_bytes, row_of}
-use Rattle.screen_head.specs.Head.{Five, head}
-use Rattle.screen_head.specs.Told.{told_words, words_of, Words64, Ends}
+use Rattle.screen_head.specs.Head.{Five}
+use Rattle.screen_head.specs.Told.{told_words, Ends}
 use Rattle.screen_head.proofs.HeadTold.{head-told}
 use Rattle.screen_meaning.specs.Bytes.{blob}
 use Rattle.screen_meaning.specs.Seconds.{seconds}

@@ -1,16 +1,15 @@
 -- Laws of a line's pieces, case by case, and how long they are.
 use mathlib.Core.Path.{◌≡◌, refl, sym, ap, ◌∙◌}
-use mathlib.Core.List.{List, [], ◌∷◌, ◌++◌}
-use mathlib.Core.Bool.{Bool, true, false}
-use Prim.Native.Nat.{ℕ, zero, suc, ◌+◌, ◌-◌, ◌*◌, ◌/◌, ◌%◌, ◌<◌, ◌≤◌}
+use mathlib.Core.List.{List, [], ◌++◌}
+use mathlib.Core.Bool.{true, false}
+use Prim.Native.Nat.{ℕ, ◌+◌, ◌-◌, ◌*◌, ◌/◌, ◌%◌, ◌<◌, ◌≤◌}
 use native.Mathlib.Omega.{arith}
 use borrow.Author.Tests.{eq-eqb, ne_eqb, lt-ltb, le-ltb}
 use lib.ListN.{length, take, drop, length-drop}
 use lib.Seq.{length-take-le}
-use lib.Dec.{eqb}
 use Rattle.screen_number.specs.Number.{bytes}
 use Rattle.screen_number.proofs.Laid.{Laid}
-use Rattle.screen_head.specs.Head.{Five, head, five}
+use Rattle.screen_head.specs.Head.{Five, head}
 use Rattle.screen_text.specs.Escape.{part}
 use Rattle.screen_line.specs.Line.{line, bytes_of}
 use Rattle.screen_line.specs.Pieces.{is_text, last_part, text_part, text_piece, only_piece, piece, pieces}

@@ -1,12 +1,10 @@
 -- Laws of what is shown of a kind, by the number of its sort. In order: the table by kind; a text or not; the meaning by the number.
 use mathlib.Core.Path.{◌≡◌, refl, sym, ap, ◌∙◌}
 use mathlib.Core.List.{List, [], ◌∷◌, ◌++◌}
-use mathlib.Core.Bool.{Bool, true, false}
-use Prim.Native.Nat.{ℕ, zero, suc, ◌+◌, ◌<◌, ◌≤◌}
-use native.Mathlib.Omega.{arith}
+use mathlib.Core.Bool.{true, false}
+use Prim.Native.Nat.{ℕ, ◌<◌, ◌≤◌}
 use borrow.Author.Tests.{eq-eqb, ne_eqb}
 use lib.ListN.{length, get_or, get_or-eq_default}
-use lib.Dec.{eqb}
 use Rattle.facts.proofs.Cases.{Each, below, ◌▷◌}
 use Rattle.screen_number.specs.Number.{bytes}
 use Rattle.screen_head.specs.Kinds.{Shows, plain, signed, as_hex, as_float, as_seconds, as_text, as_bytes, row_of, rows, row, unknown}

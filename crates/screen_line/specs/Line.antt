@@ -1,5 +1,5 @@
 -- An entry's line: its five words, and behind two blanks what the entry means. The words are for programs, the meaning is for people.
-use Rattle.std.specs.Prelude.{ℕ, ◌/◌, List, [], ◌∷◌, ◌++◌, true, false, length, take, drop, eqb}
+use Rattle.std.specs.Prelude.{ℕ, ◌/◌, List, [], ◌++◌, true, false, length, take, drop, eqb}
 use Rattle.screen_number.specs.Number.{bytes}
 use Rattle.screen_head.specs.Kinds.{Shows, plain, signed, as_hex, as_float, as_seconds, as_text, as_bytes, row_of}
 use Rattle.screen_head.specs.Head.{Five, head}

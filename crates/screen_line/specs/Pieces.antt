@@ -1,6 +1,6 @@
 -- A line in pieces, each of less than 256 bytes, so that a text of any length is shown from a small room. A line that shows no text is one
 -- piece. One that does has the head with the opening quote, then 32 bytes of the text each, the last piece with the closing quote.
-use Rattle.std.specs.Prelude.{ℕ, zero, suc, ◌+◌, ◌-◌, ◌*◌, ◌/◌, ◌%◌, List, [], ◌∷◌, ◌++◌, Bool, true, false, length, ltb, eqb}
+use Rattle.std.specs.Prelude.{ℕ, zero, suc, ◌+◌, ◌-◌, ◌*◌, ◌/◌, ◌%◌, List, [], ◌++◌, Bool, true, false, length, ltb, eqb}
 use Rattle.screen_number.specs.Number.{bytes}
 use Rattle.screen_head.specs.Kinds.{Shows, plain, signed, as_hex, as_float, as_seconds, as_text, as_bytes, row_of}
 use Rattle.screen_head.specs.Head.{Five, head}

@@ -1,7 +1,6 @@
 -- What values mean, computed from the definitions: a float of each sort, a clock, bytes and bits.
 use mathlib.Core.Path.{◌≡◌, refl}
-use Prim.Native.Nat.{ℕ, ◌+◌, ◌-◌, ◌*◌, ◌^◌}
-use mathlib.Core.List.{List, [], ◌∷◌}
+use mathlib.Core.List.{[], ◌∷◌}
 use Rattle.screen_number.specs.Number.{bytes, times}
 use Rattle.screen_meaning.specs.Bytes.{blob, bit_array}
 use Rattle.screen_meaning.specs.Seconds.{seconds}

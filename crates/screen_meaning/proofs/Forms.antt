@@ -1,20 +1,19 @@
 -- Laws of a float's text. In order: sign, first digit, power; the exact form; six decimals and their mark; what is no number; the formats.
-use mathlib.Core.Path.{◌≡◌, refl, sym, ap, ◌∙◌}
+use mathlib.Core.Path.{◌≡◌, refl}
 use mathlib.Core.Logic.{◌⊎◌, inl, inr, ⊎_elim}
 use mathlib.Core.List.{List, [], ◌∷◌, ◌++◌}
 use mathlib.Core.Bool.{Bool, true, false}
-use Prim.Native.Nat.{ℕ, zero, suc, ◌+◌, ◌-◌, ◌*◌, ◌/◌, ◌%◌, ◌^◌, ◌<◌, ◌≤◌}
+use Prim.Native.Nat.{ℕ, ◌+◌, ◌-◌, ◌*◌, ◌/◌, ◌%◌, ◌^◌, ◌<◌, ◌≤◌}
 use native.Mathlib.Omega.{arith}
 use borrow.Author.Tests.{lt-ltb, le-ltb, eq-eqb, ne_eqb}
 use lib.ListN.{length, length-append}
 use lib.Dec.{ltb, eqb}
 use Rattle.facts.proofs.Numbers.{lt-or-ge}
-use Rattle.screen_number.specs.Number.{bytes, decimal, hex, zeros, minus}
+use Rattle.screen_number.specs.Number.{bytes, decimal, hex, minus}
 use Rattle.screen_number.proofs.Decimal.{decimal-length}
 use Rattle.screen_number.proofs.Laid.{Laid, length-hex}
-use Rattle.screen_meaning.proofs.Turns.{zeros-most}
 use Rattle.screen_meaning.specs.Float.{sign, lead, power_of, significand, power_signed, exponent, exact, below, is_exact, millionths}
-use Rattle.screen_meaning.specs.Float.{mark, six_decimals, marked, decimals, special, format, finite, binary32, binary64, shown_float}
+use Rattle.screen_meaning.specs.Float.{mark, marked, decimals, special, format, finite, binary32, binary64, shown_float}
 
 -- nothing is laid
 pub laid_none : (l : List ℕ) (i : ℕ) → Laid l l i i []

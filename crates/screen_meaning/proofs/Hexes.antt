@@ -2,17 +2,16 @@
 use mathlib.Core.Path.{◌≡◌, refl, sym, ap, ◌∙◌}
 use mathlib.Core.Logic.{⊎_elim}
 use mathlib.Core.List.{List, [], ◌∷◌, ◌++◌, append-nil, append_assoc}
-use mathlib.Core.Bool.{true, false}
-use Prim.Native.Nat.{ℕ, zero, suc, ◌+◌, ◌-◌, ◌*◌, ◌/◌, ◌<◌, ◌≤◌}
+use Prim.Native.Nat.{ℕ, suc, ◌+◌, ◌*◌, ◌/◌, ◌<◌, ◌≤◌}
 use native.Mathlib.Numerals.{add-one}
 use native.Mathlib.Omega.{arith}
 use borrow.Author.Tests.{lt-ltb, le-ltb}
-use lib.ListN.{length, take, drop, get_or, length-append, length-take, length-drop}
+use lib.ListN.{length, take, drop, get_or, length-append, length-drop}
 use lib.Seq.{take-suc, take-take, get_or-drop, get_or-take, length-take-le}
 use Rattle.facts.proofs.Numbers.{lt-or-ge}
-use Rattle.screen_number.specs.Number.{bytes, decimal, hex}
+use Rattle.screen_number.specs.Number.{hex}
 use Rattle.screen_number.proofs.Laid.{length-hex}
-use Rattle.screen_meaning.specs.Bytes.{hexes, more, blob, digits_of, bit_array}
+use Rattle.screen_meaning.specs.Bytes.{hexes, more, blob, digits_of}
 
 hexes-append : (x y : List ℕ) → hexes (x ++ y) ≡ hexes x ++ hexes y
 unfolding hexes

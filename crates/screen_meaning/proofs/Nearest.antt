@@ -1,10 +1,10 @@
 -- Laws of a float's millionths. In order: below the limit; millionths of a whole number; the words of m millionths; whether six decimals
 -- are all; the nearest millionth.
-use mathlib.Core.Path.{◌≡◌, refl, sym, ap, ◌∙◌}
+use mathlib.Core.Path.{◌≡◌, sym, ap, ◌∙◌}
 use mathlib.Core.Logic.{⊎_elim}
-use mathlib.Core.Bool.{Bool, true, false}
-use Prim.Native.Nat.{ℕ, zero, suc, ◌+◌, ◌-◌, ◌*◌, ◌/◌, ◌%◌, ◌^◌, ◌<◌, ◌≤◌}
-use native.Mathlib.Nat.{div-add-mod', mod-lt, mod-one, mod-eq_of_lt, div-eq_of_lt, div-le_self, le-div_iff_mul-le, mul-le-mul_right}
+use mathlib.Core.Bool.{true, false}
+use Prim.Native.Nat.{ℕ, ◌+◌, ◌-◌, ◌*◌, ◌/◌, ◌%◌, ◌^◌, ◌<◌, ◌≤◌}
+use native.Mathlib.Nat.{div-add-mod', mod-one, mod-eq_of_lt, div-eq_of_lt, le-div_iff_mul-le, mul-le-mul_right}
 use native.Mathlib.Nat.{mul-div-mul_right, mul-add-div_right, add-mul-div_right, div-div-eq-div-mul, mul_assoc, add-mul-mod_self_right}
 use native.Mathlib.Omega.{arith}
 use borrow.Author.Tests.{lt-ltb, le-ltb, le-leb, lt-leb, eq-eqb, ne_eqb, ltb-true}

@@ -1,18 +1,17 @@
 -- Laws of texts: a byte as it is shown, and one more byte behind a part.
 use mathlib.Core.Path.{◌≡◌, refl, sym, ap, ◌∙◌}
 use mathlib.Core.List.{List, [], ◌∷◌, ◌++◌, append-nil, append_assoc}
-use mathlib.Core.Bool.{Bool, true, false, ◌&&◌, ◌||◌}
-use Prim.Native.Nat.{ℕ, zero, suc, ◌+◌, ◌-◌, ◌*◌, ◌/◌, ◌%◌, ◌<◌, ◌≤◌}
-use native.Mathlib.Nat.{add-zero}
+use mathlib.Core.Bool.{Bool, true, false, ◌||◌}
+use Prim.Native.Nat.{ℕ, zero, suc, ◌+◌, ◌-◌, ◌*◌, ◌<◌, ◌≤◌}
 use native.Mathlib.Omega.{arith}
 use borrow.Author.Tests.{eq-eqb, ne_eqb, lt-ltb, le-ltb, le-leb, lt-leb}
-use lib.ListN.{length, get_or, set, take, drop, length-append, length-take, length-set, get_or-eq_default}
-use lib.Seq.{sets, get_or-take, get_or-drop}
-use lib.Dec.{ltb, leb, eqb}
+use lib.ListN.{length, get_or, take, drop, length-append, length-take, get_or-eq_default}
+use lib.Seq.{get_or-take, get_or-drop}
+use lib.Dec.{leb, eqb}
 use Rattle.screen_number.specs.Number.{hex}
-use Rattle.screen_number.proofs.Laid.{Laid, then, one_byte, length-hex}
+use Rattle.screen_number.proofs.Laid.{length-hex}
 use Rattle.screen_text.specs.Escape.{quote, backslash, within, control, control2, formless_e2, formless_ef, formless, hidden}
-use Rattle.screen_text.specs.Escape.{marked, escaped, before, shown_at, part, quoted}
+use Rattle.screen_text.specs.Escape.{marked, escaped, before, shown_at, part}
 
 -- a byte: by its two digits, behind a backslash, as it is
 pub by_digits : (c : ℕ) → (backslash ∷ []) ++ (120 ∷ []) ++ hex 2 c ≡ escaped true c

@@ -2,16 +2,15 @@
 use mathlib.Core.Path.{◌≡◌, refl, sym, ap, ◌∙◌}
 use mathlib.Core.Logic.{⊎_elim}
 use mathlib.Core.List.{List, [], ◌∷◌, ◌++◌, append_assoc, append-nil}
-use mathlib.Core.Bool.{Bool, true, false, ◌||◌}
-use Prim.Native.Nat.{ℕ, zero, suc, ◌+◌, ◌-◌, ◌*◌, ◌/◌, ◌%◌, ◌^◌, ◌<◌, ◌≤◌}
+use mathlib.Core.Bool.{true}
+use Prim.Native.Nat.{ℕ, zero, suc, ◌+◌, ◌-◌, ◌*◌, ◌/◌, ◌^◌, ◌<◌, ◌≤◌}
 use native.Mathlib.Omega.{arith}
-use borrow.Author.Tests.{lt-ltb, le-ltb}
-use lib.Dec.{ltb}
+use borrow.Author.Tests.{le-ltb}
 use Rattle.facts.proofs.Numbers.{lt-or-ge}
 use Rattle.screen_number.specs.Number.{decimal_of, decimal, blank}
 use Rattle.screen_number.specs.Back.{is_end, token, number_from, number_of, number_in}
 use Rattle.screen_number.proofs.Decimal.{one-digit, more-digits, decimal-back}
-use Rattle.screen_number.proofs.Tokens.{Plain, Ends, word-plain, decimal-word, token-word}
+use Rattle.screen_number.proofs.Tokens.{Plain, word-plain, decimal-word, token-word}
 
 abbrev pub Digits : List ℕ → Type 0
 Digits [] = Unit {0}

@@ -2,7 +2,7 @@
 use mathlib.Core.Path.{◌≡◌, refl}
 use Rattle.rules.specs.declared.Checked.TheVariants.{Accepted, Refused}
 use Rattle.screen_number.specs.Number.{bytes, decimal, decimal_of}
-use Rattle.screen_verdict.specs.Sentences.{no_words, faults, fault, plain_reasons, plain_reason, reason}
+use Rattle.screen_verdict.specs.Sentences.{faults, fault, plain_reasons, plain_reason, reason}
 use Rattle.screen_verdict.specs.Sentences.{table_refused, bound_crossed, no_stream_class, no_event_class}
 use Rattle.screen_verdict.specs.Verdict.{unit, refused_at, listed, accepted_line, refused_line, verdict}
 use Rattle.screen_verdict.specs.Verdict.{accepted_table, refused_table, checked_line}

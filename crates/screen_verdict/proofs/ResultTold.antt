@@ -3,20 +3,19 @@ use mathlib.Core.Path.{◌≡◌, refl, sym, ap, ◌∙◌}
 use mathlib.Core.Logic.{⊎_elim}
 use mathlib.Core.List.{List, [], ◌∷◌, ◌++◌, append_assoc}
 use mathlib.Core.Bool.{Bool, true, false}
-use Prim.Native.Nat.{ℕ, zero, suc, ◌+◌, ◌^◌, ◌<◌, ◌≤◌}
+use Prim.Native.Nat.{ℕ, ◌^◌, ◌<◌}
 use native.Mathlib.Omega.{arith}
 use borrow.Author.Tests.{eq-eqb, ne_eqb}
 use lib.Dec.{T, eqb}
-use Rattle.rules.specs.declared.Result.{Result}
 use Rattle.screen_number.specs.Number.{bytes, decimal, blank}
 use Rattle.screen_number.specs.Back.{is_end, token, after_token, skip, same, from, number_in, number_at}
-use Rattle.screen_number.proofs.Tokens.{Plain, Word, Ends, word-plain, decimal-word, token-word, after-word, skip-word}
+use Rattle.screen_number.proofs.Tokens.{Word, word-plain, decimal-word, after-word, skip-word}
 use Rattle.screen_verdict.specs.Sentences.{reason, fault, table_refused, no_stream_class, no_event_class}
-use Rattle.screen_verdict.specs.Verdict.{unit, refused_at, listed, accepted_line, refused_line, verdict}
-use Rattle.screen_verdict.specs.Told.{entries_in, first_in, second_in, told_result, OfAReading, numbers_of, ResultTold}
+use Rattle.screen_verdict.specs.Verdict.{unit, refused_at, listed, accepted_line, refused_line}
+use Rattle.screen_verdict.specs.Told.{entries_in, first_in, second_in, told_result, ResultTold}
 use Rattle.screen_verdict.proofs.Sentences.{Case, is-20, is-22, is-33, is-37, is_plain, case, is-or, reason-20, reason-33}
 use Rattle.screen_verdict.proofs.Sentences.{reason-37}
-use Rattle.screen_verdict.proofs.Lines.{verdict-accepted, verdict-refused, unit-byte, unit-bit}
+use Rattle.screen_verdict.proofs.Lines.{verdict-accepted, verdict-refused}
 use Rattle.screen_verdict.proofs.Digits.{told-alone, told-colon, told-semicolon, colon-word}
 use Rattle.screen_verdict.proofs.Semicolons.{clean, clean-append, clean-decimal, reason-clean, last-semicolon}
 

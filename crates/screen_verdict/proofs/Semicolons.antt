@@ -10,7 +10,6 @@ use lib.ListN.{get_or}
 use lib.Dec.{T, eqb}
 use Rattle.facts.proofs.Numbers.{lt-or-ge}
 use Rattle.facts.proofs.Cases.{Each, below, ◌▷◌}
-use Rattle.facts.proofs.Truth.{clash}
 use Rattle.screen_number.specs.Number.{bytes, decimal}
 use Rattle.screen_verdict.specs.Sentences.{no_words, faults, fault, plain_reasons, plain_reason, reason}
 use Rattle.screen_verdict.specs.Sentences.{table_refused, bound_crossed, no_stream_class, no_event_class}

@@ -1,5 +1,4 @@
 use mathlib.Core.Path.{◌≡◌}
-use Prim.Native.Nat.{◌-◌}
 use lib.ListN.{length}
 use Rattle.screen_clock.specs.Frequency.{clock_from}
 use Rattle.screen_clock.proofs.clock_of.Given as goal

@@ -12,58 +12,36 @@ loop-left-init c = refl
 
 pub returns-then-table-at : goal.returns-then-table-at
 returns-then-table-at c =
-    let at-loop = c.before.before.before in
-    let s = at-loop.before.before in
-    frequency-past at-loop.loop-left.false s.args.table.now at-loop.loop-left.at s.args.clock c.if-table-at.true
-    ∙ sym at-loop.loop-left.invariant
+    frequency-past c.loop-left.left c.args.table.now c.loop-left.at c.args.clock c.if-table-at.true
+    ∙ sym c.loop-left.invariant
 
 pub is_clock-requires : goal.is_clock-requires
 is_clock-requires c = c.if-table-at.false
 
 pub frequency_at-requires : goal.frequency_at-requires
-frequency_at-requires c =
-    let at-if1 = c.before.before.before in
-    at-if1.if-table-at.false
+frequency_at-requires c = c.if-table-at.false
 
 pub returns-then-is_clock : goal.returns-then-is_clock
 returns-then-is_clock c =
-    let at-if2 = c.before.before in
-    let at-is-clock = at-if2.before in
-    let at-loop-test = at-is-clock.before.before in
-    let at-loop = at-loop-test.before in
-    let s = at-loop.before.before in
-    c.frequency_at.ensures ∙ frequency-found at-loop.loop-left.false at-loop-test.loop-left-test.true s.args.table.now
-    at-loop.loop-left.at s.args.clock (sym at-is-clock.is_clock.ensures ∙ at-if2.if-is_clock.true) ∙ sym at-loop.loop-left.invariant
+    c.frequency_at.ensures ∙ frequency-found c.loop-left.left c.loop-left-test.true c.args.table.now
+    c.loop-left.at c.args.clock (sym c.is_clock.ensures ∙ c.if-is_clock.true) ∙ sym c.loop-left.invariant
 
 pub behind-at-requires : goal.behind-at-requires
-behind-at-requires c =
-    let at-if1 = c.before.before.before in
-    at-if1.if-table-at.false
+behind-at-requires c = c.if-table-at.false
 
 pub overflow_sub-left : goal.overflow_sub-left
-overflow_sub-left c =
-    let at-loop-test = c.before.before.before.before.before in
-    omega (arith, at-loop-test.loop-left-test.true)
+overflow_sub-left c = omega (arith, c.loop-left-test.true)
 
 pub loop-left-smaller : goal.loop-left-smaller
-loop-left-smaller c =
-    let at-loop-test = c.before.before.before.before.before in
-    omega (arith, at-loop-test.loop-left-test.true)
+loop-left-smaller c = omega (arith, c.loop-left-test.true)
 
 pub loop-left-preserved : goal.loop-left-preserved
 loop-left-preserved c =
-    let at-if2 = c.before.before in
-    let at-is-clock = at-if2.before in
-    let at-loop-test = at-is-clock.before.before in
-    let at-loop = at-loop-test.before in
-    let s = at-loop.before.before in
-    at-loop.loop-left.invariant ∙ frequency-on at-loop.loop-left.false at-loop-test.loop-left-test.true s.args.table.now at-loop.loop-left.at
-    s.args.clock (sym at-is-clock.is_clock.ensures ∙ at-if2.if-is_clock.false)
-    ∙ ap (λ k. frequency_from (at-loop.loop-left.false - 1) s.args.table.now k s.args.clock) (sym c.behind-at.ensures)
+    c.loop-left.invariant ∙ frequency-on c.loop-left.left c.loop-left-test.true c.args.table.now c.loop-left.at
+    c.args.clock (sym c.is_clock.ensures ∙ c.if-is_clock.false)
+    ∙ ap (λ k. frequency_from (c.loop-left.left - 1) c.args.table.now k c.args.clock) (sym c.behind-at.ensures)
 
 pub returns : goal.returns
 returns c =
-    let at-loop = c.before.before in
-    let s = at-loop.before.before in
-    frequency-none at-loop.loop-left.false s.args.table.now at-loop.loop-left.at s.args.clock c.loop-left-test.false
-    ∙ sym at-loop.loop-left.invariant
+    frequency-none c.loop-left.left c.args.table.now c.loop-left.at c.args.clock c.loop-left-test.false
+    ∙ sym c.loop-left.invariant

@@ -4,11 +4,7 @@ use Rattle.screen_list.proofs.Entries.{entries-words, entries-asked}
 use Rattle.screen_list.proofs.entries_in.Goals as goal
 
 pub returns-then-all-entries : goal.returns-then-all-entries
-returns-then-all-entries c =
-    let s = c.before in
-    entries-words (length s.args.list.now) s.args.entries c.if-all-entries.true
+returns-then-all-entries c = entries-words (length c.args.list.now) c.args.entries c.if-all-entries.true
 
 pub returns : goal.returns
-returns c =
-    let s = c.before in
-    entries-asked (length s.args.list.now) s.args.entries c.if-all-entries.false
+returns c = entries-asked (length c.args.list.now) c.args.entries c.if-all-entries.false

@@ -5,7 +5,8 @@ use Rattle.screen_list.proofs.fill.Given as goal
 
 abbrev pub invariant-loop-at : goal.invariant-loop-at
 invariant-loop-at l =
-    Filling l.table l.stream l.list l.count (length l.initial.out) l.initial.out l.initial.at l.initial.piece l.initial.frequency l.out l.used l.at l.piece l.frequency
+    Filling l.table l.stream l.list l.count (length l.initial.out) l.initial.out l.initial.at l.initial.piece
+    l.initial.frequency l.out l.used l.at l.piece l.frequency
 
 abbrev pub decreases-loop-at : goal.decreases-loop-at
 decreases-loop-at l = l.count - l.at

@@ -10,24 +10,21 @@ use Rattle.screen_list.proofs.put_at.Goals as goal
 
 pub overflow_add-result : goal.overflow_add-result
 overflow_add-result c =
-    let at-put-piece = c.before.before.before in
-    let s = at-put-piece.before.before.before.before in
-    let e = five s.args.kind s.args.place s.args.bits s.args.value s.args.number in
+    let e = five c.args.kind c.args.place c.args.bits c.args.value c.args.number in
     omega (
       arith,
-      s.requires,
-      s.well_formed,
-      at-put-piece.put_piece-more.ensures.value,
-      piece-most (take (length s.args.out.now - s.args.used) (drop s.args.used s.args.out.now)) s.args.stream.now
-          s.args.frequency e s.args.i,
+      c.requires,
+      c.requires,
+      c.put_piece-more.ensures.value,
+      piece-most (take (length c.args.out.now - c.args.used) (drop c.args.used c.args.out.now)) c.args.stream.now
+          c.args.frequency e c.args.i,
     )
 
 pub returns : goal.returns
 returns c =
-    let at-put-piece = c.before.before.before in
-    let s = at-put-piece.before.before.before.before in
-    let e = five s.args.kind s.args.place s.args.bits s.args.value s.args.number in
-    let both = laid-behind s.args.out.now at-put-piece.put_piece-more.new.out s.args.used at-put-piece.put_piece-more.result
-    (piece s.args.stream.now s.args.frequency e s.args.i) s.requires
-    (piece-length s.args.stream.now s.args.frequency e s.args.i) at-put-piece.put_piece-more.ensures.value
-    at-put-piece.put_piece-more.ensures.out_after in record { value = both.0; out_after = both.1 }
+    let e = five c.args.kind c.args.place c.args.bits c.args.value c.args.number in
+    let all = laid-behind c.args.out.now c.put_piece-more.new.out c.args.used c.put_piece-more.result
+    (piece c.args.stream.now c.args.frequency e c.args.i) c.requires
+    (piece-length c.args.stream.now c.args.frequency e c.args.i) c.put_piece-more.ensures.value
+    c.put_piece-more.ensures.out_after in
+    record { value = all.0; out_after = all.1 }

@@ -5,27 +5,15 @@ use Rattle.rules.specs.Limits.{words_per_entry}
 use Rattle.screen_list.specs.Lines.{entry_at}
 use Rattle.screen_list.proofs.Entries.{entry-put}
 use Rattle.screen_list.proofs.put_entry.Goals as goal
-use Rattle.screen_list.proofs.put_entry.Lts as lts
-use Rattle.screen_list.proofs.put_entry.Tie as tie
-use Rattle.screen_list.proofs.put_entry.Reads as reads
-
--- The way back from where the frequency is settled: past the reading of the five words, and to the start
-abbrev words : lts.After-settle tie.the-claims reads.Pre reads.Post tie.handed_clauses → lts.After-shared_slice_known3 tie.the-claims reads.Pre reads.Post tie.handed_clauses
-words c = c.before.before.before.before.before.before
-
-abbrev start : lts.After-shared_slice_known3 tie.the-claims reads.Pre reads.Post tie.handed_clauses → lts.Start tie.the-claims reads.Pre reads.Post tie.handed_clauses
-start c = c.before.before.before.before
 
 pub returns : goal.returns
 unfolding entry_at
 returns c =
-    let at-put = c.before.before.before.before in
-    let at-pieces = at-put.before.before in
-    let at-settle = at-pieces.before in
-    let a = at-settle.args in
+    let a = c.args in
     let w = a.list.now in
     let i = a.at * words_per_entry in
-    let both = entry-put a.table.now a.stream.now a.out.now at-put.put_pieces-laid.new.out a.used a.piece a.frequency
-    at-settle.settle-turns.result at-pieces.pieces-count.result at-put.put_pieces-laid.result.piece at-put.put_pieces-laid.result.used
+    let all = entry-put a.table.now a.stream.now a.out.now c.put_pieces-laid.new.out a.used a.piece a.frequency
+    c.settle-turns.result c.pieces-count.result c.put_pieces-laid.result.piece c.put_pieces-laid.result.used
     (get_or w i 0) (get_or w (i + 1) 0) (get_or w (i + 2) 0) (get_or w (i + 3) 0) (get_or w (i + 4) 0)
-    at-settle.settle-turns.ensures at-pieces.pieces-count.ensures (at-put.put_pieces-laid.ensures.piece_value, at-put.put_pieces-laid.ensures.out_after) in record { value = both.0; out_after = both.1 }
+    c.settle-turns.ensures c.pieces-count.ensures (c.put_pieces-laid.ensures.piece_value, c.put_pieces-laid.ensures.out_after) in
+    record { value = all.0; out_after = all.1 }

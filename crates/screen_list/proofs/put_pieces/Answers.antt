@@ -1,5 +1,4 @@
 -- Each turn lays a piece; the loop ends behind the last, or where the room is full.
-use Prim.Native.Nat.{◌-◌}
 use native.Mathlib.Omega.{arith}
 use Rattle.screen_head.specs.Head.{five}
 use Rattle.screen_list.proofs.Pieces.{lays-start, lays_step, lays-full, lays-end}
@@ -20,7 +19,8 @@ pub shape_of-out-then-out-end-lt-PIECE_ROOM : goal.shape_of-out-then-out-end-lt-
 shape_of-out-then-out-end-lt-PIECE_ROOM c = c.loop-i.invariant.same
 
 pub returns-then-out-end-lt-PIECE_ROOM : goal.returns-then-out-end-lt-PIECE_ROOM
-returns-then-out-end-lt-PIECE_ROOM c = let both = lays-full c.loop-i.invariant c.loop-i-test.true c.if-out-end-lt-PIECE_ROOM.true in record { piece_value = both.0; out_after = both.1 }
+returns-then-out-end-lt-PIECE_ROOM c = let all = lays-full c.loop-i.invariant c.loop-i-test.true c.if-out-end-lt-PIECE_ROOM.true in
+    record { piece_value = all.0; out_after = all.1 }
 
 pub put_at-end-requires : goal.put_at-end-requires
 put_at-end-requires c =
@@ -29,14 +29,12 @@ put_at-end-requires c =
 
 pub loop-i-preserved : goal.loop-i-preserved
 loop-i-preserved c =
-    let at-put = c.before.before.before in
-    let at-if1 = at-put.before.before in
-    let turn = at-if1.before in
-    lays_step turn.loop-i.invariant turn.loop-i-test.true at-if1.if-out-end-lt-PIECE_ROOM.false at-put.put_at-end.ensures.value
-    at-put.put_at-end.ensures.out_after
+    lays_step c.loop-i.invariant c.loop-i-test.true c.if-out-end-lt-PIECE_ROOM.false c.put_at-end.ensures.value
+    c.put_at-end.ensures.out_after
 
 pub shape_of-out : goal.shape_of-out
 shape_of-out c = c.loop-i.invariant.same
 
 pub returns : goal.returns
-returns c = let both = lays-end c.loop-i.invariant c.loop-i-test.false in record { piece_value = both.0; out_after = both.1 }
+returns c = let all = lays-end c.loop-i.invariant c.loop-i-test.false in
+    record { piece_value = all.0; out_after = all.1 }

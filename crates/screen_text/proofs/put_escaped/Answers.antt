@@ -6,20 +6,17 @@ use Prim.Native.Nat.{◌+◌}
 use lib.ListN.{set, length-set}
 use Rattle.screen_number.specs.Number.{hex}
 use Rattle.screen_text.specs.Escape.{escaped}
-use Rattle.screen_number.proofs.Laid.{Laid, laid, both, then, shown-as, one_byte}
+use Rattle.screen_number.proofs.Laid.{Laid, laid, then, shown-as, one_byte}
 use Rattle.screen_text.proofs.Texts.{by_digits, behind-backslash, as-it-is}
 use Rattle.screen_text.proofs.put_escaped.Goals as goal
 
 pub bounds-out-at-then-hidden : goal.bounds-out-at-then-hidden
-bounds-out-at-then-hidden c =
-    let s = c.before.before in
-    omega (arith, s.requires, length-set s.args.out.now s.args.at 92)
+bounds-out-at-then-hidden c = omega (arith, c.requires, length-set c.args.out.now c.args.at 92)
 
 pub put_hex-requires : goal.put_hex-requires
 put_hex-requires c =
-    let s = c.before.before.before in
-    let a = s.args in
-    omega (arith, s.requires, length-set a.out.now a.at 92, length-set (set a.out.now a.at 92) (a.at + 1) 120)
+    let a = c.args in
+    omega (arith, c.requires, length-set a.out.now a.at 92, length-set (set a.out.now a.at 92) (a.at + 1) 120)
 
 pub shape_of-out-then-hidden : goal.shape_of-out-then-hidden
 shape_of-out-then-hidden c =
@@ -34,14 +31,13 @@ returns-then-hidden c =
     let one_on : a.at + 1 + 1 ≡ a.at + 2 = omega arith in
     let first : Laid a.out.now two a.at (a.at + 2) ((92 ∷ []) ++ (120 ∷ [])) =
     rw one_on at (then (one_byte a.out.now a.at 92) (one_byte (set a.out.now a.at 92) (a.at + 1) 120)) in
-    let both = both (shown-as
-    (then first (laid two put.new.out (a.at + 2) put.result (hex 2 a.c) put.ensures))
-    (by_digits a.c ∙ ap (λ h. escaped h a.c) (sym c.if-hidden.true))) in record { value = both.0; out_after = both.1 }
+    let all = shown-as
+    (then first (laid two put.new.out (a.at + 2) put.result (hex 2 a.c) (put.ensures.value, put.ensures.out_after)))
+    (by_digits a.c ∙ ap (λ h. escaped h a.c) (sym c.if-hidden.true)) in
+    record { value = all.end; out_after = all.list }
 
 pub bounds-out-at-then-marked-2 : goal.bounds-out-at-then-marked-2
-bounds-out-at-then-marked-2 c =
-    let s = c.before.before.before.before in
-    omega (arith, s.requires, length-set s.args.out.now s.args.at 92)
+bounds-out-at-then-marked-2 c = omega (arith, c.requires, length-set c.args.out.now c.args.at 92)
 
 pub returns-then-marked : goal.returns-then-marked
 returns-then-marked c =
@@ -50,13 +46,15 @@ returns-then-marked c =
     let one_on : a.at + 1 + 1 ≡ a.at + 2 = omega arith in
     let first : Laid a.out.now two a.at (a.at + 2) ((92 ∷ []) ++ (a.c ∷ [])) =
     rw one_on at (then (one_byte a.out.now a.at 92) (one_byte (set a.out.now a.at 92) (a.at + 1) a.c)) in
-    let both = both (shown-as first
+    let all = shown-as first
     (behind-backslash a.c (sym c.marked.ensures ∙ c.if-marked.true) ∙ ap (λ h. escaped h a.c)
-    (sym c.if-hidden.false))) in record { value = both.0; out_after = both.1 }
+    (sym c.if-hidden.false)) in
+    record { value = all.end; out_after = all.list }
 
 pub returns : goal.returns
 returns c =
     let a = c.args in
-    let both = both (shown-as
+    let all = shown-as
     (one_byte a.out.now a.at a.c)
-    (as-it-is a.c (sym c.marked.ensures ∙ c.if-marked.false) ∙ ap (λ h. escaped h a.c) (sym c.if-hidden.false))) in record { value = both.0; out_after = both.1 }
+    (as-it-is a.c (sym c.marked.ensures ∙ c.if-marked.false) ∙ ap (λ h. escaped h a.c) (sym c.if-hidden.false)) in
+    record { value = all.end; out_after = all.list }

@@ -5,25 +5,24 @@ use Rattle.screen_verdict.proofs.Lines.{too_small, line-laid}
 use Rattle.screen_verdict.proofs.put_checked.Goals as goal
 
 pub returns-then-out-lt-LINE_ROOM : goal.returns-then-out-lt-LINE_ROOM
-returns-then-out-lt-LINE_ROOM c = let both = too_small c.args.out.now (checked_line c.args.checked) c.if-out-lt-LINE_ROOM.true in record { value = both.0; out_after = both.1 }
+returns-then-out-lt-LINE_ROOM c = let all = too_small c.args.out.now (checked_line c.args.checked) c.if-out-lt-LINE_ROOM.true in
+    record { value = all.0; out_after = all.1 }
 
 pub returns-in-Accepted : goal.returns-in-Accepted
 unfolding checked_line
 returns-in-Accepted c =
-    let at_told = c.before.before.before.before.before in
-    let at-if = at_told.before in
-    let a = at-if.args in
+    let a = c.args in
     let put = c.put_accepted_table in
-    let both = line-laid a.out.now put.new.out (accepted_table at_told.in-Accepted.bytes.0) (checked_line a.checked) put.result
-    at-if.if-out-lt-LINE_ROOM.false (sym (ap checked_line at_told.in-Accepted.is)) put.ensures in record { value = both.0; out_after = both.1 }
+    let all = line-laid a.out.now put.new.out (accepted_table c.in-Accepted.bytes.0) (checked_line a.checked) put.result
+    c.if-out-lt-LINE_ROOM.false (sym (ap checked_line c.in-Accepted.is)) (put.ensures.value, put.ensures.out_after) in
+    record { value = all.0; out_after = all.1 }
 
 pub returns-in-Refused : goal.returns-in-Refused
 unfolding checked_line
 returns-in-Refused c =
-    let at_told = c.before.before.before.before.before in
-    let at-if = at_told.before in
-    let a = at-if.args in
+    let a = c.args in
     let put = c.put_refused_table in
-    let both = line-laid a.out.now put.new.out (refused_table at_told.in-Refused.number at_told.in-Refused.byte.0)
+    let all = line-laid a.out.now put.new.out (refused_table c.in-Refused.number c.in-Refused.byte.0)
     (checked_line a.checked) put.result
-    at-if.if-out-lt-LINE_ROOM.false (sym (ap checked_line at_told.in-Refused.is)) put.ensures in record { value = both.0; out_after = both.1 }
+    c.if-out-lt-LINE_ROOM.false (sym (ap checked_line c.in-Refused.is)) (put.ensures.value, put.ensures.out_after) in
+    record { value = all.0; out_after = all.1 }

@@ -5,52 +5,44 @@ use Rattle.screen_number.specs.Number.{bytes}
 use Rattle.screen_number.proofs.Laid.{same_text}
 use Rattle.screen_head.specs.Kinds.{rows, row, row_of, named, word}
 use Rattle.screen_head.proofs.kinds.put_holder_kind.Goals as goal
-use Rattle.screen_head.proofs.kinds.put_holder_kind.Lts as lts
-use Rattle.screen_head.proofs.kinds.put_holder_kind.Tie as tie
-use Rattle.screen_head.proofs.kinds.put_holder_kind.Reads as reads
-
-the_last : (c : lts.After-slice_known6 tie.the-claims reads.Pre reads.Post tie.handed_clauses) → 32 ≡ c.args.kind
-the_last c =
-    omega (
-      arith,
-      c.requires,
-      c.in_default.in_default-own.rest.1,
-      c.in_default.in_default-own.rest.0.1,
-      c.in_default.in_default-own.rest.0.0.1,
-      c.in_default.in_default-own.rest.0.0.0.1,
-    )
 
 pub returns-in-28 : goal.returns-in-28
 unfolding word named row_of rows row bytes
 returns-in-28 c =
     let a = c.args in
-    let both = same_text a.out.now c.put_bytes.new.out a.at c.put_bytes.result (word 28)
-    (word a.kind) (ap word (sym c.in-28.is)) (c.put_bytes.ensures.value, c.put_bytes.ensures.out_after) in record { value = both.0; out_after = both.1 }
+    let all = same_text a.out.now c.put_bytes.new.out a.at c.put_bytes.result (word 28)
+    (word a.kind) (ap word (sym c.in-28.is)) (c.put_bytes.ensures.value, c.put_bytes.ensures.out_after) in
+    record { value = all.0; out_after = all.1 }
 
 pub returns-in-29 : goal.returns-in-29
 unfolding word named row_of rows row bytes
 returns-in-29 c =
     let a = c.args in
-    let both = same_text a.out.now c.put_bytes-in-29.new.out a.at c.put_bytes-in-29.result (word 29)
-    (word a.kind) (ap word (sym c.in-29.is)) (c.put_bytes-in-29.ensures.value, c.put_bytes-in-29.ensures.out_after) in record { value = both.0; out_after = both.1 }
+    let all = same_text a.out.now c.put_bytes-in-29.new.out a.at c.put_bytes-in-29.result (word 29)
+    (word a.kind) (ap word (sym c.in-29.is)) (c.put_bytes-in-29.ensures.value, c.put_bytes-in-29.ensures.out_after) in
+    record { value = all.0; out_after = all.1 }
 
 pub returns-in-30 : goal.returns-in-30
 unfolding word named row_of rows row bytes
 returns-in-30 c =
     let a = c.args in
-    let both = same_text a.out.now c.put_bytes-in-30.new.out a.at c.put_bytes-in-30.result (word 30)
-    (word a.kind) (ap word (sym c.in-30.is)) (c.put_bytes-in-30.ensures.value, c.put_bytes-in-30.ensures.out_after) in record { value = both.0; out_after = both.1 }
+    let all = same_text a.out.now c.put_bytes-in-30.new.out a.at c.put_bytes-in-30.result (word 30)
+    (word a.kind) (ap word (sym c.in-30.is)) (c.put_bytes-in-30.ensures.value, c.put_bytes-in-30.ensures.out_after) in
+    record { value = all.0; out_after = all.1 }
 
 pub returns-in-31 : goal.returns-in-31
 unfolding word named row_of rows row bytes
 returns-in-31 c =
     let a = c.args in
-    let both = same_text a.out.now c.put_bytes-in-31.new.out a.at c.put_bytes-in-31.result (word 31)
-    (word a.kind) (ap word (sym c.in-31.is)) (c.put_bytes-in-31.ensures.value, c.put_bytes-in-31.ensures.out_after) in record { value = both.0; out_after = both.1 }
+    let all = same_text a.out.now c.put_bytes-in-31.new.out a.at c.put_bytes-in-31.result (word 31)
+    (word a.kind) (ap word (sym c.in-31.is)) (c.put_bytes-in-31.ensures.value, c.put_bytes-in-31.ensures.out_after) in
+    record { value = all.0; out_after = all.1 }
 
 pub returns-in_default : goal.returns-in_default
 unfolding word named row_of rows row bytes
 returns-in_default c =
+    let last : 32 ≡ c.args.kind = omega arith in
     let a = c.args in
-    let both = same_text a.out.now c.put_bytes-in_default.new.out a.at c.put_bytes-in_default.result (word 32)
-    (word a.kind) (ap word (the_last c.before)) (c.put_bytes-in_default.ensures.value, c.put_bytes-in_default.ensures.out_after) in record { value = both.0; out_after = both.1 }
+    let all = same_text a.out.now c.put_bytes-in_default.new.out a.at c.put_bytes-in_default.result (word 32)
+    (word a.kind) (ap word last) (c.put_bytes-in_default.ensures.value, c.put_bytes-in_default.ensures.out_after) in
+    record { value = all.0; out_after = all.1 }

@@ -8,20 +8,23 @@ pub returns-then-kind-lt1 : goal.returns-then-kind-lt1
 returns-then-kind-lt1 c =
     let a = c.args in
     let put = c.put_kind_number in
-    let both = same_text a.out.now put.new.out a.at put.result (kind_number a.kind) (word a.kind)
-    (no_word a.kind (none_first a.kind c.if-kind-lt1.true)) put.ensures in record { value = both.0; out_after = both.1 }
+    let all = same_text a.out.now put.new.out a.at put.result (kind_number a.kind) (word a.kind)
+    (no_word a.kind (none_first a.kind c.if-kind-lt1.true)) (put.ensures.value, put.ensures.out_after) in
+    record { value = all.0; out_after = all.1 }
 
 pub returns-then-kind-lt16 : goal.returns-then-kind-lt16
 returns-then-kind-lt16 c =
     let a = c.args in
     let put = c.put_kind_number-then-kind-lt16 in
-    let both = same_text a.out.now put.new.out a.at put.result (kind_number a.kind) (word a.kind)
+    let all = same_text a.out.now put.new.out a.at put.result (kind_number a.kind) (word a.kind)
     (no_word a.kind (none_between a.kind c.if-kind-lt9.false
-    c.if-kind-lt16.true)) put.ensures in record { value = both.0; out_after = both.1 }
+    c.if-kind-lt16.true)) (put.ensures.value, put.ensures.out_after) in
+    record { value = all.0; out_after = all.1 }
 
 pub returns : goal.returns
 returns c =
     let a = c.args in
     let put = c.put_kind_number-2 in
-    let both = same_text a.out.now put.new.out a.at put.result (kind_number a.kind) (word a.kind)
-    (no_word a.kind (none-behind a.kind c.if-kind-lt33.false)) put.ensures in record { value = both.0; out_after = both.1 }
+    let all = same_text a.out.now put.new.out a.at put.result (kind_number a.kind) (word a.kind)
+    (no_word a.kind (none-behind a.kind c.if-kind-lt33.false)) (put.ensures.value, put.ensures.out_after) in
+    record { value = all.0; out_after = all.1 }

@@ -4,11 +4,7 @@ use Rattle.screen_line.proofs.Standing.{from_first, from_second}
 use Rattle.screen_line.proofs.shown.from_of.Goals as goal
 
 pub returns-then-stream-from : goal.returns-then-stream-from
-returns-then-stream-from c =
-    let s = c.before in
-    from_first (length s.args.stream.now) s.args.place c.if-stream-from.true
+returns-then-stream-from c = from_first (length c.args.stream.now) c.args.place c.if-stream-from.true
 
 pub returns : goal.returns
-returns c =
-    let s = c.before in
-    from_second (length s.args.stream.now) s.args.place c.if-stream-from.false
+returns c = from_second (length c.args.stream.now) c.args.place c.if-stream-from.false

@@ -4,16 +4,10 @@ use Rattle.screen_meaning.proofs.Forms.{significand-low, significand-high}
 use Rattle.screen_meaning.proofs.float.significand.Goals as goal
 
 pub returns-then-raised-eq0 : goal.returns-then-raised-eq0
-returns-then-raised-eq0 c =
-    let s = c.before in
-    significand-low s.args.unit s.args.raised s.args.fraction c.if-raised-eq0.true
+returns-then-raised-eq0 c = significand-low c.args.unit c.args.raised c.args.fraction c.if-raised-eq0.true
 
 pub overflow_add-result : goal.overflow_add-result
-overflow_add-result c =
-    let s = c.before in
-    omega (arith, s.requires)
+overflow_add-result c = omega (arith, c.requires)
 
 pub returns : goal.returns
-returns c =
-    let s = c.before in
-    significand-high s.args.unit s.args.raised s.args.fraction c.if-raised-eq0.false
+returns c = significand-high c.args.unit c.args.raised c.args.fraction c.if-raised-eq0.false

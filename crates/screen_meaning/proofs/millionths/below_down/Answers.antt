@@ -8,20 +8,14 @@ use Rattle.screen_meaning.proofs.Nearest.{below-far, below-near}
 use Rattle.screen_meaning.proofs.millionths.below_down.Goals as goal
 
 pub returns-then-down-ge14 : goal.returns-then-down-ge14
-returns-then-down-ge14 c =
-    let s = c.before in
-    below-far s.args.m s.args.down s.requires c.if-down-ge14.true
+returns-then-down-ge14 c = below-far c.args.m c.args.down c.requires c.if-down-ge14.true
 
 pub power-requires : goal.power-requires
 power-requires c = omega (arith, c.if-down-ge14.false)
 
 pub overflow_mul-result : goal.overflow_mul-result
 overflow_mul-result c =
-    let at-if1 = c.before in
-    let s = at-if1.before in
-    omega (arith, c.power.ensures, at-if1.if-down-ge14.false, pow_mono {i = s.args.down} {j = 13} (omega (arith, at-if1.if-down-ge14.false)))
+    omega (arith, c.power.ensures, c.if-down-ge14.false, pow_mono {i = c.args.down} {j = 13} (omega (arith, c.if-down-ge14.false)))
 
 pub returns : goal.returns
-returns c =
-    let s = c.before.before in
-    ap (λ k. ltb s.args.m (1000000000000 * k)) c.power.ensures ∙ below-near s.args.m s.args.down
+returns c = ap (λ k. ltb c.args.m (1000000000000 * k)) c.power.ensures ∙ below-near c.args.m c.args.down

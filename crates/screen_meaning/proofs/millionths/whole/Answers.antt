@@ -4,24 +4,17 @@ use Rattle.screen_meaning.proofs.Nearest.{whole-none, whole-some, whole_room}
 use Rattle.screen_meaning.proofs.millionths.whole.Goals as goal
 
 pub returns-then-up-ge40 : goal.returns-then-up-ge40
-returns-then-up-ge40 c =
-    let s = c.before in
-    whole-none s.args.m s.args.up c.if-up-ge40.true s.requires
+returns-then-up-ge40 c = whole-none c.args.m c.args.up c.if-up-ge40.true c.requires
 
 pub power-requires : goal.power-requires
 power-requires c = omega (arith, c.if-up-ge40.false)
 
 pub overflow_mul-result : goal.overflow_mul-result
-overflow_mul-result c =
-    let s = c.before.before in
-    omega (arith, whole_room s.args.m s.args.up c.power.result c.power.ensures s.requires)
+overflow_mul-result c = omega (arith, whole_room c.args.m c.args.up c.power.result c.power.ensures c.requires)
 
 pub overflow_mul-result-2 : goal.overflow_mul-result-2
 overflow_mul-result-2 c =
-    let s = c.before.before in
-    omega (arith, whole_room s.args.m s.args.up c.power.result c.power.ensures s.requires)
+    omega (arith, whole_room c.args.m c.args.up c.power.result c.power.ensures c.requires)
 
 pub returns : goal.returns
-returns c =
-    let s = c.before.before in
-    whole-some s.args.m s.args.up c.power.result c.power.ensures
+returns c = whole-some c.args.m c.args.up c.power.result c.power.ensures

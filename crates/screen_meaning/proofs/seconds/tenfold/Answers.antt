@@ -1,9 +1,8 @@
 -- So many turns are added up.
 use mathlib.Core.Path.{◌≡◌}
 use native.Mathlib.Omega.{arith}
-use mathlib.Core.Logic.{⊎_elim}
-use Prim.Native.Nat.{◌-◌}
 use Rattle.screen_meaning.proofs.Turns.{turn-over, turn_on, turn-none, ten-whole, ten-left}
+use Rattle.screen_meaning.proofs.seconds.tenfold.Goals.{then-lacking-left, else-lacking-left}
 use Rattle.screen_meaning.proofs.seconds.tenfold.Goals as goal
 
 pub overflow_sub-lacking : goal.overflow_sub-lacking
@@ -13,49 +12,36 @@ pub loop-turns-init : goal.loop-turns-init
 loop-turns-init c = (turn-none c.args.frequency c.args.part c.requires, omega arith)
 
 pub overflow_add-whole : goal.overflow_add-whole
-overflow_add-whole c =
-    let at-loop = c.before.before.before in
-    omega (arith, at-loop.loop-turns.invariant.0.few, at-loop.loop-turns.invariant.1)
+overflow_add-whole c = omega (arith, c.loop-turns.invariant.0.few, c.loop-turns.invariant.1)
 
 pub overflow_add-left : goal.overflow_add-left
-overflow_add-left c =
-    let s = c.before.before.before.before in
-    omega (arith, s.requires, s.ranges, c.if-lacking-left.false)
+overflow_add-left c = omega arith
 
 pub overflow_add-turns : goal.overflow_add-turns
-overflow_add-turns c =
-    let at-loop = c.before.before.before in
-    omega (arith, at-loop.loop-turns.invariant.1)
+overflow_add-turns c = omega (arith, c.loop-turns.invariant.1)
 
 pub loop-turns-smaller : goal.loop-turns-smaller
-loop-turns-smaller c =
-    let at-loop-test = c.before.before in
-    omega (arith, at-loop-test.loop-turns-test.true)
+loop-turns-smaller c = omega (arith, c.loop-turns-test.true)
 
 pub loop-turns-preserved : goal.loop-turns-preserved
 loop-turns-preserved c =
-    let at-loop-test = c.before.before in
-    let at-loop = at-loop-test.before in
-    let s = at-loop.before in
-    let a = s.args in
-    let at = at-loop.loop-turns in (
-      ⊎_elim
-          (λ y. turn-over a.frequency a.part at.whole at.false at.turns c.if-lacking-left.whole c.if-lacking-left.false s.requires
-          at.invariant.0 y.0.taken y.1 y.2)
-          (λ y. turn_on a.frequency a.part at.whole at.false at.turns c.if-lacking-left.whole c.if-lacking-left.false s.requires at.invariant.0
-          y.0.left y.1 y.2)
-          c.if-lacking-left.branch,
-      omega (arith, at-loop-test.loop-turns-test.true),
+    let a = c.args in
+    let at = c.loop-turns in (
+      elim c.if-lacking-left.branch [
+        | then-lacking-left y ↦
+            turn-over a.frequency a.part at.whole at.left at.turns _ _ c.requires at.invariant.0 y.if-lacking-left.true y.whole-is y.left-is
+        | else-lacking-left y ↦
+            turn_on a.frequency a.part at.whole at.left at.turns _ _ c.requires at.invariant.0 y.if-lacking-left.false y.whole-is y.left-is
+      ],
+      omega (arith, c.loop-turns-test.true),
     )
 
 pub returns : goal.returns
 returns c =
-    let at-loop = c.before.before in
-    let s = at-loop.before in
-    let a = s.args in
-    let at = at-loop.loop-turns in
+    let a = c.args in
+    let at = c.loop-turns in
     let ten : at.turns ≡ 10 = omega (arith, c.loop-turns-test.false, at.invariant.1) in (
-      ten-whole a.frequency a.part at.whole at.false at.turns at.invariant.0 ten,
+      ten-whole a.frequency a.part at.whole at.left at.turns at.invariant.0 ten,
       ten-left a.frequency a.part
-          at.whole at.false at.turns at.invariant.0 ten,
+          at.whole at.left at.turns at.invariant.0 ten,
     )

@@ -1,4 +1,5 @@
 -- Those that name numbers, each by its own sentence, and the others.
+use native.Mathlib.Omega.{arith}
 use Rattle.screen_number.proofs.Laid.{same_text}
 use Rattle.screen_verdict.specs.Sentences.{reason, plain_reason, table_refused, bound_crossed, no_stream_class, no_event_class}
 use Rattle.screen_verdict.proofs.Sentences.{reason-20, reason-22, reason-33, reason-37, reason-plain}
@@ -6,46 +7,46 @@ use Rattle.screen_verdict.proofs.reasons.put_reason.Goals as goal
 
 pub returns-in-20 : goal.returns-in-20
 returns-in-20 c =
-    let at-arm = c.before.before.before.before.before in
-    let a = at-arm.args in
+    let a = c.args in
     let put = c.put_table_refused in
-    let both = same_text a.out.now put.new.out a.at put.result (table_refused a.first)
+    let all = same_text a.out.now put.new.out a.at put.result (table_refused a.first)
     (reason a.number a.place a.first a.second)
-    (reason-20 a.number a.place a.first a.second at-arm.in-20.is) put.ensures in record { value = both.0; out_after = both.1 }
+    (reason-20 a.number a.place a.first a.second c.in-20.is) (put.ensures.value, put.ensures.out_after) in
+    record { value = all.0; out_after = all.1 }
 
 pub returns-in-22 : goal.returns-in-22
 returns-in-22 c =
-    let at-arm = c.before.before.before.before.before in
-    let a = at-arm.args in
+    let a = c.args in
     let put = c.put_bound_crossed in
-    let both = same_text a.out.now put.new.out a.at put.result (bound_crossed a.place)
+    let all = same_text a.out.now put.new.out a.at put.result (bound_crossed a.place)
     (reason a.number a.place a.first a.second)
-    (reason-22 a.number a.place a.first a.second at-arm.in-22.is) put.ensures in record { value = both.0; out_after = both.1 }
+    (reason-22 a.number a.place a.first a.second c.in-22.is) (put.ensures.value, put.ensures.out_after) in
+    record { value = all.0; out_after = all.1 }
 
 pub returns-in-33 : goal.returns-in-33
 returns-in-33 c =
-    let at-arm = c.before.before.before.before.before in
-    let a = at-arm.args in
+    let a = c.args in
     let put = c.put_no_stream_class in
-    let both = same_text a.out.now put.new.out a.at put.result (no_stream_class a.first)
+    let all = same_text a.out.now put.new.out a.at put.result (no_stream_class a.first)
     (reason a.number a.place a.first a.second)
-    (reason-33 a.number a.place a.first a.second at-arm.in-33.is) put.ensures in record { value = both.0; out_after = both.1 }
+    (reason-33 a.number a.place a.first a.second c.in-33.is) (put.ensures.value, put.ensures.out_after) in
+    record { value = all.0; out_after = all.1 }
 
 pub returns-in-37 : goal.returns-in-37
 returns-in-37 c =
-    let at-arm = c.before.before.before.before.before in
-    let a = at-arm.args in
+    let a = c.args in
     let put = c.put_no_event_class in
-    let both = same_text a.out.now put.new.out a.at put.result (no_event_class a.first a.second)
+    let all = same_text a.out.now put.new.out a.at put.result (no_event_class a.first a.second)
     (reason a.number a.place a.first a.second)
-    (reason-37 a.number a.place a.first a.second at-arm.in-37.is) put.ensures in record { value = both.0; out_after = both.1 }
+    (reason-37 a.number a.place a.first a.second c.in-37.is) (put.ensures.value, put.ensures.out_after) in
+    record { value = all.0; out_after = all.1 }
 
 pub returns-in_default : goal.returns-in_default
 returns-in_default c =
-    let at-arm = c.before.before.before.before.before in
-    let a = at-arm.args in
+    let a = c.args in
     let put = c.put_plain_reason in
-    let both = same_text a.out.now put.new.out a.at put.result (plain_reason a.number)
+    let all = same_text a.out.now put.new.out a.at put.result (plain_reason a.number)
     (reason a.number a.place a.first a.second)
-    (reason-plain a.number a.place a.first a.second at-arm.in_default.in_default-own.rest.0.0.0.1 at-arm.in_default.in_default-own.rest.0.0.1
-    at-arm.in_default.in_default-own.rest.0.1 at-arm.in_default.in_default-own.rest.1) put.ensures in record { value = both.0; out_after = both.1 }
+    (reason-plain a.number a.place a.first a.second (omega arith) (omega arith)
+    (omega arith) (omega arith)) (put.ensures.value, put.ensures.out_after) in
+    record { value = all.0; out_after = all.1 }

@@ -5,53 +5,40 @@ use Rattle.screen_number.specs.Number.{bytes}
 use Rattle.screen_number.proofs.Laid.{same_text}
 use Rattle.screen_verdict.specs.Sentences.{plain_reason, plain_reasons, no_words}
 use Rattle.screen_verdict.proofs.reasons.put_reason_to_29.Goals as goal
-use Rattle.screen_verdict.proofs.reasons.put_reason_to_29.Lts as lts
-use Rattle.screen_verdict.proofs.reasons.put_reason_to_29.Tie as tie
-use Rattle.screen_verdict.proofs.reasons.put_reason_to_29.Reads as reads
-
-the_last : (c : lts.After-slice_known5 tie.the-claims reads.Pre reads.Post tie.handed_clauses) → 29 ≡ c.args.number
-the_last c =
-    let at-arm = c.before.before.before.before.before.before in
-    omega (
-      arith,
-      at-arm.requires,
-      at-arm.in_default.in_default-own.rest.1,
-      at-arm.in_default.in_default-own.rest.0.1,
-      at-arm.in_default.in_default-own.rest.0.0.1,
-    )
 
 pub returns-in-26 : goal.returns-in-26
 unfolding plain_reason plain_reasons no_words bytes
 returns-in-26 c =
-    let at-arm = c.before.before.before.before.before.before.before in
-    let a = at-arm.args in
+    let a = c.args in
     let put = c.put_bytes in
-    let both = same_text a.out.now put.new.out a.at put.result (plain_reason 26) (plain_reason a.number)
-    (ap plain_reason (sym at-arm.in-26.is)) put.ensures in record { value = both.0; out_after = both.1 }
+    let all = same_text a.out.now put.new.out a.at put.result (plain_reason 26) (plain_reason a.number)
+    (ap plain_reason (sym c.in-26.is)) (put.ensures.value, put.ensures.out_after) in
+    record { value = all.0; out_after = all.1 }
 
 pub returns-in-27 : goal.returns-in-27
 unfolding plain_reason plain_reasons no_words bytes
 returns-in-27 c =
-    let at-arm = c.before.before.before.before.before.before.before in
-    let a = at-arm.args in
+    let a = c.args in
     let put = c.put_bytes-in-27 in
-    let both = same_text a.out.now put.new.out a.at put.result (plain_reason 27) (plain_reason a.number)
-    (ap plain_reason (sym at-arm.in-27.is)) put.ensures in record { value = both.0; out_after = both.1 }
+    let all = same_text a.out.now put.new.out a.at put.result (plain_reason 27) (plain_reason a.number)
+    (ap plain_reason (sym c.in-27.is)) (put.ensures.value, put.ensures.out_after) in
+    record { value = all.0; out_after = all.1 }
 
 pub returns-in-28 : goal.returns-in-28
 unfolding plain_reason plain_reasons no_words bytes
 returns-in-28 c =
-    let at-arm = c.before.before.before.before.before.before.before in
-    let a = at-arm.args in
+    let a = c.args in
     let put = c.put_bytes-in-28 in
-    let both = same_text a.out.now put.new.out a.at put.result (plain_reason 28) (plain_reason a.number)
-    (ap plain_reason (sym at-arm.in-28.is)) put.ensures in record { value = both.0; out_after = both.1 }
+    let all = same_text a.out.now put.new.out a.at put.result (plain_reason 28) (plain_reason a.number)
+    (ap plain_reason (sym c.in-28.is)) (put.ensures.value, put.ensures.out_after) in
+    record { value = all.0; out_after = all.1 }
 
 pub returns-in_default : goal.returns-in_default
 unfolding plain_reason plain_reasons no_words bytes
 returns-in_default c =
-    let at-arm = c.before.before.before.before.before.before in
-    let a = at-arm.args in
+    let last : 29 ≡ c.args.number = omega arith in
+    let a = c.args in
     let put = c.put_bytes-in_default in
-    let both = same_text a.out.now put.new.out a.at put.result (plain_reason 29) (plain_reason a.number)
-    (ap plain_reason (the_last c.before)) put.ensures in record { value = both.0; out_after = both.1 }
+    let all = same_text a.out.now put.new.out a.at put.result (plain_reason 29) (plain_reason a.number)
+    (ap plain_reason last) (put.ensures.value, put.ensures.out_after) in
+    record { value = all.0; out_after = all.1 }

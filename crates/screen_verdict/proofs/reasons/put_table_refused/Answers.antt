@@ -2,80 +2,66 @@
 use native.Mathlib.Omega.{arith}
 use Rattle.screen_number.specs.Number.{bytes, decimal}
 use Rattle.screen_number.proofs.Decimal.{decimal-length}
-use Rattle.screen_number.proofs.Laid.{laid, both, then}
+use Rattle.screen_number.proofs.Laid.{laid, then}
 use Rattle.screen_verdict.specs.Sentences.{fault, table_refused}
 use Rattle.screen_verdict.proofs.reasons.put_table_refused.Goals as goal
 
 pub put_decimal-b-requires : goal.put_decimal-b-requires
 put_decimal-b-requires c =
-    let at-p1 = c.before.before.before in
-    let s = at-p1.before.before.before.before.before in
-    let a = s.args in
+    let a = c.args in
     omega (
       arith,
-      s.requires,
-      at-p1.put_bytes-a.ensures.value,
-      at-p1.put_bytes-a.auto.out,
+      c.requires,
+      c.put_bytes-a.ensures.value,
+      c.put_bytes-a.auto.out,
       decimal-length a.fault,
     )
 
 pub put_bytes-c-requires : goal.put_bytes-c-requires
 put_bytes-c-requires c =
-    let at-p2 = c.before.before.before.before.before in
-    let at-p1 = at-p2.before.before.before.before in
-    let s = at-p1.before.before.before.before.before in
-    let a = s.args in
+    let a = c.args in
     omega (
       arith,
-      s.requires,
-      at-p1.put_bytes-a.ensures.value,
-      at-p1.put_bytes-a.auto.out,
-      at-p2.put_decimal-b.ensures.value,
-      at-p2.put_decimal-b.auto.out,
+      c.requires,
+      c.put_bytes-a.ensures.value,
+      c.put_bytes-a.auto.out,
+      c.put_decimal-b.ensures.value,
+      c.put_decimal-b.auto.out,
       decimal-length a.fault,
     )
 
 pub put_fault-requires : goal.put_fault-requires
 put_fault-requires c =
-    let at-p3 = c.before.before.before in
-    let at-p2 = at-p3.before.before.before.before.before.before in
-    let at-p1 = at-p2.before.before.before.before in
-    let s = at-p1.before.before.before.before.before in
-    let a = s.args in
+    let a = c.args in
     omega (
       arith,
-      s.requires,
-      at-p1.put_bytes-a.ensures.value,
-      at-p1.put_bytes-a.auto.out,
-      at-p2.put_decimal-b.ensures.value,
-      at-p2.put_decimal-b.auto.out,
+      c.requires,
+      c.put_bytes-a.ensures.value,
+      c.put_bytes-a.auto.out,
+      c.put_decimal-b.ensures.value,
+      c.put_decimal-b.auto.out,
       decimal-length a.fault,
-      at-p3.put_bytes-c.ensures.value,
-      at-p3.put_bytes-c.auto.out,
+      c.put_bytes-c.ensures.value,
+      c.put_bytes-c.auto.out,
     )
 
 pub returns : goal.returns
 unfolding table_refused bytes
 returns c =
-    let at-p4 = c.before.before.before in
-    let at-p3 = at-p4.before.before.before.before in
-    let at-p2 = at-p3.before.before.before.before.before.before in
-    let at-p1 = at-p2.before.before.before.before in
-    let s = at-p1.before.before.before.before.before in
-    let a = s.args in
-    let p1 = at-p1.put_bytes-a in
-    let p2 = at-p2.put_decimal-b in
-    let p3 = at-p3.put_bytes-c in
-    let p4 = at-p4.put_fault in
-    let both = both
-    (then
+    let a = c.args in
+    let p1 = c.put_bytes-a in
+    let p2 = c.put_decimal-b in
+    let p3 = c.put_bytes-c in
+    let p4 = c.put_fault in
+    let all = then
     (then
     (then
     (laid a.out.now p1.new.out a.at p1.result
-    (bytes "the table is refused by ") p1.ensures)
+    (bytes "the table is refused by ") (p1.ensures.value, p1.ensures.out_after))
     (laid p1.new.out p2.new.out p1.result p2.result
-    (decimal a.fault) p2.ensures))
+    (decimal a.fault) (p2.ensures.value, p2.ensures.out_after)))
     (laid p2.new.out p3.new.out p2.result p3.result
-    (bytes ": ") p3.ensures))
+    (bytes ": ") (p3.ensures.value, p3.ensures.out_after)))
     (laid p3.new.out p4.new.out p3.result p4.result
-    (fault a.fault) p4.ensures)) in record { value = both.0; out_after = both.1 }
+    (fault a.fault) (p4.ensures.value, p4.ensures.out_after)) in
+    record { value = all.end; out_after = all.list }
