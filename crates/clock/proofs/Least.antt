@@ -1,6 +1,7 @@
 -- The new clock is the least value that ends in the stamp's bits, and the standard's. The idea: two values less than a turn apart that
 -- end in the same bits are one.
-use Rattle.std.proofs.Common.{◌≡◌, ℕ, suc, ◌+◌, ◌-◌, ◌*◌, ◌/◌, ◌%◌, ◌^◌, ◌<◌, ◌≤◌, ◌↔◌, sym, ◌∙◌, ⊎_elim, lt_of_le_of_lt, mul-le-mul_right, mod-lt, mod-eq_of_lt, suc-mul, div-add-mod', arith, pow_pos, le-ltb, lt-ltb, le-leb}
+use Rattle.std.proofs.Common.{◌≡◌, ℕ, suc, ◌+◌, ◌-◌, ◌*◌, ◌/◌, ◌%◌, ◌^◌, ◌<◌, ◌≤◌, ◌↔◌, sym, ◌∙◌, ⊎_elim}
+use Rattle.std.proofs.Common.{lt_of_le_of_lt, mul-le-mul_right, mod-lt, mod-eq_of_lt, suc-mul, div-add-mod', arith, pow_pos, le-ltb, lt-ltb, le-leb}
 use mathlib.Core.Option.{none, some}
 use native.Mathlib.Nat.{add-mod-mod}
 use borrow.Author.Tests.{lt-leb}

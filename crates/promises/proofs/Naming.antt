@@ -300,14 +300,14 @@ module _ (x : List ℕ) where
     packet-names b k i = record {
       at = λ o a s₀.
           (◌⨾ᵒ◌ {C = Anyone} (steady Anyone (λ o a. each-due (Steady o))) (
-            mark-1 k
-            ⨾ᵒ steady-is of_trace (each-change (Steady of_trace) _)
-            ⨾ᵒ steady-is of_trace (steady-root of_trace (Named x of_trace) (λ n k z. z) _ first_root t.header numbers.packet)
-            ⨾ᵒ steady-is of_trace (each-check (Steady of_trace) _ StreamClassChanged)
-            ⨾ᵒ steady-is of_trace (each-due (Steady of_trace))
-            ⨾ᵒ record {
-              at = λ o q s. (stream-names b s₀.place _ _ _ s.said.stream (t.stream s.said.stream) refl).at o q s;
-            }
+          mark-1 k
+          ⨾ᵒ steady-is of_trace (each-change (Steady of_trace) _)
+          ⨾ᵒ steady-is of_trace (steady-root of_trace (Named x of_trace) (λ n k z. z) _ first_root t.header numbers.packet)
+          ⨾ᵒ steady-is of_trace (each-check (Steady of_trace) _ StreamClassChanged)
+          ⨾ᵒ steady-is of_trace (each-due (Steady of_trace))
+          ⨾ᵒ record {
+            at = λ o q s. (stream-names b s₀.place _ _ _ s.said.stream (t.stream s.said.stream) refl).at o q s;
+          }
           )).at o a s₀;
     }
 

@@ -13,7 +13,8 @@ use Rattle.rules.specs.Record.{Shape, bit_field, leb_field, signed_leb_field, ze
 use Rattle.rules.specs.Record.{Says, Fragment, preamble, trace_class, clock_class, stream_class, event_class}
 use Rattle.rules.specs.Record.{Record, unknown, fragment, root, class, range, option, record_of, behind, size}
 use Rattle.rules.specs.Faults.{slot_not_allowed}
-use Rattle.rules.specs.Faults.{pick, Ids, no_ids, seen, fragment_fault, record_fault, first_fault, Spot, top, inside, member_spot, Under, class_fault, range_fault, option_fault, root_fault, open_fault}
+use Rattle.rules.specs.Faults.{pick, Ids, no_ids, seen, fragment_fault, record_fault, first_fault, Spot, top}
+use Rattle.rules.specs.Faults.{inside, member_spot, Under, class_fault, range_fault, option_fault, root_fault, open_fault}
 use Rattle.rules.specs.Table.{Table}
 use Rattle.rules.specs.Parse.{Parsed, bad, good, Parser, then, sound, missing, one, Ranges, range_of, count_of, parse_ranges, parse_options, parse_members, parse_shape, parse_body, parse_class}
 use Rattle.rules.specs.Parse.{is_root, any_root, parse_roots, root_numbers, is_timed, has_uuid, parse_fragment, parse_opened, parse_fragments}

@@ -17,7 +17,8 @@ use Rattle.rules.specs.Entry.{packet_starts, stream_class_found, lengths_settled
 use Rattle.rules.specs.Step.{Step, ◌⨾◌, check, due, change, with_last}
 use Rattle.rules.specs.Table.{StreamClass, EventClass, Asked}
 use Rattle.rules.specs.Field.{Env}
-use Rattle.rules.specs.Packet.{mark, read_root, with_event, start_event, read_event, end_packet, read_events, or_else, above, read_content, with_stream, differs, start_packet, read_packet, read_packets}
+use Rattle.rules.specs.Packet.{mark, read_root, with_event, start_event, read_event, end_packet, read_events, or_else}
+use Rattle.rules.specs.Packet.{above, read_content, with_stream, differs, start_packet, read_packet, read_packets}
 use Rattle.rules.specs.Packet.{first_root, header_number, common_number, payload_number}
 use Rattle.laws.proofs.Law.{Any, AnyRecord}
 use Rattle.laws.proofs.Simple.{View, view, Simple, simple-root}

@@ -34,7 +34,8 @@ use Rattle.rules.specs.Read.{result_of, list_after, ended, begin, read_stream, r
 
 unfoldable pub opened : ℕ
 unfolding round_up align_from bit_index bit_at bits signed word below sevens fit_unsigned fits64 signed_value fit_signed leb_unsigned leb_signed
-    advance clock_after text_length one_later zero_at rows row_of utf8_from utf8 is_text no_slots packet_slots slot_at set_slot unset records member_records option_records setting sets members_set options_set
+    advance clock_after text_length one_later zero_at rows row_of utf8_from utf8 is_text no_slots packet_slots slot_at set_slot unset
+    records member_records option_records setting sets members_set options_set
     kind_of count key holds any_holds align_of aligns_of number u8 u16 u64 no bits_layout layouts layout_of size record_of behind pick
     out no_ids seen among pair_among fragment_fault record_fault first_fault is_top is_leading member_spot bad_number bad_slot roles role_of
     number_role blob_role bad_role class_fault sign_of other_sign meets range_fault option_fault root_fault many open_fault both across

@@ -19,7 +19,9 @@ AtLent = lts.After-read_one-arg3 tie.the-claims reads.Pre reads.Post goal.the-in
 abbrev AtRead : Type 0
 AtRead = lts.After-read_one tie.the-claims reads.Pre reads.Post goal.the-invariant-loop-i goal.the-decreases-loop-i
 
-abbrev start : lts.At-loop tie.the-claims reads.Pre reads.Post goal.the-invariant-loop-i goal.the-decreases-loop-i → lts.Start tie.the-claims reads.Pre reads.Post goal.the-invariant-loop-i goal.the-decreases-loop-i
+abbrev start :
+    lts.At-loop tie.the-claims reads.Pre reads.Post goal.the-invariant-loop-i goal.the-decreases-loop-i →
+    lts.Start tie.the-claims reads.Pre reads.Post goal.the-invariant-loop-i goal.the-decreases-loop-i
 start c = c.before.before.before.before.before.before.before.before.before
 
 abbrev to-loop : AtFitted → lts.At-loop tie.the-claims reads.Pre reads.Post goal.the-invariant-loop-i goal.the-decreases-loop-i

@@ -19,7 +19,9 @@ AtMarked = lts.After-mark_entry tie.the-claims reads.Pre reads.Post goal.the-inv
 abbrev to-turn : AtMarked → AtTurn
 to-turn c = c.before.before.before.before
 
-abbrev start : lts.At-loop tie.the-claims reads.Pre reads.Post goal.the-invariant-loop-left goal.the-decreases-loop-left tie.handed_clauses → lts.Start tie.the-claims reads.Pre reads.Post goal.the-invariant-loop-left goal.the-decreases-loop-left tie.handed_clauses
+abbrev start :
+    lts.At-loop tie.the-claims reads.Pre reads.Post goal.the-invariant-loop-left goal.the-decreases-loop-left tie.handed_clauses →
+    lts.Start tie.the-claims reads.Pre reads.Post goal.the-invariant-loop-left goal.the-decreases-loop-left tie.handed_clauses
 start c = c.before.before.before.before.before.before.before
 
 -- five words of the list are there in each turn

@@ -7,7 +7,9 @@ use Rattle.bundle_table.proofs.kept_length.Tie as tie
 use Rattle.bundle_table.proofs.kept_length.Reads as reads
 
 -- the way back
-abbrev to_start : lts.At-loop tie.the-claims reads.Pre reads.Post goal.the-invariant-loop-at goal.the-decreases-loop-at → lts.Start tie.the-claims reads.Pre reads.Post goal.the-invariant-loop-at goal.the-decreases-loop-at
+abbrev to_start :
+    lts.At-loop tie.the-claims reads.Pre reads.Post goal.the-invariant-loop-at goal.the-decreases-loop-at →
+    lts.Start tie.the-claims reads.Pre reads.Post goal.the-invariant-loop-at goal.the-decreases-loop-at
 to_start c = c.before.before.before.before.before
 
 -- The needs

@@ -54,4 +54,6 @@ returns-in-5 c = simp (sym c.byte-k.ensures, c.in-5.is, c.many_fault-in-5.ensure
 
 pub returns-in_default : goal.returns-in_default
 unfolding open_fault u64 pick_n
-returns-in_default c = simp (sym c.byte-k.ensures, ne_eqb _ _ c.in_default.in_default-own.rest.0.0.0.1, ne_eqb _ _ c.in_default.in_default-own.rest.0.0.1, ne_eqb _ _ c.in_default.in_default-own.rest.0.1, ne_eqb _ _ c.in_default.in_default-own.rest.1)
+returns-in_default c =
+    let k = c.in_default.in_default-own.rest in
+    simp (sym c.byte-k.ensures, ne_eqb _ _ k.0.0.0.1, ne_eqb _ _ k.0.0.1, ne_eqb _ _ k.0.1, ne_eqb _ _ k.1)

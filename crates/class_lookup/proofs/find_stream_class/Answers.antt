@@ -7,7 +7,9 @@ use Rattle.class_lookup.proofs.find_stream_class.Lts as lts
 use Rattle.class_lookup.proofs.find_stream_class.Tie as tie
 use Rattle.class_lookup.proofs.find_stream_class.Reads as reads
 
-abbrev start : lts.In-loop tie.the-claims reads.Pre reads.Post goal.the-invariant-loop-at goal.the-decreases-loop-at → lts.Start tie.the-claims reads.Pre reads.Post goal.the-invariant-loop-at goal.the-decreases-loop-at
+abbrev start :
+    lts.In-loop tie.the-claims reads.Pre reads.Post goal.the-invariant-loop-at goal.the-decreases-loop-at →
+    lts.Start tie.the-claims reads.Pre reads.Post goal.the-invariant-loop-at goal.the-decreases-loop-at
 start c = c.before.before.before.before
 
 pub loop-at-init : goal.loop-at-init

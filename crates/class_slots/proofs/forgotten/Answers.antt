@@ -22,7 +22,9 @@ AtNext = lts.After-behind_record tie.the-claims reads.Pre reads.Post goal.the-in
 
 -- The way back
 
-abbrev start : lts.After-class_end tie.the-claims reads.Pre reads.Post goal.the-invariant-loop-next goal.the-decreases-loop-next → lts.Start tie.the-claims reads.Pre reads.Post goal.the-invariant-loop-next goal.the-decreases-loop-next
+abbrev start :
+    lts.After-class_end tie.the-claims reads.Pre reads.Post goal.the-invariant-loop-next goal.the-decreases-loop-next →
+    lts.Start tie.the-claims reads.Pre reads.Post goal.the-invariant-loop-next goal.the-decreases-loop-next
 start c = c.before.before.before
 
 abbrev turn : AtNamed → AtTurn

@@ -68,7 +68,12 @@ uuid-in c =
 pub read_by-requires : goal.read_by-requires
 read_by-requires c =
     let l = c.before.before.before.before in
-    let none = c.in-Nothing.is in record { lent = lent_none (table l) (noted l) (stream l) (ready l) (small l) _ l.find_trace_class.ensures none; in_bounds = l.requires.in_bounds.0; hints = l.requires.hints }
+    let none = c.in-Nothing.is in
+    record {
+      lent = lent_none (table l) (noted l) (stream l) (ready l) (small l) _ l.find_trace_class.ensures none;
+      in_bounds = l.requires.in_bounds.0;
+      hints = l.requires.hints;
+    }
 
 pub root_place-header-requires : goal.root_place-header-requires
 root_place-header-requires c =

@@ -60,4 +60,9 @@ read_prepared-requires c =
     let n = noted i in
     let z = sized n in
     let s = start z in
-    let t = s.args.table.now in record { ready = record { noted = n.prepare.ensures.ready; keeps = checked-keeps t _ s.requires }; in_bounds = (omega (arith, z.if-stream-eq0.false), z.if-stream-gt-STREAM_LIMIT.false); hints = made-hints t _ s.requires i.empty_index-index.ensures i.make_index.ensures }
+    let t = s.args.table.now in
+    record {
+      ready = record { noted = n.prepare.ensures.ready; keeps = checked-keeps t _ s.requires };
+      in_bounds = (omega (arith, z.if-stream-eq0.false), z.if-stream-gt-STREAM_LIMIT.false);
+      hints = made-hints t _ s.requires i.empty_index-index.ensures i.make_index.ensures;
+    }

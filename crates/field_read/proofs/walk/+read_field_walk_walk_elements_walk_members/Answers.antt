@@ -218,10 +218,10 @@ module _ (t : ℕ) where
       elim c.if-o.branch [
         | read_field-then-o w ↦
             closed_same w.list-is w.r-is
-                (elements-open h o.value o.list_after (was-opened i) w.if-o.true (rw (at) at w.walk_elements-r.ensures))
+            (elements-open h o.value o.list_after (was-opened i) w.if-o.true (rw (at) at w.walk_elements-r.ensures))
         | read_field-else-o w ↦
             closed_same w.list-is w.r-is
-                (members-open h o.value o.list_after (was-opened i) w.if-o.false (rw (at) at w.walk_members-r.ensures))
+            (members-open h o.value o.list_after (was-opened i) w.if-o.false (rw (at) at w.walk_members-r.ensures))
       ]
 
 -- The slot that it reads, and its entry
@@ -1376,11 +1376,10 @@ walk_elements-returns t c =
 -- walk_members
 
 pub walk_members-walk-requires : goal.walk_members-walk-requires
-walk_members-walk-requires t c =
-    (
-      omega (arith, c.decreases),
-      (rw c.members.ensures (members-stand _ _ _ _ c.requires.whole_members), (c.requires.prepared, c.requires.framed)),
-    )
+walk_members-walk-requires t c = (
+  omega (arith, c.decreases),
+  (rw c.members.ensures (members-stand _ _ _ _ c.requires.whole_members), (c.requires.prepared, c.requires.framed)),
+)
 
 pub walk_members-shape_of-list : goal.walk_members-shape_of-list
 walk_members-shape_of-list t c = c.walk.auto.list
