@@ -1,5 +1,4 @@
-# The instructions of both readers over whole streams, by callgrind, which other work on the machine does not touch. Sourced by speed and
-# try-speed.
+# The instructions of both readers over whole streams, by callgrind, which other work on the machine does not touch. Sourced by speed.
 
 count_row() { # ROWS SHAPE CLASSES: one row of the table
     local reader function taken=()
