@@ -40,7 +40,8 @@ pub fn forgotten(table: &[u8], sizes: &[u16], at: usize, given: [Slot; 64]) -> [
     let mut next = at;
     while next < end {
         let i = slot_named(table, next);
-        if i <= limits::LAST_SLOT {
+        let is_slot = i <= limits::LAST_SLOT;
+        if is_slot {
             let content = Content::Unset;
             slots[i as usize] = Slot { content };
         }

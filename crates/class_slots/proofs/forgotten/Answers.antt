@@ -1,10 +1,9 @@
 -- What is left of the pass makes of the slots so far what the whole makes of those given.
-use mathlib.Core.Logic.{⊎_elim}
-use Prim.Native.Nat.{◌-◌, ◌<◌, ◌^◌}
+use Prim.Native.Nat.{◌<◌, ◌^◌}
 use native.Mathlib.Omega.{arith}
 use Rattle.class_slots.proofs.Rounds.{forgot-start, forgot-found, forgot-passed, forgot-end}
 use Rattle.class_slots.proofs.forgotten.Goals as goal
-use Rattle.class_slots.proofs.forgotten.Goals.{then-i-le-LAST_SLOT, else-i-le-LAST_SLOT}
+use Rattle.class_slots.proofs.forgotten.Goals.{then-is_slot, else-is_slot}
 use Rattle.class_slots.proofs.forgotten.Lts as lts
 use Rattle.class_slots.proofs.forgotten.Tie as tie
 use Rattle.class_slots.proofs.forgotten.Reads as reads
@@ -68,9 +67,9 @@ loop-next-preserved c =
     let i = n.slot_named-i.ensures in
     let next = c.behind_record-next.ensures in (
       λ _. low (turn n),
-      elim c.if-i-le-LAST_SLOT.branch [
-        | then-i-le-LAST_SLOT y ↦ forgot-found _ _ _ _ _ _ _ on so_far next i y.if-i-le-LAST_SLOT.true y.slots-is
-        | else-i-le-LAST_SLOT y ↦ forgot-passed _ _ _ _ _ _ _ on so_far next i y.if-i-le-LAST_SLOT.false y.slots-is
+      elim c.if-is_slot.branch [
+        | then-is_slot y ↦ forgot-found _ _ _ _ _ _ _ on so_far next i y.if-is_slot.true y.slots-is
+        | else-is_slot y ↦ forgot-passed _ _ _ _ _ _ _ on so_far next i y.if-is_slot.false y.slots-is
       ],
     )
 
