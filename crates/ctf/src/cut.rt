@@ -1,6 +1,6 @@
 // `ctf cut TABLE STREAM...`: the table without the stream and event classes that no stream's list names, as bytes on standard output, and one
 // line on standard error: `kept N of N event classes, N of N stream classes: N of N bytes`, or `refused N` and why.
-ghost use Rattle.std.specs.Prelude.{◌≡◌, ◌≤◌, length, IfOk, vec_len};
+ghost use Rattle.std.specs.Prelude.{◌≡◌, ◌≤◌, length};
 
 use crate::lines::{tell, tell_number};
 use crate::words::tell_fault;
@@ -8,7 +8,6 @@ use crate::{STREAM_ROOM, fail, file_room, load};
 use numbers::kinds;
 use numbers::limits::{BUNDLE_LIMIT, WORDS_PER_ENTRY};
 use rules::{Bundled, ByteLength};
-use std::alloc::{AllocError, Global};
 use table_records::bodies::mark_of;
 
 // The argument that names the first stream.
@@ -26,19 +25,14 @@ const LIST_FULL: u8 = 40;
 const LENGTHS: usize = BUNDLE_LIMIT + 1;
 
 // Cuts the table to the streams that the arguments name, so many.
-pub(crate) fn cut_loaded(
-    rt: &HostRuntime,
-    table: &[u8],
-    count: usize,
-    list: &mut [u64],
-) -> Result<(), AllocError> {
-    let mut streams = streams_room(rt.alloc())?;
+pub(crate) fn cut_loaded(rt: &HostRuntime, table: &[u8], count: usize, list: &mut [u64]) {
+    let mut streams = streams_room();
     let mut lengths = [0u64; LENGTHS];
     let mut rooms = [0u64; LENGTHS];
     if BUNDLE_LIMIT < count {
         // no stream is looked at: 20, or else 44
         cut_first(rt, table, &streams[0..0], &lengths, &rooms, LENGTHS, list);
-        return Ok(());
+        return;
     }
     if load_streams(
         rt,
@@ -51,7 +45,6 @@ pub(crate) fn cut_loaded(
     ) {
         cut_first(rt, table, &streams, &lengths, &rooms, count, list);
     }
-    Ok(())
 }
 
 // By the first so many of the lengths and rooms.
@@ -285,8 +278,8 @@ fn tell_refused(rt: &HostRuntime, number: u8, byte: ByteLength) {
     tell(&rt.stderr(), b"\n");
 }
 
-fn streams_room(alloc: Global) -> Result<Vec<u8>, AllocError>
-    ensures { IfOk result (λ streams. 1048577 ≡ vec_len streams) }
+fn streams_room() -> [u8; ALL_STREAMS]
+    ensures { 1048577 ≡ length result }
 {
-    vec![in alloc; 0; ALL_STREAMS]
+    [0; ALL_STREAMS]
 }

@@ -6,12 +6,11 @@
 // In lines: what is printed. In words: the papers' numbers in words. In cut: the third command.
 #![tactic(auto)]
 
-ghost use Rattle.std.specs.Prelude.{◌≡◌, ◌*◌, ◌≤◌, length, IfOk, vec_len};
+ghost use Rattle.std.specs.Prelude.{◌≡◌, ◌*◌, ◌≤◌, length};
 ghost use Rattle.rules.specs.Limits.{words_per_entry};
 
 use lines::{say_checked, say_entries, say_result, tell};
 use numbers::limits::WORDS_PER_ENTRY;
-use std::alloc::{AllocError, Global};
 use std::env::{Env, FillError};
 use std::fs::File;
 use std::io::{Error, Read, Write};
@@ -44,24 +43,25 @@ const ENAMETOOLONG: i32 = 36;
 
 const EILSEQ: i32 = 84;
 
-fn main(rt: HostRuntime) -> Result<(), AllocError> {
+fn main(rt: HostRuntime) {
     let mut command = [0u8; 16];
     let got = rt.arg(1, &mut command).unwrap_or(0);
     if arg_count(&rt) == 3 && &command[..got] == b"check".as_slice() {
         check_named(&rt);
-        return Ok(());
+        return;
     }
     if arg_count(&rt) == 4 && &command[..got] == b"read".as_slice() {
-        return with_list(&rt, false);
+        with_list(&rt, false);
+        return;
     }
     if arg_count(&rt) > 3 && &command[..got] == b"cut".as_slice() {
-        return with_list(&rt, true);
+        with_list(&rt, true);
+        return;
     }
     tell(
         &rt.stderr(),
         b"usage: ctf check TABLE\n       ctf read TABLE STREAM\n       ctf cut TABLE STREAM...\n",
     );
-    Ok(())
 }
 
 // How many words there are, the program's own among them.
@@ -74,14 +74,13 @@ fn arg_count(rt: &impl Env) -> usize {
     usize::MAX
 }
 
-// Reads, or cuts, with one list.
-fn with_list(rt: &HostRuntime, cuts: bool) -> Result<(), AllocError> {
-    let mut list = list_room(rt.alloc())?;
+// Reads, or cuts. Both share one list: two of them would be more than the usual stack.
+fn with_list(rt: &HostRuntime, cuts: bool) {
+    let mut list = list_room();
     if cuts {
-        cut_named(rt, &mut list)
+        cut_named(rt, &mut list);
     } else {
         read_named(rt, &mut list);
-        Ok(())
     }
 }
 
@@ -122,17 +121,16 @@ fn read_loaded(rt: &HostRuntime, table: &[u8], stream: &[u8], list: &mut [u64]) 
     say_result(rt, r);
 }
 
-fn cut_named(rt: &HostRuntime, list: &mut [u64]) -> Result<(), AllocError> {
+fn cut_named(rt: &HostRuntime, list: &mut [u64]) {
     let mut table = file_room();
     let by = load(rt, TABLE, &mut table);
     if by.failed {
-        return Ok(());
+        return;
     }
     let arguments = arg_count(rt);
     if cut::FIRST_STREAM <= arguments {
-        cut::cut_loaded(rt, &table[..by.bytes], arguments - cut::FIRST_STREAM, list)?;
+        cut::cut_loaded(rt, &table[..by.bytes], arguments - cut::FIRST_STREAM, list);
     }
-    Ok(())
 }
 
 // What a file put into the room that it was lent.
@@ -241,8 +239,8 @@ fn file_room() -> [u8; 65537]
     [0; 65537]
 }
 
-fn list_room(alloc: Global) -> Result<Vec<u64>, AllocError>
-    ensures { IfOk result (λ list. 131072 * words_per_entry ≡ vec_len list) }
+fn list_room() -> [u64; LIST_ROOM]
+    ensures { 131072 * words_per_entry ≡ length result }
 {
-    vec![in alloc; 0; LIST_ROOM]
+    [0; LIST_ROOM]
 }

@@ -4,15 +4,14 @@
 use clock::{Clock, Ticked};
 use readings::say_readings;
 use rules::{BitPlace, ByteLength, Leb, Order};
-use std::alloc::AllocError;
 
 mod readings;
 
-fn main(rt: HostRuntime) -> Result<(), AllocError> {
+fn main(rt: HostRuntime) {
     say_numbers(&rt);
     say_clocks(&rt);
     say_places(&rt);
-    say_readings(&rt, rt.alloc())
+    say_readings(&rt);
 }
 
 fn say_numbers(rt: &impl Print) {

@@ -1,15 +1,13 @@
 // The figures that are whole readings: what is read by, what is read, and the result's words.
-ghost use Rattle.std.specs.Prelude.{◌≡◌, IfOk, vec_len};
+ghost use Rattle.std.specs.Prelude.{◌≡◌, length};
 
 use crate::{end_line, say, say_number};
-use std::alloc::{AllocError, Global};
 
-pub(crate) fn say_readings(rt: &impl Print, alloc: Global) -> Result<(), AllocError> {
-    let mut list = list_room(alloc)?;
+pub(crate) fn say_readings(rt: &impl Print) {
+    let mut list = list_room();
     say_first(rt, &mut list);
     say_elements(rt, &mut list);
     say_depths(rt, &mut list);
-    Ok(())
 }
 
 // The table of 40 bytes, with room and without; and without its event class.
@@ -80,8 +78,8 @@ fn say_reading(rt: &impl Print, table: &[u8], stream: &[u8], list: &mut [u64], w
 }
 
 // Room for 65,544 entries: 65,535 elements, and nine more.
-fn list_room(alloc: Global) -> Result<Vec<u64>, AllocError>
-    ensures { IfOk result (λ list. 327720 ≡ vec_len list) }
+fn list_room() -> [u64; 327720]
+    ensures { 327720 ≡ length result }
 {
-    vec![in alloc; 0; 327720]
+    [0; 327720]
 }
