@@ -57,7 +57,8 @@ fn number_fault(says: Says) -> u8
     if 1 < says.order {
         return faults::NUMBER_OUT_OF_RANGE;
     }
-    if 6 < says.align {
+    let align_out = 6 < says.align;
+    if align_out {
         return faults::NUMBER_OUT_OF_RANGE;
     }
     if within(says.sets, limits::FIRST_SLOT_OUT, limits::LAST_SLOT_OUT) {
@@ -80,7 +81,8 @@ fn slot_fault(root: u8, sets: u8, reads: u8) -> u8
     ensures { result ≡ slot_fault root sets reads }
 {
     if root < roots::EVENT_HEADER {
-        if limits::LAST_PACKET_SLOT < reads {
+        let past_packet = limits::LAST_PACKET_SLOT < reads;
+        if past_packet {
             return faults::SLOT_NOT_ALLOWED;
         }
         if within(sets, limits::FIRST_EVENT_SLOT, limits::LAST_SLOT_OUT) {
@@ -137,7 +139,8 @@ pub fn class_fault(table: &[u8], under: Under, left: usize, at: usize) -> u8
     if role_ok(y, under, at) {} else {
         return faults::ROLE_NOT_ALLOWED;
     }
-    if left == 0 {
+    let too_deep = left == 0;
+    if too_deep {
         return faults::TOO_DEEP;
     }
     faults::NO_FAULT

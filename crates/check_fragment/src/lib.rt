@@ -34,7 +34,8 @@ pub fn first_fault(table: &[u8]) -> u8
 fn many_fault(n: usize) -> u8
     ensures { result ≡ pick_n (ltb 511 n) 15 0 }
 {
-    if limits::FRAGMENT_LIMIT <= n {
+    let is_many = limits::FRAGMENT_LIMIT <= n;
+    if is_many {
         return faults::TOO_MANY_FRAGMENTS;
     }
     faults::NO_FAULT

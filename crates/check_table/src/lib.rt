@@ -65,7 +65,8 @@ fn answer(table: &[u8]) -> Checked
     if table.len() == 0 {
         return Checked::Refused(faults::BAD_SIZE, ByteLength(0));
     }
-    if limits::TABLE_LIMIT < table.len() {
+    let too_long = limits::TABLE_LIMIT < table.len();
+    if too_long {
         return Checked::Refused(faults::BAD_SIZE, ByteLength(0));
     }
     let f = first_fault(table);

@@ -38,7 +38,8 @@ pub fn contradict(total: u64, content: u64, start: BitPlace, place: BitPlace, en
     if total % 8 != 0 {
         return true;
     }
-    if total < content {
+    let content_above = total < content;
+    if content_above {
         return true;
     }
     // never, where a packet starts in the stream

@@ -151,9 +151,9 @@ returns-else-role_ok c =
 
 -- Number 14
 
-pub returns-then-left-eq0 : goal.returns-then-left-eq0
+pub returns-then-too_deep : goal.returns-then-too_deep
 unfolding class_fault say_fault pick_n
-returns-then-left-eq0 c =
+returns-then-too_deep c =
     let s = slots c.before.before in
     let n = numbers s in
     let k = kind n in
@@ -164,7 +164,7 @@ returns-then-left-eq0 c =
       first-zero _ (no_number n),
       first-zero _ (no-slot s),
       role-fine c.before.before,
-      eq-eqb _ _ c.if-left-eq0.true,
+      eq-eqb _ _ c.if-too_deep.true,
     )
 
 pub returns : goal.returns
@@ -180,5 +180,5 @@ returns c =
       first-zero _ (no_number n),
       first-zero _ (no-slot s),
       role-fine c.before.before,
-      ne_eqb _ _ c.if-left-eq0.false,
+      ne_eqb _ _ c.if-too_deep.false,
     )

@@ -95,7 +95,7 @@ left-order c = left-length (length c) ∙ fails _ _ _ (le-ltb _ _ c.if-says-gt1.
 left-align : (c : AtAlign) →
     let y = says (length (order c)) in
     number_fault y ≡ from_sets y
-left-align c = left-order (order c) ∙ fails _ _ _ (le-ltb _ _ c.if-says-gt6.false)
+left-align c = left-order (order c) ∙ fails _ _ _ (le-ltb _ _ c.if-align_out.false)
 
 left-sets : (c : AtSets) →
     let y = says (length (order (align c))) in
@@ -121,8 +121,8 @@ returns-else-length_ok c = sym (fails _ _ _ (sym c.length_ok.ensures ∙ c.if-le
 pub returns-then-says-gt1 : goal.returns-then-says-gt1
 returns-then-says-gt1 c = sym (left-length c.before.before ∙ holds _ _ _ (lt-ltb _ _ c.if-says-gt1.true))
 
-pub returns-then-says-gt6 : goal.returns-then-says-gt6
-returns-then-says-gt6 c = sym (left-order c.before.before ∙ holds _ _ _ (lt-ltb _ _ c.if-says-gt6.true))
+pub returns-then-align_out : goal.returns-then-align_out
+returns-then-align_out c = sym (left-order c.before.before ∙ holds _ _ _ (lt-ltb _ _ c.if-align_out.true))
 
 pub returns-then-within : goal.returns-then-within
 returns-then-within c = sym (left-align c.before.before ∙ holds _ _ _ (sym c.within.ensures ∙ c.if-within.true))

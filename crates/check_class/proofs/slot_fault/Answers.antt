@@ -4,21 +4,21 @@ use borrow.Author.Tests.{lt-ltb, le-ltb}
 use Rattle.table_offsets.specs.Check.{slot_fault, pick_n}
 use Rattle.check_class.proofs.slot_fault.Goals as goal
 
-pub returns-then-reads-gt-LAST_PACKET_SLOT : goal.returns-then-reads-gt-LAST_PACKET_SLOT
+pub returns-then-past_packet : goal.returns-then-past_packet
 unfolding slot_fault pick_n
-returns-then-reads-gt-LAST_PACKET_SLOT c = simp (lt-ltb _ _ c.if-root-lt-EVENT_HEADER.true, lt-ltb _ _ c.if-reads-gt-LAST_PACKET_SLOT.true)
+returns-then-past_packet c = simp (lt-ltb _ _ c.if-root-lt-EVENT_HEADER.true, lt-ltb _ _ c.if-past_packet.true)
 
 pub returns-then-within : goal.returns-then-within
 unfolding slot_fault pick_n
 returns-then-within c =
-    let if2 = c.if-reads-gt-LAST_PACKET_SLOT in
+    let if2 = c.if-past_packet in
     let if1 = c.if-root-lt-EVENT_HEADER in
     simp (lt-ltb _ _ if1.true, le-ltb _ _ if2.false, sym c.within.ensures, c.if-within.true)
 
 pub returns-then-root-lt-EVENT_HEADER : goal.returns-then-root-lt-EVENT_HEADER
 unfolding slot_fault pick_n
 returns-then-root-lt-EVENT_HEADER c =
-    let if2 = c.if-reads-gt-LAST_PACKET_SLOT in
+    let if2 = c.if-past_packet in
     let if1 = c.if-root-lt-EVENT_HEADER in
     simp (lt-ltb _ _ if1.true, le-ltb _ _ if2.false, sym c.within.ensures, c.if-within.false)
 

@@ -4,10 +4,10 @@ use borrow.Author.Tests.{lt-ltb, le-ltb}
 use Rattle.table_offsets.specs.Check.{pick_n}
 use Rattle.check_fragment.proofs.many_fault.Goals as goal
 
-pub returns-then-n-ge-FRAGMENT_LIMIT : goal.returns-then-n-ge-FRAGMENT_LIMIT
+pub returns-then-is_many : goal.returns-then-is_many
 unfolding pick_n
-returns-then-n-ge-FRAGMENT_LIMIT c = simp (lt-ltb 511 c.args.n (omega (arith, c.if-n-ge-FRAGMENT_LIMIT.true)))
+returns-then-is_many c = simp (lt-ltb 511 c.args.n (omega (arith, c.if-is_many.true)))
 
 pub returns : goal.returns
 unfolding pick_n
-returns c = simp (le-ltb 511 c.args.n (omega (arith, c.if-n-ge-FRAGMENT_LIMIT.false)))
+returns c = simp (le-ltb 511 c.args.n (omega (arith, c.if-is_many.false)))

@@ -53,7 +53,7 @@ fragments t = fragments_at (length t - 2) t false [] 2
 left-size : (c : AtSize) →
     let t = c.args.table.now in
     checked_at t ≡ or_refused (first_fault t) 0 (or_refused (stray t 2) 2 (fragments t))
-left-size c = checked-on _ c.if-table-eq0.false c.if-table-gt-TABLE_LIMIT.false
+left-size c = checked-on _ c.if-table-eq0.false c.if-too_long.false
 
 left-first : (c : AtFirst) →
     let t = c.args.table.now in
@@ -70,8 +70,8 @@ left-fragments c = left-first (first c) ∙ passes _ _ _ _ c.stray-s.ensures c.i
 pub returns-then-table-eq0 : goal.returns-then-table-eq0
 returns-then-table-eq0 c = sym (checked-empty _ c.if-table-eq0.true)
 
-pub returns-then-table-gt-TABLE_LIMIT : goal.returns-then-table-gt-TABLE_LIMIT
-returns-then-table-gt-TABLE_LIMIT c = sym (checked-long _ c.if-table-eq0.false c.if-table-gt-TABLE_LIMIT.true)
+pub returns-then-too_long : goal.returns-then-too_long
+returns-then-too_long c = sym (checked-long _ c.if-table-eq0.false c.if-too_long.true)
 
 -- The first record, and a root behind it
 
@@ -84,7 +84,7 @@ returns-then-s-ne-NO_FAULT c = sym (left-first c.before.before.before ∙ stops 
 -- The fragments
 
 pub check_fragments-requires : goal.check_fragments-requires
-check_fragments-requires c = omega (arith, c.if-table-gt-TABLE_LIMIT.false)
+check_fragments-requires c = omega (arith, c.if-too_long.false)
 
 pub returns : goal.returns
 returns c = c.check_fragments.ensures ∙ sym (left-fragments c.before.before)

@@ -50,15 +50,15 @@ whole : (c : AtOrder) → eqb (c.args.total % 8) 0 ≡ true
 whole c = eq-eqb _ _ c.if-total-ne0.false
 
 order : (c : AtOrder) → ltb c.args.total c.args.content ≡ false
-order c = le-ltb _ _ c.if-total-content.false
+order c = le-ltb _ _ c.if-content_above.false
 
 -- The needs
 
 pub returns-then-total-ne0 : goal.returns-then-total-ne0
 returns-then-total-ne0 c = simp (ne_eqb _ _ c.if-total-ne0.true)
 
-pub returns-then-total-content : goal.returns-then-total-content
-returns-then-total-content c = simp (eq-eqb _ _ c.if-total-ne0.false, lt-ltb _ _ c.if-total-content.true)
+pub returns-then-content_above : goal.returns-then-content_above
+returns-then-content_above c = simp (eq-eqb _ _ c.if-total-ne0.false, lt-ltb _ _ c.if-content_above.true)
 
 pub returns-then-end-start : goal.returns-then-end-start
 returns-then-end-start c =
