@@ -68,7 +68,8 @@ fn bundle_by(
     ensures { BundleDid table.now streams.now lengths.now rooms.now list.old
         out.old result list.new out.new }
 {
-    if limits::BUNDLE_LIMIT < lengths.len() {
+    let too_many = limits::BUNDLE_LIMIT < lengths.len();
+    if too_many {
         return Bundled::TooManyStreams;
     }
     let mut sizes = no_sizes();

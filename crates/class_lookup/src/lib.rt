@@ -176,7 +176,8 @@ fn is_stream_class(table: &[u8], at: usize, id: u64) -> bool
     requires { (Fragment table.now at) × (length table.now ≤ 65536) }
     ensures { result ≡ is_stream table.now id at }
 {
-    if table[at] == kinds::STREAM_CLASS {
+    let is_class = table[at] == kinds::STREAM_CLASS;
+    if is_class {
         return u64_at(table, at + 1) == id;
     }
     false
@@ -187,7 +188,8 @@ fn is_event_class(table: &[u8], at: usize, stream: u64, id: u64) -> bool
     ensures { result ≡ is_event table.now stream id at }
 {
     if table[at] == kinds::EVENT_CLASS {
-        if u64_at(table, at + 1) == stream {
+        let of_stream = u64_at(table, at + 1) == stream;
+        if of_stream {
             return u64_at(table, at + 9) == id;
         }
         return false;

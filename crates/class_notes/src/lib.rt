@@ -64,7 +64,8 @@ fn number_behind(kind: u8, number: usize) -> usize
     requires { number < 65536 }
     ensures { result ≡ number_behind kind number }
 {
-    if kind < kinds::ROOT {
+    let opens = kind < kinds::ROOT;
+    if opens {
         return 0;
     }
     number + 1

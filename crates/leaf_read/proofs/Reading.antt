@@ -34,7 +34,7 @@ use Rattle.leaf_after.specs.declared.Seen.TheVariants.{Field, OtherUuid, Stops}
 use Rattle.leaf_after.specs.Seeing.{Fits}
 use Rattle.class_layout.specs.Numbers.{number_at}
 use Rattle.class_layout.specs.Words.{number_of_word}
-use Rattle.class_layout.specs.Trees.{next_at, IsWhole}
+use Rattle.class_layout.specs.Trees.{next_at}
 use Rattle.class_layout.specs.Fields.{WholeFields, onward}
 use Rattle.class_layout.specs.Notes.{SizedClasses, number_noted, NumberedClasses}
 use Rattle.class_layout.proofs.Fields.{foremost}

@@ -36,7 +36,8 @@ pub fn leaf_slot(table: &[u8], at: usize) -> usize
     requires at_bound { u8 table.now at < 28 }
     ensures { result ≡ leaf_slot table.now at }
 {
-    if table[at] < kinds::DYNAMIC_STRING {
+    let reads_none = table[at] < kinds::DYNAMIC_STRING;
+    if reads_none {
         return limits::NO_SLOT_READ;
     }
     wide(table[at + 1])
@@ -185,10 +186,12 @@ fn ends(table: &[u8], next: usize, todo: usize, room: usize, slot: u8, role: u8)
     if is_full(room) {
         return true;
     }
-    if kinds::DYNAMIC_STRING <= table[next] {
+    let reads_or_holds = kinds::DYNAMIC_STRING <= table[next];
+    if reads_or_holds {
         return true;
     }
-    if slot < 64 {
+    let sets_slot = slot < 64;
+    if sets_slot {
         return true;
     }
     role != 0

@@ -53,7 +53,8 @@ fn read_stream(table: &[u8], stream: &[u8], list: &mut [u64]) -> Result
     if stream.len() == 0 {
         return bad_size();
     }
-    if limits::STREAM_LIMIT < stream.len() {
+    let too_long = limits::STREAM_LIMIT < stream.len();
+    if too_long {
         return bad_size();
     }
     let mut sizes = no_sizes();

@@ -48,12 +48,12 @@ read c = c.before.before.before.before.before.before
 
 -- The needs
 
-pub returns-then-lengths-gt-BUNDLE_LIMIT : goal.returns-then-lengths-gt-BUNDLE_LIMIT
-returns-then-lengths-gt-BUNDLE_LIMIT c =
+pub returns-then-too_many : goal.returns-then-too_many
+returns-then-too_many c =
     let s = start c.before.before in
     let a = s.args in
     many-did a.table.now a.streams.now a.lengths.now a.rooms.now a.list.now a.out.now _ s.requires
-    c.if-lengths-gt-BUNDLE_LIMIT.true refl
+    c.if-too_many.true refl
 
 pub note_sizes-requires : goal.note_sizes-requires
 note_sizes-requires c =
@@ -92,5 +92,5 @@ returns c =
     let t = a.table.now in
     let rs = bundle_readings t a.streams.now a.lengths.now a.rooms.now a.list.now in
     let stays = kept-bundle t _ s.requires rs u.no_marks-marks.ensures r.read_streams.ensures.1 in
-    few-did t a.streams.now a.lengths.now a.rooms.now a.list.now a.out.now _ s.requires f.if-lengths-gt-BUNDLE_LIMIT.false
+    few-did t a.streams.now a.lengths.now a.rooms.now a.list.now a.out.now _ s.requires f.if-too_many.false
     r.read_streams.ensures.0 stays w.write_kept.ensures

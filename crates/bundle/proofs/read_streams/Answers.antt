@@ -1,5 +1,5 @@
 -- The invariant: the readings of all streams are those so far, and then those of the streams that are left. The measure: how many are left.
-use Prim.Native.Nat.{◌+◌, ◌-◌, ◌*◌, ◌^◌, ◌≤◌, ◌<◌}
+use Prim.Native.Nat.{◌+◌, ◌*◌, ◌^◌, ◌≤◌, ◌<◌}
 use native.Mathlib.Omega.{arith}
 use lib.ListN.{length}
 use Rattle.bundle.proofs.Streams.{going_start, going_next, going_end}

@@ -8,12 +8,12 @@ use Rattle.class_lookup.proofs.is_stream_class.Goals as goal
 
 pub u64_at-requires : goal.u64_at-requires
 unfolding opening_size u8
-u64_at-requires c = omega (arith, opening-there 4 c.requires.0 c.if-table-at-eq-STREAM_CLASS.true)
+u64_at-requires c = omega (arith, opening-there 4 c.requires.0 c.if-is_class.true)
 
-pub returns-then-table-at-eq-STREAM_CLASS : goal.returns-then-table-at-eq-STREAM_CLASS
+pub returns-then-is_class : goal.returns-then-is_class
 unfolding is_stream u8
-returns-then-table-at-eq-STREAM_CLASS c = rw (eq-eqb _ _ c.if-table-at-eq-STREAM_CLASS.true, ← c.u64_at.ensures)
+returns-then-is_class c = rw (eq-eqb _ _ c.if-is_class.true, ← c.u64_at.ensures)
 
 pub returns : goal.returns
 unfolding is_stream u8
-returns c = rw (ne_eqb _ _ c.if-table-at-eq-STREAM_CLASS.false)
+returns c = rw (ne_eqb _ _ c.if-is_class.false)

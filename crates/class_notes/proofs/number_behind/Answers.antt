@@ -3,10 +3,10 @@ use borrow.Author.Tests.{lt-ltb, le-ltb}
 use Rattle.class_layout.specs.Numbers.{opens_fragment, number_behind}
 use Rattle.class_notes.proofs.number_behind.Goals as goal
 
-pub returns-then-kind-lt-ROOT : goal.returns-then-kind-lt-ROOT
+pub returns-then-opens : goal.returns-then-opens
 unfolding number_behind opens_fragment
-returns-then-kind-lt-ROOT c = rw (lt-ltb _ _ c.if-kind-lt-ROOT.true, opens_fragment, number_behind)
+returns-then-opens c = rw (lt-ltb _ _ c.if-opens.true, opens_fragment, number_behind)
 
 pub returns : goal.returns
 unfolding number_behind opens_fragment
-returns c = rw (le-ltb _ _ c.if-kind-lt-ROOT.false, opens_fragment, number_behind)
+returns c = rw (le-ltb _ _ c.if-opens.false, opens_fragment, number_behind)

@@ -51,7 +51,7 @@ use Rattle.event_read.proofs.Rounds.{Given, event_loop, EventRound, gone-on, put
 use Rattle.event_read.proofs.Rounds.{steps_left, opens-off, none-off, still-none, TurnRound, turn-round, round-ends}
 use Rattle.event_read.proofs.read_event.Goals as goal
 use Rattle.event_read.proofs.read_event.Goals.{then-is_border+then-run-le-ONE_SLOT, then-is_border+else-run-le-ONE_SLOT, else-is_border}
-use Rattle.event_read.proofs.read_event.Goals.{then-i-lt64, else-i-lt64, then-to-lt64, else-to-lt64, then-i-lt64-2, else-i-lt64-2}
+use Rattle.event_read.proofs.read_event.Goals.{then-i-lt64, else-i-lt64, then-sets_slot, else-sets_slot, then-i-lt64-2, else-i-lt64-2}
 use Rattle.event_read.proofs.read_event.Lts as lts
 use Rattle.event_read.proofs.read_event.Tie as tie
 use Rattle.event_read.proofs.read_event.Reads as reads
@@ -931,13 +931,13 @@ bounds-slots-to c = omega arith
 slot-told : (c : AtDue) →
     let l = c.loop-only in
     let q = c.read_leaves-r.result in
-    (c.if-to-lt64.slots ≡ set_slot c.if-is_border.slots q.slot (content_of (u8 c.args.table.now q.at) q.value))
-    ⊎ ((slot_count ≤ q.slot) × (c.if-to-lt64.slots ≡ c.if-is_border.slots))
+    (c.if-sets_slot.slots ≡ set_slot c.if-is_border.slots q.slot (content_of (u8 c.args.table.now q.at) q.value))
+    ⊎ ((slot_count ≤ q.slot) × (c.if-sets_slot.slots ≡ c.if-is_border.slots))
 unfolding u8 set_slot
 slot-told c =
-    elim c.if-to-lt64.branch [
-      | then-to-lt64 w ↦ inl (rw w.content_of-content.ensures at w.slots-is)
-      | else-to-lt64 w ↦ inr (w.if-to-lt64.false, w.slots-is)
+    elim c.if-sets_slot.branch [
+      | then-sets_slot w ↦ inl (rw w.content_of-content.ensures at w.slots-is)
+      | else-sets_slot w ↦ inr (w.if-sets_slot.false, w.slots-is)
     ]
 
 -- the last leaf's slot is set, and its role is due
@@ -949,7 +949,7 @@ due : {all : Out} {ws : List ℕ} (c : AtDue) → Now (due-loop c) all ws →
     let w = loop-of (due-field c) all ws in
     Kept w (role (role_of q.role) q.width q.value ⨾ left w r) r
     (merged l.used l.list y.new.list) (l.used + q.used)
-    (state_at q.place q.order l.state) c.if-to-lt64.slots
+    (state_at q.place q.order l.state) c.if-sets_slot.slots
 due c h =
     leaves-due (read-leaves (due-leaves c) h) (not-false _ c.if-not-r.false) (here (leaves_field (due-leaves c)) h).many
     c.behind-run.ensures (slot-told c)
@@ -1028,7 +1028,7 @@ advanced : {all : Out} {ws : List ℕ} (c : AtAdvanced) → Now (advanced-loop c
     let r = c.behind-run.result in
     let w = loop-of (advanced-field c) all ws in
     ClockRound w (left w r) r (merged l.used l.list y.new.list) (l.used + q.used)
-    (state_at q.place q.order l.state) c.if-to-lt64.slots c.advance-a.result c.advance-a.new.list
+    (state_at q.place q.order l.state) c.if-sets_slot.slots c.advance-a.result c.advance-a.new.list
 advanced c h = clock-role _ _ _ c.if-role-eq-CLOCK.true (due (advanced-due c) h) c.advance-a.ensures.0 c.advance-a.ensures.1
 
 pub shape_of-list-then-not-a : goal.shape_of-list-then-not-a
@@ -1096,7 +1096,7 @@ applied : {all : Out} {ws : List ℕ} (c : AtApplied) → Now (applied-loop c) a
     let r = c.behind-run.result in
     let w = loop-of (applied-field c) all ws in
     RoleRound w (left w r) r (merged l.used l.list y.new.list) (l.used + q.used)
-    (state_at q.place q.order l.state) c.if-to-lt64.slots c.apply-said.result c.apply-said.new.list
+    (state_at q.place q.order l.state) c.if-sets_slot.slots c.apply-said.result c.apply-said.new.list
 applied c h = role-did _ _ _ (due (applied-due c) h) c.at-then-kind-lt-FIRST_THAT_HOLDS.ensures c.apply-said.ensures
 
 pub overflow_add-used-then-kind-lt-FIRST_THAT_HOLDS-2 : goal.overflow_add-used-then-kind-lt-FIRST_THAT_HOLDS-2

@@ -57,20 +57,20 @@ bounds-table-next c =
     let s = room-some c.before.before in
     s.requires (omega (arith, s.if-todo-eq0.false))
 
-pub returns-then-table-next-ge-DYNAMIC_STRING : goal.returns-then-table-next-ge-DYNAMIC_STRING
+pub returns-then-reads_or_holds : goal.returns-then-reads_or_holds
 unfolding leaves_end u8
-returns-then-table-next-ge-DYNAMIC_STRING c =
+returns-then-reads_or_holds c =
     let r = c.before.before.before in
-    rw (some (room-some r), room r, le-leb _ _ c.if-table-next-ge-DYNAMIC_STRING.true, leaves_end) refl
+    rw (some (room-some r), room r, le-leb _ _ c.if-reads_or_holds.true, leaves_end) refl
 
-pub returns-then-slot-lt64 : goal.returns-then-slot-lt64
+pub returns-then-sets_slot : goal.returns-then-sets_slot
 unfolding leaves_end u8
-returns-then-slot-lt64 c =
+returns-then-sets_slot c =
     let r = c.before.before.before.before in
-    rw (some (room-some r), room r, lt-leb _ _ c.if-table-next-ge-DYNAMIC_STRING.false, lt-ltb _ _ c.if-slot-lt64.true, leaves_end) refl
+    rw (some (room-some r), room r, lt-leb _ _ c.if-reads_or_holds.false, lt-ltb _ _ c.if-sets_slot.true, leaves_end) refl
 
 pub returns : goal.returns
 unfolding leaves_end u8
 returns c =
     let r = c.before.before.before.before in
-    rw (some (room-some r), room r, lt-leb _ _ c.if-table-next-ge-DYNAMIC_STRING.false, le-ltb _ _ c.if-slot-lt64.false, leaves_end) refl
+    rw (some (room-some r), room r, lt-leb _ _ c.if-reads_or_holds.false, le-ltb _ _ c.if-sets_slot.false, leaves_end) refl

@@ -11,22 +11,22 @@ use Rattle.leaf_read.proofs.leaf_slot.Goals as goal
 pub bounds-table-at : goal.bounds-table-at
 bounds-table-at c = whole-inside _ _ _ c.requires.whole
 
-pub returns-then-table-at-lt-DYNAMIC_STRING : goal.returns-then-table-at-lt-DYNAMIC_STRING
+pub returns-then-reads_none : goal.returns-then-reads_none
 unfolding leaf_slot u8
-returns-then-table-at-lt-DYNAMIC_STRING c = rw (lt-ltb _ _ c.if-table-at-lt-DYNAMIC_STRING.true, leaf_slot) refl
+returns-then-reads_none c = rw (lt-ltb _ _ c.if-reads_none.true, leaf_slot) refl
 
 pub overflow_add-at : goal.overflow_add-at
 unfolding u8
 overflow_add-at c =
     let s = c.before.before.before.before in
-    omega (arith, slot-there _ _ s.requires.whole s.requires.at_bound c.if-table-at-lt-DYNAMIC_STRING.false, s.well_formed.0)
+    omega (arith, slot-there _ _ s.requires.whole s.requires.at_bound c.if-reads_none.false, s.well_formed.0)
 
 pub bounds-table-at-2 : goal.bounds-table-at-2
 unfolding u8
 bounds-table-at-2 c =
     let s = c.before.before.before.before.before in
-    omega (arith, slot-there _ _ s.requires.whole s.requires.at_bound c.if-table-at-lt-DYNAMIC_STRING.false, s.well_formed.0)
+    omega (arith, slot-there _ _ s.requires.whole s.requires.at_bound c.if-reads_none.false, s.well_formed.0)
 
 pub returns : goal.returns
 unfolding leaf_slot u8
-returns c = rw (le-ltb _ _ c.if-table-at-lt-DYNAMIC_STRING.false, leaf_slot) c.wide.ensures.0
+returns c = rw (le-ltb _ _ c.if-reads_none.false, leaf_slot) c.wide.ensures.0

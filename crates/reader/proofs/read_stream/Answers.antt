@@ -39,10 +39,10 @@ returns-then-stream-eq0 c =
     let a = c.args in
     empty-answers (asked_at a.table.now) a.stream.now a.list.now _ c.if-stream-eq0.true c.bad_size.ensures
 
-pub returns-then-stream-gt-STREAM_LIMIT : goal.returns-then-stream-gt-STREAM_LIMIT
-returns-then-stream-gt-STREAM_LIMIT c =
+pub returns-then-too_long : goal.returns-then-too_long
+returns-then-too_long c =
     let a = c.args in
-    large-answers (asked_at a.table.now) a.stream.now a.list.now _ c.if-stream-gt-STREAM_LIMIT.true c.bad_size-then-stream-gt-STREAM_LIMIT.ensures
+    large-answers (asked_at a.table.now) a.stream.now a.list.now _ c.if-too_long.true c.bad_size-then-too_long.ensures
 
 pub prepare-requires : goal.prepare-requires
 prepare-requires c =
@@ -63,6 +63,6 @@ read_prepared-requires c =
     let t = s.args.table.now in
     record {
       ready = record { noted = n.prepare.ensures.ready; keeps = checked-keeps t _ s.requires };
-      in_bounds = (omega (arith, z.if-stream-eq0.false), z.if-stream-gt-STREAM_LIMIT.false);
+      in_bounds = (omega (arith, z.if-stream-eq0.false), z.if-too_long.false);
       hints = made-hints t _ s.requires i.empty_index-index.ensures i.make_index.ensures;
     }
