@@ -76,7 +76,8 @@ fn mark_entry(
         mark_place(marks, place);
         return found;
     }
-    if kind == entries::EVENT_CLASS_FOUND {
+    let names_event = kind == entries::EVENT_CLASS_FOUND;
+    if names_event {
         mark_place(
             marks,
             find_event_class(table, sizes, index, front.id, value),

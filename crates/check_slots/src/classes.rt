@@ -101,7 +101,8 @@ fn walk_class(table: &[u8], homes: &mut [u16], left: usize, home: u16, at: usize
     }
     note(homes, slot, home);
     let mut next = at + size;
-    if byte(table, at) < kinds::STRUCTURE {
+    let is_leaf = byte(table, at) < kinds::STRUCTURE;
+    if is_leaf {
         return next;
     }
     let inner = home_within(table, home, at);

@@ -131,7 +131,8 @@ fn header_with(table: &[u8], header: usize, at: usize) -> usize
 fn counted(k: u8) -> usize
     ensures { result ≡ pick_n (eqb k 4) 1 0 }
 {
-    if k == kinds::STREAM_CLASS { 1 } else { 0 }
+    let is_stream = k == kinds::STREAM_CLASS;
+    if is_stream { 1 } else { 0 }
 }
 
 fn fault_of(table: &[u8], place: usize) -> usize

@@ -37,7 +37,8 @@ pub fn uuid_place(table: &[u8], fragment: usize) -> TablePlace
     requires { fragment + 2 ≤ length table.now }
     ensures { result ≡ found_of (uuid_place table.now fragment) }
 {
-    if table[fragment + 1] == 0 {
+    let has_none = table[fragment + 1] == 0;
+    if has_none {
         return TablePlace::Nothing;
     }
     TablePlace::At(fragment + 2)

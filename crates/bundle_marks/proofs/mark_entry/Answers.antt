@@ -61,30 +61,30 @@ returns-then-kind-eq-STREAM_CLASS_FOUND c =
     stream-named a.table.now a.marks.now a.kind a.value a.front.id f.if-kind-eq-STREAM_CLASS_FOUND.true f.in_front-found.ensures
     c.mark_place.ensures
 
-pub mark_place-requires-then-kind-eq-EVENT_CLASS_FOUND : goal.mark_place-requires-then-kind-eq-EVENT_CLASS_FOUND
-mark_place-requires-then-kind-eq-EVENT_CLASS_FOUND c =
+pub mark_place-requires-then-names_event : goal.mark_place-requires-then-names_event
+mark_place-requires-then-names_event c =
     let s = from-other (to-other c.before) in
     event-below s.requires.sized.0 _ s.requires.place_value.1 s.args.front.id s.args.value c.find_event_class.ensures
 
-pub mark_place-requires-then-kind-eq-EVENT_CLASS_FOUND-2 : goal.mark_place-requires-then-kind-eq-EVENT_CLASS_FOUND-2
-mark_place-requires-then-kind-eq-EVENT_CLASS_FOUND-2 c =
+pub mark_place-requires-then-names_event-2 : goal.mark_place-requires-then-names_event-2
+mark_place-requires-then-names_event-2 c =
     let e = to-event c.before.before in
     let s = from-other (to-other e) in
-    let same = c.mark_place-then-kind-eq-EVENT_CLASS_FOUND.auto.marks in
+    let same = c.mark_place-then-names_event.auto.marks in
     stream-below s.requires.sized.0 _ (omega (arith, same, s.requires.place_value.1)) s.args.front.id s.requires.place_value.0
 
-pub returns-then-kind-eq-EVENT_CLASS_FOUND : goal.returns-then-kind-eq-EVENT_CLASS_FOUND
-returns-then-kind-eq-EVENT_CLASS_FOUND c =
+pub returns-then-names_event : goal.returns-then-names_event
+returns-then-names_event c =
     let m = to-marked c.before in
     let e = to-event m in
     let o = to-other e in
     let s = from-other o in
     let a = s.args in
-    event-named a.table.now a.marks.now a.kind a.value o.if-kind-eq-STREAM_CLASS_FOUND.false s.requires.place_value.0 e.if-kind-eq-EVENT_CLASS_FOUND.true
-    e.find_event_class.ensures m.mark_place-then-kind-eq-EVENT_CLASS_FOUND.ensures c.mark_place-then-kind-eq-EVENT_CLASS_FOUND-2.ensures
+    event-named a.table.now a.marks.now a.kind a.value o.if-kind-eq-STREAM_CLASS_FOUND.false s.requires.place_value.0 e.if-names_event.true
+    e.find_event_class.ensures m.mark_place-then-names_event.ensures c.mark_place-then-names_event-2.ensures
 
 pub returns : goal.returns
 returns c =
     let s = from-other c.before.before in
     let a = s.args in
-    none_named a.table.now a.marks.now a.kind a.value c.if-kind-eq-STREAM_CLASS_FOUND.false s.requires.place_value.0 c.if-kind-eq-EVENT_CLASS_FOUND.false
+    none_named a.table.now a.marks.now a.kind a.value c.if-kind-eq-STREAM_CLASS_FOUND.false s.requires.place_value.0 c.if-names_event.false

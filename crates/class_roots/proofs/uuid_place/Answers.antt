@@ -4,10 +4,10 @@ use Rattle.rules.specs.Record.{u8}
 use Rattle.class_layout.specs.Sizes.{uuid_place, found_of}
 use Rattle.class_roots.proofs.uuid_place.Goals as goal
 
-pub returns-then-table-fragment-eq0 : goal.returns-then-table-fragment-eq0
+pub returns-then-has_none : goal.returns-then-has_none
 unfolding uuid_place found_of u8
-returns-then-table-fragment-eq0 c = rw (eq-eqb _ _ c.if-table-fragment-eq0.true, uuid_place)
+returns-then-has_none c = rw (eq-eqb _ _ c.if-has_none.true, uuid_place)
 
 pub returns : goal.returns
 unfolding uuid_place found_of u8
-returns c = rw (ne_eqb _ _ c.if-table-fragment-eq0.false, uuid_place)
+returns c = rw (ne_eqb _ _ c.if-has_none.false, uuid_place)

@@ -82,17 +82,17 @@ overflow_add-next t c =
     let some = c.if-size-eq0.false in
     omega (arith, (here _ _ _ size some).fits, whole _ _ _ size some, c.requires.0)
 
-pub shape_of-homes-then-byte-lt-STRUCTURE : goal.shape_of-homes-then-byte-lt-STRUCTURE
-shape_of-homes-then-byte-lt-STRUCTURE t c = c.note.auto.homes
+pub shape_of-homes-then-is_leaf : goal.shape_of-homes-then-is_leaf
+shape_of-homes-then-is_leaf t c = c.note.auto.homes
 
-pub returns-then-byte-lt-STRUCTURE : goal.returns-then-byte-lt-STRUCTURE
-returns-then-byte-lt-STRUCTURE t c =
+pub returns-then-is_leaf : goal.returns-then-is_leaf
+returns-then-is_leaf t c =
     let size = c.class_size-size.ensures in
     let some = c.if-size-eq0.false in
     let free = sym c.elsewhere.ensures ∙ c.if-elsewhere.false in
     let e =
     class-leaf _ _ _ _ (there _ _ _ size some) _ (c.slot_named-slot.ensures ∙ says _ _ _ size some) _ (omega arith) free _
-    (whole _ _ _ size some) _ c.note.ensures _ c.byte.ensures c.if-byte-lt-STRUCTURE.true
+    (whole _ _ _ size some) _ c.note.ensures _ c.byte-is_leaf.ensures c.if-is_leaf.true
     in
     record { place = place-of e refl; set = homes-of e refl }
 
