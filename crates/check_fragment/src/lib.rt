@@ -90,7 +90,8 @@ pub fn lowest(table: &[u8], trace: bool, seen: &[u32; PLACES], n: usize, m: u8, 
     requires { (n ≤ 513) × (length table.now ≤ table_limit) }
     ensures { result ≡ lowestOf table.now trace (latest seen.now n) m at }
 {
-    if m < faults::PREAMBLE_MISPLACED {
+    let is_lower = m < faults::PREAMBLE_MISPLACED;
+    if is_lower {
         return m;
     }
     if table.len() <= at {

@@ -50,7 +50,8 @@ fn earlier_of(size: usize, a: Checked, p: usize) -> Checked
             if byte.0 < p {
                 return Checked::Refused(number, byte);
             }
-            if faults::SLOT_NOT_ALLOWED < number {
+            let is_higher = faults::SLOT_NOT_ALLOWED < number;
+            if is_higher {
                 return Checked::Refused(faults::SLOT_NOT_ALLOWED, ByteLength(p));
             }
             Checked::Refused(number, byte)

@@ -46,7 +46,8 @@ impl Clock {
 fn cut(number: u64, width: u64) -> u64
     ensures { result ≡ number % 2 ^ width }
 {
-    if width < 64 {
+    let is_short = width < 64;
+    if is_short {
         number % (1 << width)
     } else {
         number

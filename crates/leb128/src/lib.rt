@@ -29,7 +29,8 @@ pub fn unsigned(stream: &[u8], at: ByteLength, bound: ByteLength) -> Leb
             }
             // Only its lowest bit lies within the 64: one with any other bit, or one that goes on, makes the number too large.
             let tenth = wide(bytes[9]);
-            if 1 < tenth {
+            let too_large = 1 < tenth;
+            if too_large {
                 return Leb::Large;
             }
             Leb::Value {

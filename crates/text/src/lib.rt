@@ -70,7 +70,8 @@ fn told(stream: &[u8], at: usize, bytes: usize) -> usize
         return bytes;
     }
     let from = at + plain;
-    if stream[from] == 0 {
+    let is_zero = stream[from] == 0;
+    if is_zero {
         return plain;
     }
     let left = bytes - plain;
@@ -134,7 +135,8 @@ fn text_from(stream: &[u8], from: usize, bytes: usize) -> usize
 {
     let mut counted: usize = 0;
     while counted < bytes {
-        if stream[from + counted] == 0 {
+        let is_zero = stream[from + counted] == 0;
+        if is_zero {
             return counted;
         }
         counted += 1;

@@ -7,9 +7,9 @@ use Rattle.table_offsets.proofs.Picked.{first-zero, first_some}
 use Rattle.table_offsets.proofs.Searched.{lowest-out}
 use Rattle.check_fragment.proofs.lowest.Goals as goal
 
-pub returns-then-m-lt-PREAMBLE_MISPLACED : goal.returns-then-m-lt-PREAMBLE_MISPLACED
+pub returns-then-is_lower : goal.returns-then-is_lower
 unfolding lowest pick_n
-returns-then-m-lt-PREAMBLE_MISPLACED c = simp (lt-ltb _ _ c.if-m-lt-PREAMBLE_MISPLACED.true)
+returns-then-is_lower c = simp (lt-ltb _ _ c.if-is_lower.true)
 
 pub returns-then-table-at : goal.returns-then-table-at
 returns-then-table-at c =
@@ -21,8 +21,8 @@ order_fault-o-requires c = omega (arith, c.requires, c.if-table-at.false)
 
 pub returns-then-o-ne-NO_FAULT : goal.returns-then-o-ne-NO_FAULT
 unfolding lowest pick_n
-returns-then-o-ne-NO_FAULT c = simp (le-ltb _ _ c.if-m-lt-PREAMBLE_MISPLACED.false, sym c.order_fault-o.ensures, first_some _ c.if-o-ne-NO_FAULT.true)
+returns-then-o-ne-NO_FAULT c = simp (le-ltb _ _ c.if-is_lower.false, sym c.order_fault-o.ensures, first_some _ c.if-o-ne-NO_FAULT.true)
 
 pub returns : goal.returns
 unfolding lowest pick_n
-returns c = simp (le-ltb _ _ c.if-m-lt-PREAMBLE_MISPLACED.false, sym c.order_fault-o.ensures, first-zero _ c.if-o-ne-NO_FAULT.false)
+returns c = simp (le-ltb _ _ c.if-is_lower.false, sym c.order_fault-o.ensures, first-zero _ c.if-o-ne-NO_FAULT.false)

@@ -33,11 +33,11 @@ returns-then-p-byte c = known _ _ _ _ _ c.in-Refused.is (earlier-before _ _ c.if
 pub returns-then-byte-p : goal.returns-then-byte-p
 returns-then-byte-p c = known _ _ _ _ _ c.in-Refused.is (earlier-behind _ _ _ _ c.if-byte-p.true)
 
-pub returns-then-number-gt-SLOT_NOT_ALLOWED : goal.returns-then-number-gt-SLOT_NOT_ALLOWED
-returns-then-number-gt-SLOT_NOT_ALLOWED c =
+pub returns-then-is_higher : goal.returns-then-is_higher
+returns-then-is_higher c =
     let there = equal _ _ c.if-byte-p.false c.if-p-byte.false in
-    known _ _ _ _ _ c.in-Refused.is (earlier-lower _ _ c.if-size-p.false _ _ there c.if-number-gt-SLOT_NOT_ALLOWED.true)
+    known _ _ _ _ _ c.in-Refused.is (earlier-lower _ _ c.if-size-p.false _ _ there c.if-is_higher.true)
 
-pub returns-else-number-gt-SLOT_NOT_ALLOWED : goal.returns-else-number-gt-SLOT_NOT_ALLOWED
-returns-else-number-gt-SLOT_NOT_ALLOWED c =
-    known _ _ _ _ _ c.in-Refused.is (earlier-higher _ _ _ _ c.if-p-byte.false c.if-number-gt-SLOT_NOT_ALLOWED.false)
+pub returns-else-is_higher : goal.returns-else-is_higher
+returns-else-is_higher c =
+    known _ _ _ _ _ c.in-Refused.is (earlier-higher _ _ _ _ c.if-p-byte.false c.if-is_higher.false)

@@ -6,10 +6,10 @@ use Rattle.clock.proofs.cut.Goals as goal
 pub nonzero_rem-result : goal.nonzero_rem-result
 nonzero_rem-result c = rw (one_shl c.args.width (omega arith)) (pow_pos _)
 
-pub returns-then-width-lt64 : goal.returns-then-width-lt64
-returns-then-width-lt64 c = rw (one_shl c.args.width (omega arith))
+pub returns-then-is_short : goal.returns-then-is_short
+returns-then-is_short c = rw (one_shl c.args.width (omega arith))
 
-pub returns-else-width-lt64 : goal.returns-else-width-lt64
-returns-else-width-lt64 c =
+pub returns-else-is_short : goal.returns-else-is_short
+returns-else-is_short c =
     let turn : 2 ^ 64 ≤ 2 ^ c.args.width = pow_mono {i = 64} {j = c.args.width} (omega arith) in
     sym (mod-eq_of_lt (omega arith))

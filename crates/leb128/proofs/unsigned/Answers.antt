@@ -10,8 +10,8 @@ returns-then-bytes-le9 c =
     let on = says_on _ nine.first_nine.ensures c.in-GoOn.is in
     rw (← nine.readable-bytes.ensures) (unsigned-past _ (passed-short on c.if-bytes-le9.true))
 
-pub returns-then-tenth-gt1 : goal.returns-then-tenth-gt1
-returns-then-tenth-gt1 c =
+pub returns-then-too_large : goal.returns-then-too_large
+returns-then-too_large c =
     let known = c.before.before.before.before.before in
     let nine = known.before in
     let on = says_on _ nine.first_nine.ensures known.in-GoOn.is in
@@ -34,8 +34,8 @@ returns-in-Ended c =
     let nine = c.before.before in
     rw (← nine.readable-bytes.ensures) (unsigned-ended _ (says-ended _ nine.first_nine.ensures c.in-Ended.is))
 
-pub returns-else-tenth-gt1 : goal.returns-else-tenth-gt1
-returns-else-tenth-gt1 c =
+pub returns-else-too_large : goal.returns-else-too_large
+returns-else-too_large c =
     let known = c.before.before.before.before.before in
     let nine = known.before in
     let on = says_on _ nine.first_nine.ensures known.in-GoOn.is in

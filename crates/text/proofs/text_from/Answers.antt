@@ -8,16 +8,16 @@ use Rattle.text.proofs.text_from.Goals as goal
 pub loop-counted-init : goal.loop-counted-init
 loop-counted-init c = (search rules, λ k h. absurd (omega arith))
 
-pub overflow_add-from : goal.overflow_add-from
-overflow_add-from c = omega arith
+pub overflow_add-is_zero : goal.overflow_add-is_zero
+overflow_add-is_zero c = omega arith
 
 pub bounds-stream-from : goal.bounds-stream-from
 bounds-stream-from c = omega arith
 
-pub returns-then-stream-from-eq0 : goal.returns-then-stream-from-eq0
-returns-then-stream-from-eq0 c =
+pub returns-then-is_zero : goal.returns-then-is_zero
+returns-then-is_zero c =
     let a = c.args in
-    text-to-zero a.stream.now a.from a.bytes _ c.loop-counted.invariant.1 (omega arith) c.if-stream-from-eq0.true
+    text-to-zero a.stream.now a.from a.bytes _ c.loop-counted.invariant.1 (omega arith) c.if-is_zero.true
 
 pub overflow_add-counted : goal.overflow_add-counted
 overflow_add-counted c = omega arith
@@ -26,7 +26,7 @@ pub loop-counted-smaller : goal.loop-counted-smaller
 loop-counted-smaller c = omega arith
 
 pub loop-counted-preserved : goal.loop-counted-preserved
-loop-counted-preserved c = (omega arith, below_more _ _ c.loop-counted.invariant.1 c.if-stream-from-eq0.false)
+loop-counted-preserved c = (omega arith, below_more _ _ c.loop-counted.invariant.1 c.if-is_zero.false)
 
 pub returns : goal.returns
 returns c =

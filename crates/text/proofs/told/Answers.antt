@@ -92,14 +92,14 @@ overflow_add-from c = omega (arith, plain_in (to-plain c.before))
 pub bounds-stream-from : goal.bounds-stream-from
 bounds-stream-from c = omega (arith, plain_in (to-plain c.before.before))
 
-pub returns-then-stream-from-eq0 : goal.returns-then-stream-from-eq0
-returns-then-stream-from-eq0 c =
+pub returns-then-is_zero : goal.returns-then-is_zero
+returns-then-is_zero c =
     let plain = to-plain c.before.before.before in
     let start = to_start plain in
     let a = start.args in
     let more : plain.plain_from-plain.result < a.bytes = omega (arith, plain_in plain) in
     text-counted _ _ _ true
-    (plain-ended a.stream.now a.at a.bytes _ plain.plain_from-plain.ensures start.requires more c.if-stream-from-eq0.true) refl
+    (plain-ended a.stream.now a.at a.bytes _ plain.plain_from-plain.ensures start.requires more c.if-is_zero.true) refl
 
 -- The rest
 
