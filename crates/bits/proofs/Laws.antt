@@ -2,7 +2,8 @@
 use mathlib.Core.Path.{◌≡◌, refl, sym, ◌∙◌}
 use mathlib.Core.List.{List}
 use Prim.Native.Nat.{ℕ, zero, suc, ◌+◌, ◌-◌, ◌*◌, ◌/◌, ◌%◌, ◌^◌, ◌<◌, ◌≤◌}
-use native.Mathlib.Nat.{mod-lt, pow-suc, add_comm, add_assoc, add-zero, add-suc, mul_assoc, add-mul, zero-mul, mul-one, mul_comm, mod-one, lt_of_lt_of_le}
+use native.Mathlib.Nat.{mod-lt, pow-suc, add_comm, add_assoc, add-zero, add-suc, mul_assoc, add-mul, zero-mul, mul-one}
+use native.Mathlib.Nat.{mul_comm, mod-one, lt_of_lt_of_le}
 use native.Mathlib.Omega.{arith}
 use lib.Dec.{lit<}
 use lib.ListN.{get_or}

@@ -103,5 +103,6 @@ word-signed v n h₀ h₁ hv =
     let twice : 2 ^ n ≡ 2 ^ (n - 1) * 2 = pow-double n h₀ in
     ⊎_elim
     (λ (l : v < 2 ^ (n - 1)). rw (signed_low v n l, lt-ltb v (2 ^ 63) (omega arith)))
-    (λ (l : 2 ^ (n - 1) ≤ v). rw (signed_high v n l hv, le-ltb (2 ^ 64 - suc (2 ^ n - suc v)) (2 ^ 63) (omega arith)) (ap negsuc (omega arith)))
+    (λ (l : 2 ^ (n - 1) ≤ v). rw (signed_high v n l hv, le-ltb (2 ^ 64 - suc (2 ^ n - suc v)) (2 ^ 63) (omega arith))
+    (ap negsuc (omega arith)))
     (lt-or-ge v (2 ^ (n - 1)))

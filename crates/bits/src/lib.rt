@@ -6,7 +6,7 @@
 //                    number so far
 #![tactic(auto)]
 
-ghost use Rattle.std.specs.Prelude.{◌≡◌, ◌+◌, ◌*◌, ◌%◌, ◌^◌, ◌<◌, ◌≤◌, min, length};
+ghost use Rattle.std.specs.Prelude.{◌≡◌, ◌+◌, ◌*◌, ◌%◌, ◌^◌, ◌<◌, ◌≤◌, length};
 ghost use Rattle.rules.specs.Bits.{bits, signed, word};
 ghost use Rattle.bits.specs.Joined.{joined, part as part_of};
 
@@ -31,7 +31,7 @@ fn number(stream: &[u8], from: u64, width: u64, order: Order) -> u64
     if passed == 0 {
         match width {
             8 => {
-                return wide(stream[at]);
+                return u64::from(stream[at]);
             }
             16 => {
                 return two(stream, at, order);
@@ -50,25 +50,26 @@ fn number(stream: &[u8], from: u64, width: u64, order: Order) -> u64
     walk(stream, from, width, order)
 }
 
-// The number of the two bytes from a byte on; then of four and of eight. The order is asked before a byte is read, and what counts least is
-// read first: so LLVM makes one load of each.
+// The number of the two bytes from a byte on; then of four and of eight: LLVM makes one load of each.
 fn two(stream: &[u8], at: usize, order: Order) -> u64
     requires { at + 2 ≤ length stream.now }
-    ensures { (result ≡ bits order stream.now (8 * at) 16) × (result < 2 ^ 16) }
+    ensures { result ≡ bits order stream.now (8 * at) 16 }
 {
+    let bytes = [stream[at], stream[at + 1]];
     match order {
-        Order::Little => wide(stream[at]) + wide(stream[at + 1]) * 0x100,
-        Order::Big => wide(stream[at + 1]) + wide(stream[at]) * 0x100,
+        Order::Little => u64::from(u16::from_le_bytes(bytes)),
+        Order::Big => u64::from(u16::from_be_bytes(bytes)),
     }
 }
 
 fn four(stream: &[u8], at: usize, order: Order) -> u64
     requires { at + 4 ≤ length stream.now }
-    ensures { (result ≡ bits order stream.now (8 * at) 32) × (result < 2 ^ 32) }
+    ensures { result ≡ bits order stream.now (8 * at) 32 }
 {
+    let bytes = [stream[at], stream[at + 1], stream[at + 2], stream[at + 3]];
     match order {
-        Order::Little => two(stream, at, order) + two(stream, at + 2, order) * 0x1_0000,
-        Order::Big => two(stream, at + 2, order) + two(stream, at, order) * 0x1_0000,
+        Order::Little => u64::from(u32::from_le_bytes(bytes)),
+        Order::Big => u64::from(u32::from_be_bytes(bytes)),
     }
 }
 
@@ -77,16 +78,20 @@ pub fn eight(stream: &[u8], at: usize, order: Order) -> u64
     requires { at + 8 ≤ length stream.now }
     ensures { result ≡ bits order stream.now (8 * at) 64 }
 {
+    let bytes = [
+        stream[at],
+        stream[at + 1],
+        stream[at + 2],
+        stream[at + 3],
+        stream[at + 4],
+        stream[at + 5],
+        stream[at + 6],
+        stream[at + 7],
+    ];
     match order {
-        Order::Little => four(stream, at, order) + four(stream, at + 4, order) * 0x1_0000_0000,
-        Order::Big => four(stream, at + 4, order) + four(stream, at, order) * 0x1_0000_0000,
+        Order::Little => u64::from_le_bytes(bytes),
+        Order::Big => u64::from_be_bytes(bytes),
     }
-}
-
-fn wide(byte: u8) -> u64
-    ensures { (result ≡ byte) × (result < 2 ^ 8) }
-{
-    byte as u64
 }
 
 // Of the number of 64 bits, that of the `width` bits behind the first `passed`: what stands above them is shifted out, and then what
@@ -124,19 +129,14 @@ fn walk(stream: &[u8], from: u64, width: u64, order: Order) -> u64
 {
     let mut value: u64 = 0;
     let mut done: u64 = 0;
+    // By hand: a turn's step is what is left of a byte, which no range counts.
     while done < width {
         let at = from + done;
-        let more = lesser(8 - at % 8, width - done);
+        let more = (8 - at % 8).min(width - done);
         value = join(order, value, done, piece(stream, at, more, order), more);
         done += more;
     }
     value
-}
-
-fn lesser(a: u64, b: u64) -> u64
-    ensures { result ≡ min a b }
-{
-    if a < b { a } else { b }
 }
 
 // The number of `width` bits that stand in one byte.
@@ -145,7 +145,7 @@ fn piece(stream: &[u8], from: u64, width: u64, order: Order) -> u64
     ensures { result ≡ bits order stream.now from width }
 {
     let at = (from / 8) as usize;
-    let byte = stream[at] as u64;
+    let byte = u64::from(stream[at]);
     match order {
         Order::Little => (byte >> (from % 8)) % (1 << width),
         Order::Big => (byte >> (8 - from % 8 - width)) % (1 << width),

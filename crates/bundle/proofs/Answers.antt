@@ -1,4 +1,8 @@
 -- What `bundle` answers. In order: what stays of the table; the buffer; the whole.
+use Rattle.std.specs.Prelude.{Ok, Err, Result}
+use Rattle.rules.specs.Verdict.{table_fault}
+use Rattle.rules.specs.declared.NoBundle.TheVariants.{Table, TooManyStreams, ShortBuffer}
+use Rattle.rules.specs.declared.NoBundle.{NoBundle}
 use mathlib.Core.Path.{◌≡◌, refl, sym, ap, ◌∙◌}
 use Prim.Native.Nat.{ℕ, ◌≤◌, ◌<◌}
 use mathlib.Core.List.{List, ◌++◌}
@@ -7,10 +11,7 @@ use native.Mathlib.Omega.{arith}
 use lib.ListN.{length, drop, replicate, length-replicate}
 use lib.Dec.{ltb}
 use borrow.Author.Tests.{lt-ltb, le-ltb}
-use Rattle.rules.specs.declared.Bundled.{Bundled}
-use Rattle.rules.specs.declared.Bundled.TheVariants.{Written, TableRefused, TooManyStreams, ShortBuffer}
 use Rattle.rules.specs.declared.ByteLength.{ByteLength}
-use Rattle.rules.specs.declared.Checked.TheVariants.{Accepted, Refused}
 use Rattle.rules.specs.Limits.{table_limit, bundle_limit}
 use Rattle.rules.specs.Place.{byte_length}
 use Rattle.rules.specs.Parse.{checked}
@@ -29,7 +30,7 @@ use Rattle.bundle.specs.Did.{lists_read, BundleDid}
 pub none-marked : {m : List ℕ} → m ≡ replicate table_limit 0 → length m ≡ table_limit
 none-marked e = rw e (length-replicate {A = ℕ} table_limit 0)
 
-pub kept-bundle : (t : List ℕ) (n : ByteLength) → checked t ≡ Accepted n → (rs : List Reading) {m₀ m : List ℕ} → m₀ ≡ replicate table_limit 0
+pub kept-bundle : (t : List ℕ) (n : ByteLength) → checked t ≡ Ok n → (rs : List Reading) {m₀ m : List ℕ} → m₀ ≡ replicate table_limit 0
     → m ≡ mark_all t rs m₀ → kept t m ≡ bundle_of t rs
 unfolding bundle_of
 kept-bundle t n h rs {m₀} {m} e w =
@@ -39,28 +40,28 @@ kept-bundle t n h rs {m₀} {m} e w =
 
 -- The buffer: k is what stays of the table, and n how many bytes that is
 
-abbrev pub Fits : List ℕ → List ℕ → Bundled → List ℕ → Type 0
+abbrev pub Fits : List ℕ → List ℕ → Result ByteLength NoBundle → List ℕ → Type 0
 Fits k y r y' = (r ≡ fitted k (length y)) × (y' ≡ buffer_after r k y)
 
 module _ (k y : List ℕ) (n : ℕ) (e : n ≡ length k) where
-  pub short-fits : length y < n → Fits k y (ShortBuffer (byte_length n)) y
+  pub short-fits : length y < n → Fits k y (Err (ShortBuffer (byte_length n))) y
   unfolding fitted buffer_after
   short-fits h = (rw (e, lt-ltb (length y) (length k) (rw e at h), fitted) refl, refl)
 
-  pub whole-fits : n ≤ length y → {y' : List ℕ} → y' ≡ k ++ drop (length k) y → Fits k y (Written (byte_length n)) y'
+  pub whole-fits : n ≤ length y → {y' : List ℕ} → y' ≡ k ++ drop (length k) y → Fits k y (Ok (byte_length n)) y'
   unfolding fitted buffer_after
   whole-fits h w = (rw (e, le-ltb (length y) (length k) (rw e at h), fitted) refl, w)
 
 -- The whole
 
 module _ (t b ns ms ws y : List ℕ) where
-  pub refused_did : {r : Bundled} (n : ℕ) (x : ByteLength) → checked t ≡ Refused n x → r ≡ TableRefused n x
+  pub refused_did : {r : Result ByteLength NoBundle} (n : ℕ) (x : ByteLength) → checked t ≡ Err (table_fault n x) → r ≡ Err (Table (table_fault n x))
       → BundleDid t b ns ms ws y r ws y
   unfolding bundled lists_after buffer_after
   refused_did n x h e = rw e (record { answer = rw (h, bundled) refl; lists = refl; buffer = refl })
 
-  module _ (n : ByteLength) (h : checked t ≡ Accepted n) where
-    pub many-did : {r : Bundled} → bundle_limit < length ns → r ≡ TooManyStreams → BundleDid t b ns ms ws y r ws y
+  module _ (n : ByteLength) (h : checked t ≡ Ok n) where
+    pub many-did : {r : Result ByteLength NoBundle} → bundle_limit < length ns → r ≡ Err TooManyStreams → BundleDid t b ns ms ws y r ws y
     unfolding bundled lists_after buffer_after
     many-did l e = rw e (record { answer = rw (h, bundled, lt-ltb bundle_limit (length ns) l) refl; lists = refl; buffer = refl })
 
@@ -70,12 +71,12 @@ module _ (t b ns ms ws y : List ℕ) where
     lists-read k rs = by (ltb (length y) (length k))
       where
         by : (b : Bool)
-            → lists_after (elim b [ true ↦ ShortBuffer (byte_length (length k)) | false ↦ Written (byte_length (length k)) ]) rs ms ws
+            → lists_after (elim b [ true ↦ Err (ShortBuffer (byte_length (length k))) | false ↦ Ok (byte_length (length k)) ]) rs ms ws
             ≡ lists_read rs ms ws
         by true = refl
         by false = refl
 
-    pub few-did : {r : Bundled} {ws' y' k : List ℕ} → length ns ≤ bundle_limit
+    pub few-did : {r : Result ByteLength NoBundle} {ws' y' k : List ℕ} → length ns ≤ bundle_limit
         → ws' ≡ lists_read (bundle_readings t b ns ms ws) ms ws → k ≡ bundle_of t (bundle_readings t b ns ms ws)
         → Fits k y r y' → BundleDid t b ns ms ws y r ws' y'
     unfolding bundled

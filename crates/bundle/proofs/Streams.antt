@@ -10,7 +10,7 @@ use borrow.Rule.Slice.PartMut.{put_mid, same_len_mid}
 use lib.Seq.{drop-cons, drop-drop, take_at, drop_at}
 use Rattle.rules.specs.Limits.{words_per_entry}
 use Rattle.rules.specs.Entry.{words}
-use Rattle.rules.specs.declared.Result.{Result}
+use Rattle.rules.specs.declared.Report.{Report}
 use Rattle.rules.specs.Read.{Reading, result_of, read_all, list_after}
 use Rattle.rules.specs.Lists.{parts, behind_parts, readings, words_after}
 use Rattle.rules.specs.Bundle.{bundle_readings}
@@ -107,7 +107,7 @@ lists-one r rs y ms ms' ws (inr e) k =
 
 -- A list that a reading was written into
 
-module _ (x : Reading) (ws : List ℕ) {r : Result} {ws' : List ℕ} (e : r ≡ result_of x) (w : ws' ≡ list_after x ws) where
+module _ (x : Reading) (ws : List ℕ) {r : Report} {ws' : List ℕ} (e : r ≡ result_of x) (w : ws' ≡ list_after x ws) where
   count : r.entries ≡ length x.entries
   unfolding result_of
   count = ap (λ r. r.entries) e

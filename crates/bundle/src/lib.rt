@@ -4,7 +4,6 @@
 #![tactic(auto)]
 
 ghost use Rattle.std.specs.Prelude.{◌≡◌, ◌≤◌, min, length, get_or, replicate};
-ghost use Rattle.rules.specs.declared.Checked.TheVariants.{Accepted};
 ghost use Rattle.rules.specs.Limits.{table_limit};
 ghost use Rattle.rules.specs.Place.{byte_length};
 ghost use Rattle.rules.specs.Parse.{checked};
@@ -23,7 +22,7 @@ use class_lookup::{PLACES, make_index};
 use class_notes::prepare;
 use numbers::limits;
 use reader::read;
-use rules::{Bundled, ByteLength, Checked};
+use rules::{ByteLength, NoBundle};
 
 // Cuts a table to what some streams need. The streams stand one behind another, as long as `lengths` says, and their lists, as long as
 // `rooms` says; where a length is above what is left, it is what is left, and a stream without a room has a list of no words. The lists
@@ -35,7 +34,7 @@ pub fn bundle(
     rooms: &[u64],
     list: &mut [u64],
     out: &mut [u8],
-) -> Bundled
+) -> Result<ByteLength, NoBundle>
     ensures { (result
         ≡ bundle_answer table.now streams.now lengths.now rooms.now list.old
         (length out.old))
@@ -50,8 +49,8 @@ pub fn bundle(
         out.old) }
 {
     match check(table) {
-        Checked::Refused(number, byte) => Bundled::TableRefused(number, byte),
-        Checked::Accepted(length) => bundle_by(table, streams, lengths, rooms, list, out),
+        Err(fault) => Err(NoBundle::Table(fault)),
+        Ok(_) => bundle_by(table, streams, lengths, rooms, list, out),
     }
 }
 
@@ -63,20 +62,20 @@ fn bundle_by(
     rooms: &[u64],
     list: &mut [u64],
     out: &mut [u8],
-) -> Bundled
-    requires { checked table.now ≡ Accepted (byte_length (length table.now)) }
+) -> Result<ByteLength, NoBundle>
+    requires { checked table.now ≡ Ok (byte_length (length table.now)) }
     ensures { BundleDid table.now streams.now lengths.now rooms.now list.old
         out.old result list.new out.new }
 {
     let too_many = limits::BUNDLE_LIMIT < lengths.len();
     if too_many {
-        return Bundled::TooManyStreams;
+        return Err(NoBundle::TooManyStreams);
     }
-    let mut sizes = no_sizes();
+    let mut sizes = [0; limits::TABLE_LIMIT];
     note_sizes(table, &mut sizes);
-    let mut index = empty_index();
+    let mut index = [0; PLACES];
     make_index(table, &sizes, &mut index);
-    let mut marks = no_marks();
+    let mut marks = [0; limits::TABLE_LIMIT];
     read_streams(
         table, &sizes, &index, streams, lengths, rooms, list, &mut marks,
     );
@@ -85,10 +84,10 @@ fn bundle_by(
 
 // The sizes of an accepted table's classes and fragments. Alignments are noted beside them, and nobody asks for them here.
 fn note_sizes(table: &[u8], sizes: &mut [u16])
-    requires { (checked table.now ≡ Accepted (byte_length (length table.now))) × (table_limit ≤ length sizes.old) }
+    requires { (checked table.now ≡ Ok (byte_length (length table.now))) × (table_limit ≤ length sizes.old) }
     ensures { Sized table.now sizes.new }
 {
-    let mut aligns = no_aligns();
+    let mut aligns = [0; limits::TABLE_LIMIT];
     prepare(table, sizes, &mut aligns);
 }
 
@@ -113,10 +112,10 @@ fn read_streams(
         (bundle_readings table.now streams.now lengths.now rooms.now list.old)
         marks.old) }
 {
-    let mut i = 0;
     let mut from = 0;
     let mut at = 0;
-    while i < lengths.len() {
+    // by an index: lengths and rooms come side by side from C, and rooms may be fewer
+    for i in 0..lengths.len() {
         let bytes = fitting(lengths, i, streams.len() - from);
         let words = fitting(rooms, i, list.len() - at);
         let to = from + bytes;
@@ -131,7 +130,6 @@ fn read_streams(
         );
         from = to;
         at = end;
-        i = i + 1;
     }
 }
 
@@ -139,14 +137,8 @@ fn read_streams(
 fn fitting(lengths: &[u64], i: usize, left: usize) -> usize
     ensures { result ≡ min (get_or lengths.now i 0) left }
 {
-    if lengths.len() <= i {
-        return 0;
-    }
-    let length = lengths[i];
-    if length < left as u64 {
-        return length as usize;
-    }
-    left
+    let length = lengths.get(i).copied().unwrap_or(0);
+    length.min(left as u64) as usize
 }
 
 // Reads one stream, and marks what its list names.
@@ -169,42 +161,20 @@ fn read_one(
 }
 
 // 45, or what stays of the table.
-fn write_kept(table: &[u8], sizes: &[u16], marks: &[u8], out: &mut [u8]) -> Bundled
+fn write_kept(
+    table: &[u8],
+    sizes: &[u16],
+    marks: &[u8],
+    out: &mut [u8],
+) -> Result<ByteLength, NoBundle>
     requires { (Sized table.now sizes.now) × (length marks.now ≡ table_limit) }
     ensures { (result ≡ fitted (kept table.now marks.now) (length out.old))
         × (out.new ≡ buffer_after result (kept table.now marks.now) out.old) }
 {
     let length = kept_length(table, sizes, marks);
     if out.len() < length {
-        return Bundled::ShortBuffer(ByteLength(length));
+        return Err(NoBundle::ShortBuffer(ByteLength(length)));
     }
     copy_kept(table, sizes, marks, out);
-    Bundled::Written(ByteLength(length))
-}
-
-// Room for the notes of the longest table.
-fn no_sizes() -> [u16; limits::TABLE_LIMIT]
-    ensures { table_limit ≡ length result }
-{
-    [0; limits::TABLE_LIMIT]
-}
-
-fn no_aligns() -> [u32; limits::TABLE_LIMIT]
-    ensures { table_limit ≡ length result }
-{
-    [0; limits::TABLE_LIMIT]
-}
-
-// No fragment is marked at first.
-fn no_marks() -> [u8; limits::TABLE_LIMIT]
-    ensures { result ≡ replicate table_limit 0 }
-{
-    [0; limits::TABLE_LIMIT]
-}
-
-// "every place empty at first" (request 10)
-fn empty_index() -> [u32; PLACES]
-    ensures { result ≡ replicate places 0 }
-{
-    [0; PLACES]
+    Ok(ByteLength(length))
 }

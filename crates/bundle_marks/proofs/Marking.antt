@@ -1,55 +1,53 @@
 -- What `mark` does. In order: a place that is found can be marked; by one entry; the entries that are left.
+use Rattle.std.specs.Prelude.{Option, None, Some}
 use mathlib.Core.Path.{◌≡◌, refl, sym, ap, ◌∙◌}
 use Prim.Native.Nat.{ℕ, zero, suc, ◌+◌, ◌-◌, ◌*◌, ◌≤◌, ◌<◌}
 use native.Mathlib.Nat.{add-zero}
 use native.Mathlib.Omega.{arith}
 use mathlib.Core.List.{List}
 use mathlib.Core.Bool.{Bool}
-use mathlib.Core.Option.{Option, none, some}
 use lib.ListN.{length, get_or, drop, set}
 use lib.Seq.{get_or-drop, drop-drop}
 use borrow.Author.Tests.{eq-eqb, ne_eqb}
 use Rattle.rules.specs.Limits.{table_limit, words_per_entry}
 use Rattle.rules.specs.Entry.{stream_class_found, event_class_found}
 use Rattle.rules.specs.Bundle.{under}
-use Rattle.class_layout.specs.declared.TablePlace.{TablePlace}
-use Rattle.class_layout.specs.declared.TablePlace.TheVariants.{At, Nothing}
-use Rattle.class_layout.specs.Fragments.{is_stream, is_event, first_of, fragments_of, find_stream_at, find_event_at}
-use Rattle.class_layout.specs.Sizes.{found_of, SizedFragment, Sized}
+use Rattle.class_layout.specs.Fragments.{is_stream, is_event, first_of, fragments_of, find_event_at}
+use Rattle.class_layout.specs.Sizes.{SizedFragment, Sized}
 use Rattle.class_layout.proofs.Lookups.{first_holds}
 use Rattle.bundle_marks.specs.declared.Front.{Front}
 use Rattle.bundle_marks.specs.Marked.{entries_of, stream_place, event_place, front_of, Below, mark_at, next_front, mark_one, mark_list}
 
 -- Places
 
-pub place-below : (n o : ℕ) {p : TablePlace} → p ≡ At o → Below n p → o < n
+pub place-below : (n o : ℕ) {p : Option ℕ} → p ≡ Some o → Below n p → o < n
 unfolding Below
 place-below n o e h = rw e at h
 
-pub marked-at : (m : List ℕ) (o : ℕ) {p : TablePlace} → p ≡ At o → set m o 1 ≡ mark_at p m
+pub marked-at : (m : List ℕ) (o : ℕ) {p : Option ℕ} → p ≡ Some o → set m o 1 ≡ mark_at p m
 unfolding mark_at
 marked-at m o e = rw e refl
 
-pub marked-nowhere : (m : List ℕ) {p : TablePlace} → p ≡ Nothing → m ≡ mark_at p m
+pub marked-nowhere : (m : List ℕ) {p : Option ℕ} → p ≡ None → m ≡ mark_at p m
 unfolding mark_at
 marked-nowhere m e = rw e refl
 
 module _ {t s : List ℕ} (h : Sized t s) (n : ℕ) (l : table_limit ≤ n) where
-  found_below : (f : ℕ → Bool) → Below n (found_of (first_of f (fragments_of t)))
+  found_below : (f : ℕ → Bool) → Below n (first_of f (fragments_of t))
   found_below f = by (first_of f (fragments_of t)) refl
     where
-      by : (x : Option ℕ) → first_of f (fragments_of t) ≡ x → Below n (found_of x)
-      by none e = unfold found_of Below in tt
-      by (some o) e =
-          unfold found_of Below in
+      by : (x : Option ℕ) → first_of f (fragments_of t) ≡ x → Below n x
+      by None e = unfold Below in tt
+      by (Some o) e =
+          unfold Below in
           let k = (first_holds (SizedFragment t s) f (fragments_of t) o e h.each).1.stands in
           omega (arith, k.onward, k.within, h.limit)
 
-  pub stream-below : {p : TablePlace} (i : ℕ) → p ≡ stream_place t i → Below n p
+  pub stream-below : {p : Option ℕ} (i : ℕ) → p ≡ stream_place t i → Below n p
   unfolding stream_place
   stream-below {p} i e = rw e (found_below (is_stream t i))
 
-  pub event-below : {p : TablePlace} (i j : ℕ) → p ≡ found_of (find_event_at t (fragments_of t) i j) → Below n p
+  pub event-below : {p : Option ℕ} (i j : ℕ) → p ≡ find_event_at t (fragments_of t) i j → Below n p
   event-below {p} i j e = rw e (found_below (is_event t i j))
 
 -- The stream class in front
@@ -87,7 +85,7 @@ module _ (t m : List ℕ) (k v : ℕ) {f : Front} where
     unfolding next_front
     still = rw (ne_eqb k stream_class_found n, next_front) (as-front t f w)
 
-    pub event-named : {p : TablePlace} {x m' : List ℕ} → k ≡ event_class_found → p ≡ found_of (find_event_at t (fragments_of t) f.id v)
+    pub event-named : {p : Option ℕ} {x m' : List ℕ} → k ≡ event_class_found → p ≡ find_event_at t (fragments_of t) f.id v
         → x ≡ mark_at p m → m' ≡ mark_at f.place x → One t f.id k v m f m'
     unfolding mark_one event_place
     event-named e q h g =

@@ -1,13 +1,13 @@
 -- From no mark at all, the marks of a table's stream and event classes are those that readings list: `Marks` by `stream_listed` and
 -- `event_listed`. In order: one place that is marked; entries one after another, by any test of an entry; a stream class; an event class;
 -- the table.
+use Rattle.std.specs.Prelude.{Some, None, Option}
 use mathlib.Core.Path.{◌≡◌, refl, sym, ap, ◌∙◌}
 use Prim.Native.Nat.{ℕ, ◌+◌, ◌≤◌, ◌<◌}
 use native.Mathlib.Omega.{arith}
 use mathlib.Core.List.{List, [], ◌∷◌}
 use mathlib.Core.Bool.{Bool, true, false, ◌&&◌, ◌||◌}
-use mathlib.Core.Option.{some}
-use lib.ListN.{length, get_or, set, length-set}
+use lib.ListN.{length, get_or, length-set}
 use lib.Seq.{get_or-set_same, get_or-set_other}
 use lib.Dec.{ltb, eqb}
 use borrow.Author.Tests.{eq-eqb, eqb-true, eqb-false}
@@ -18,11 +18,8 @@ use Rattle.rules.specs.Read.{Reading}
 use Rattle.rules.specs.Edition.{both}
 use Rattle.rules.specs.Bundle.{under, stream_in, event_in, event_under, stream_listed, event_listed}
 use Rattle.facts.proofs.Truth.{clash, and_left, and_right, and_none, or-true}
-use Rattle.class_layout.specs.declared.TablePlace.{TablePlace}
-use Rattle.class_layout.specs.declared.TablePlace.TheVariants.{At, Nothing}
 use Rattle.class_layout.specs.Fragments.{stream_kind, event_kind, is_stream, is_event, first_of, fragments_of, find_stream_at, find_event_at}
 use Rattle.class_layout.specs.Fragments.{Fragment, All, AllFragments}
-use Rattle.class_layout.specs.Sizes.{found_of}
 use Rattle.class_layout.proofs.Lookups.{found_some, first_holds}
 use Rattle.class_layout.proofs.Asked.{Accepts}
 use Rattle.bundle_table.specs.Kept.{marked, Mark, Marks}
@@ -60,19 +57,19 @@ not-both k p q = omega (arith, eqb-true k stream_class_found p, eqb-true k event
 -- One place
 
 module _ (o : ℕ) where
-  mark-here : (m : List ℕ) {p : TablePlace} → o < length m → p ≡ At o → marked (mark_at p m) o ≡ true
+  mark-here : (m : List ℕ) {p : Option ℕ} → o < length m → p ≡ Some o → marked (mark_at p m) o ≡ true
   unfolding mark_at marked
   mark-here m l e = rw (e, mark_at, get_or-set_same m o 1 0 l) refl
 
-  mark-there : (m : List ℕ) (p : TablePlace) → (p ≡ At o → ⊥) → marked (mark_at p m) o ≡ marked m o
+  mark-there : (m : List ℕ) (p : Option ℕ) → (p ≡ Some o → ⊥) → marked (mark_at p m) o ≡ marked m o
   unfolding mark_at marked
-  mark-there m (At q) h = ap (ltb 0) (get_or-set_other m q o 1 0 (λ e. h (ap At (sym e))))
-  mark-there m Nothing h = refl
+  mark-there m (Some q) h = ap (ltb 0) (get_or-set_other m q o 1 0 (λ e. h (ap Some (sym e))))
+  mark-there m None h = refl
 
-at_length : (p : TablePlace) (m : List ℕ) → length (mark_at p m) ≡ length m
+at_length : (p : Option ℕ) (m : List ℕ) → length (mark_at p m) ≡ length m
 unfolding mark_at
-at_length (At o) m = length-set m o 1
-at_length Nothing m = refl
+at_length (Some o) m = length-set m o 1
+at_length None m = refl
 
 -- an entry's marks, by whether it is an entry 2 and whether it is an entry 5
 abbrev mark_by : List ℕ → ℕ → ℕ → List ℕ → Bool → Bool → List ℕ
@@ -128,16 +125,16 @@ module _ (t : List ℕ) (o : ℕ) (hit : ℕ → ℕ → ℕ → Bool)
 
 module _ {t : List ℕ} (a : Accepts t) (o : ℕ) where
   -- what a lookup finds passes its test
-  passes : (f : ℕ → Bool) → found_of (first_of f (fragments_of t)) ≡ At o → f o ≡ true
+  passes : (f : ℕ → Bool) → first_of f (fragments_of t) ≡ Some o → f o ≡ true
   passes f e = (first_holds (Fragment t) f (fragments_of t) o (found_some _ o (sym e)) a.fragments).0
 
-  stream-is : (v : ℕ) → stream_place t v ≡ At o → (u8 t o ≡ stream_kind) × (u64 t (o + 1) ≡ v)
+  stream-is : (v : ℕ) → stream_place t v ≡ Some o → (u8 t o ≡ stream_kind) × (u64 t (o + 1) ≡ v)
   unfolding stream_place is_stream
   stream-is v e =
       let b = passes (is_stream t v) e in
       (eqb-true _ _ (and_left (eqb (u8 t o) stream_kind) _ b), eqb-true _ v (and_right (eqb (u8 t o) stream_kind) _ b))
 
-  event-is : (h v : ℕ) → event_place t h v ≡ At o → (u8 t o ≡ event_kind) × (u64 t (o + 1) ≡ h) × (u64 t (o + 9) ≡ v)
+  event-is : (h v : ℕ) → event_place t h v ≡ Some o → (u8 t o ≡ event_kind) × (u64 t (o + 1) ≡ h) × (u64 t (o + 9) ≡ v)
   unfolding event_place is_event
   event-is h v e =
       let b = passes (is_event t h v) e in
@@ -150,11 +147,11 @@ module _ {t : List ℕ} (a : Accepts t) (o : ℕ) where
   -- A stream class, the first of its id
 
   module _ (i : ℕ) (k : u8 t o ≡ stream_kind) (id : u64 t (o + 1) ≡ i)
-      (first : (i : ℕ) → is_stream t i o ≡ true → find_stream_at t (fragments_of t) i ≡ some o) where
+      (first : (i : ℕ) → is_stream t i o ≡ true → find_stream_at t (fragments_of t) i ≡ Some o) where
     -- the stream class of an id is this one just where the id is its own
-    stream-here : (v : ℕ) → v ≡ i → stream_place t v ≡ At o
-    unfolding stream_place found_of is_stream
-    stream-here v e = ap found_of (first v (rw (k, eq-eqb (u64 t (o + 1)) v (id ∙ sym e)) refl))
+    stream-here : (v : ℕ) → v ≡ i → stream_place t v ≡ Some o
+    unfolding stream_place is_stream
+    stream-here v e = first v (rw (k, eq-eqb (u64 t (o + 1)) v (id ∙ sym e)) refl)
 
     of-stream : (v : ℕ) (m : List ℕ) → o < length m → marked (mark_at (stream_place t v) m) o ≡ (eqb v i || marked m o)
     of-stream v m l = by (eqb v i) refl
@@ -202,15 +199,15 @@ module _ {t : List ℕ} (a : Accepts t) (o : ℕ) where
   -- An event class, the first of its ids
 
   module _ (i j : ℕ) (k : u8 t o ≡ event_kind) (id : u64 t (o + 1) ≡ i) (id' : u64 t (o + 9) ≡ j)
-      (first : (i j : ℕ) → is_event t i j o ≡ true → find_event_at t (fragments_of t) i j ≡ some o) where
-    event-here : (h v : ℕ) → (eqb h i && eqb v j) ≡ true → event_place t h v ≡ At o
-    unfolding event_place found_of is_event
+      (first : (i j : ℕ) → is_event t i j o ≡ true → find_event_at t (fragments_of t) i j ≡ Some o) where
+    event-here : (h v : ℕ) → (eqb h i && eqb v j) ≡ true → event_place t h v ≡ Some o
+    unfolding event_place is_event
     event-here h v e =
         let p : u64 t (o + 1) ≡ h = id ∙ sym (eqb-true h i (and_left (eqb h i) _ e)) in
         let q : u64 t (o + 9) ≡ v = id' ∙ sym (eqb-true v j (and_right (eqb h i) _ e)) in
-        ap found_of (first h v (rw (k, eq-eqb (u64 t (o + 1)) h p, eq-eqb (u64 t (o + 9)) v q) refl))
+        first h v (rw (k, eq-eqb (u64 t (o + 1)) h p, eq-eqb (u64 t (o + 9)) v q) refl)
 
-    event-own : (h v : ℕ) → event_place t h v ≡ At o → (eqb h i && eqb v j) ≡ true
+    event-own : (h v : ℕ) → event_place t h v ≡ Some o → (eqb h i && eqb v j) ≡ true
     event-own h v e = let x = event-is h v e in rw (eq-eqb h i (sym x.1 ∙ id), eq-eqb v j (sym x.2 ∙ id')) refl
 
     -- the event class of two ids is this one just where both are its own
@@ -289,8 +286,8 @@ no-mark m z o = ap (ltb 0) (z o)
 module _ {t : List ℕ} (a : Accepts t) (rs : List Reading) (m : List ℕ) (room : length t ≤ length m) (z : (k : ℕ) → get_or m k 0 ≡ 0) where
   -- of these fragments each is the first of its ids
   marks-of : (os : List ℕ) → AllFragments t os
-      → ((i : ℕ) → All (λ o. is_stream t i o ≡ true → find_stream_at t (fragments_of t) i ≡ some o) os)
-      → ((i j : ℕ) → All (λ o. is_event t i j o ≡ true → find_event_at t (fragments_of t) i j ≡ some o) os)
+      → ((i : ℕ) → All (λ o. is_stream t i o ≡ true → find_stream_at t (fragments_of t) i ≡ Some o) os)
+      → ((i j : ℕ) → All (λ o. is_event t i j o ≡ true → find_event_at t (fragments_of t) i j ≡ Some o) os)
       → All (Mark (stream_listed rs) (event_listed rs) t (mark_all t rs m)) os
   marks-of [] f s e = tt
   marks-of (o ∷ os) f s e =

@@ -1,16 +1,13 @@
 -- Which fragments of a table the entries of lists name: a mark for each byte of the table, not 0 where a stream class or an event class
 -- opens that is named.
-use Rattle.std.specs.Prelude.{ℕ, zero, suc, ◌<◌, List, [], ◌∷◌, true, false, get_or, drop, set, eqb}
+use Rattle.std.specs.Prelude.{ℕ, zero, suc, ◌<◌, List, [], ◌∷◌, true, false, get_or, drop, set, eqb, Some, None, Option}
 use Rattle.rules.specs.declared.Entry.{Entry}
 use Rattle.rules.specs.Limits.{words_per_entry}
 use Rattle.rules.specs.Place.{bit_place}
 use Rattle.rules.specs.Entry.{entry, stream_class_found, event_class_found}
 use Rattle.rules.specs.Read.{Reading}
 use Rattle.rules.specs.Bundle.{under}
-use Rattle.class_layout.specs.declared.TablePlace.{TablePlace}
-use Rattle.class_layout.specs.declared.TablePlace.TheVariants.{At, Nothing}
 use Rattle.class_layout.specs.Fragments.{fragments_of, find_stream_at, find_event_at}
-use Rattle.class_layout.specs.Sizes.{found_of}
 use Rattle.bundle_marks.specs.declared.Front.{Front}
 
 -- the first n entries of the words of a list
@@ -20,25 +17,25 @@ entries_of (suc n) ws =
     entry (get_or ws 0 0) (bit_place (get_or ws 1 0)) (get_or ws 2 0) (get_or ws 3 0) (get_or ws 4 0) ∷ entries_of n (drop words_per_entry ws)
 
 -- where the stream class of an id stands, and the event class of both
-unfoldable pub stream_place : List ℕ → ℕ → TablePlace
-stream_place t i = found_of (find_stream_at t (fragments_of t) i)
+unfoldable pub stream_place : List ℕ → ℕ → Option ℕ
+stream_place t i = find_stream_at t (fragments_of t) i
 
-unfoldable pub event_place : List ℕ → ℕ → ℕ → TablePlace
-event_place t i j = found_of (find_event_at t (fragments_of t) i j)
+unfoldable pub event_place : List ℕ → ℕ → ℕ → Option ℕ
+event_place t i j = find_event_at t (fragments_of t) i j
 
 -- the stream class of an id, as the one in front
 unfoldable pub front_of : List ℕ → ℕ → Front
 front_of t i = record { id = i; place = stream_place t i }
 
 -- a place that may be marked: it lies below n
-unfoldable pub Below : ℕ → TablePlace → Type 0
-Below n (At o) = o < n
-Below n Nothing = Unit {0}
+unfoldable pub Below : ℕ → Option ℕ → Type 0
+Below n (Some o) = o < n
+Below n None = Unit {0}
 
 -- an id with no fragment marks nothing
-unfoldable pub mark_at : TablePlace → List ℕ → List ℕ
-mark_at (At o) m = set m o 1
-mark_at Nothing m = m
+unfoldable pub mark_at : Option ℕ → List ℕ → List ℕ
+mark_at (Some o) m = set m o 1
+mark_at None m = m
 
 -- An entry of the kind k and the value v, with the stream class i in front
 

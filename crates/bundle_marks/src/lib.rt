@@ -9,7 +9,6 @@ ghost use Rattle.class_layout.specs.Sizes.{Sized};
 ghost use Rattle.class_lookup.specs.Index.{Hints};
 ghost use Rattle.bundle_marks.specs.Marked.{entries_of, stream_place, front_of, Below, mark_at, next_front, mark_one, mark_list};
 
-use class_layout::TablePlace;
 use class_lookup::{find_event_class, find_stream_class};
 use numbers::entries;
 use numbers::limits::WORDS_PER_ENTRY;
@@ -18,7 +17,7 @@ use numbers::limits::WORDS_PER_ENTRY;
 #[derive(Clone, Copy)]
 struct Front {
     id: u64,
-    place: TablePlace,
+    place: Option<usize>,
 }
 
 // The word of an entry that is its value.
@@ -38,9 +37,8 @@ pub fn mark(
     ensures { marks.new ≡ mark_list table.now 0 (entries_of entries list.now) marks.old }
 {
     let mut front = in_front(table, sizes, 0);
-    let mut at = 0;
-    let mut left = entries;
-    while 0 < left {
+    for i in 0..entries {
+        let at = WORDS_PER_ENTRY * i;
         front = mark_entry(
             table,
             sizes,
@@ -50,8 +48,6 @@ pub fn mark(
             front,
             marks,
         );
-        at = at + WORDS_PER_ENTRY;
-        left = left - 1;
     }
 }
 
@@ -98,12 +94,12 @@ fn in_front(table: &[u8], sizes: &[u16], id: u64) -> Front
     Front { id, place }
 }
 
-fn mark_place(marks: &mut [u8], place: TablePlace)
+fn mark_place(marks: &mut [u8], place: Option<usize>)
     requires { Below (length marks.old) place }
     ensures { marks.new ≡ mark_at place marks.old }
 {
     match place {
-        TablePlace::At(at) => marks[at] = 1,
-        TablePlace::Nothing => {}
+        Some(at) => marks[at] = 1,
+        None => {}
     }
 }

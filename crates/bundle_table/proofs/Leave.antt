@@ -1,5 +1,6 @@
 -- What stays by marks is what stays by ids: of an accepted table whose marks are those of the ids, `kept` is the rules' `leave`, which goes
 -- from record to record. In order: one record; a row of records that open no fragment; a fragment, and those to the end; the table.
+use Rattle.std.specs.Prelude.{Ok}
 use mathlib.Core.Path.{◌≡◌, refl, sym, ap, ◌∙◌}
 use Prim.Native.Nat.{ℕ, zero, suc, ◌+◌, ◌-◌, ◌≤◌, ◌<◌}
 use native.Mathlib.Omega.{arith}
@@ -10,7 +11,6 @@ use lib.ListN.{length, take, drop, drop_of_length-le}
 use lib.Seq.{drop-cons, drop-drop, take-add}
 use borrow.Author.Tests.{ltb-false}
 use Rattle.rules.specs.declared.ByteLength.{ByteLength}
-use Rattle.rules.specs.declared.Checked.TheVariants.{Accepted}
 use Rattle.rules.specs.Record.{Record, unknown, fragment, root, class, range, option, Fragment as Opening, preamble, trace_class, clock_class}
 use Rattle.rules.specs.Record.{stream_class, event_class, u8, u64, layouts, record_of, size}
 use Rattle.rules.specs.Parse.{missing, checked}
@@ -230,7 +230,7 @@ module _ (ks : ℕ → Bool) (ke : ℕ → ℕ → Bool) where
       let less : suc n - 1 ≡ n = omega arith in
       record-left t 0 n true true (omega arith) (preamble-stays t (unfold u8 in e)) ∙ rw (next, less)
 
-  pub kept-is-leave : (t m : List ℕ) (n : ByteLength) → checked t ≡ Accepted n → Marks ks ke t m → kept t m ≡ leave ks ke t
+  pub kept-is-leave : (t m : List ℕ) (n : ByteLength) → checked t ≡ Ok n → Marks ks ke t m → kept t m ≡ leave ks ke t
   unfolding kept leave fragments_of
   kept-is-leave t m n h k =
       let a = checked-accepts t n h in

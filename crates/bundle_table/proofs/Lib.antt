@@ -1,4 +1,3 @@
 mod One
 mod Walked
-mod Copies
 pub mod Leave

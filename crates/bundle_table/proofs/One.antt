@@ -1,12 +1,14 @@
 -- One fragment: whether it stays, by its kind; and how many of its bytes do. What stays are its first bytes, all or none.
 use mathlib.Core.Path.{◌≡◌, refl, ap}
-use Prim.Native.Nat.{ℕ, zero, suc, ◌+◌, ◌-◌, ◌≤◌}
+use Prim.Native.Nat.{ℕ, zero, suc, ◌+◌, ◌-◌, ◌≤◌, ◌<◌}
 use native.Mathlib.Omega.{arith}
+use mathlib.Core.Logic.{⊎_elim}
 use mathlib.Core.List.{List, [], ◌∷◌}
 use mathlib.Core.Bool.{Bool, true, false}
 use lib.ListN.{length, get_or, take, drop, length-take, length-drop}
 use borrow.Author.Tests.{eq-eqb, ne_eqb}
 use Rattle.rules.specs.Record.{u8}
+use Rattle.facts.proofs.Numbers.{lt-or-ge}
 use Rattle.class_layout.specs.Fragments.{stream_kind, event_kind, behind_fragment, Fragment}
 use Rattle.class_layout.specs.Sizes.{SizedFragment}
 use Rattle.bundle_table.specs.Kept.{marked, stood, bytes_of, kept_one}
@@ -21,6 +23,13 @@ module _ (t m : List ℕ) (o : ℕ) where
   pub event-stood : u8 t o ≡ event_kind → marked m o ≡ stood t m o
   unfolding stood
   event-stood k = rw (ne_eqb (u8 t o) stream_kind (λ e. omega arith), eq-eqb (u8 t o) event_kind k, stood)
+
+  -- their numbers are neighbours
+  pub marked-stood : stream_kind ≤ u8 t o → u8 t o ≤ event_kind → marked m o ≡ stood t m o
+  marked-stood j k = ⊎_elim
+      (λ (l : u8 t o < event_kind). stream-stood (omega arith))
+      (λ (l : event_kind ≤ u8 t o). event-stood (omega arith))
+      (lt-or-ge (u8 t o) event_kind)
 
   pub other-stood : (u8 t o ≡ stream_kind → ⊥) → (u8 t o ≡ event_kind → ⊥) → true ≡ stood t m o
   unfolding stood

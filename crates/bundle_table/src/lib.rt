@@ -9,6 +9,7 @@ ghost use Rattle.std.proofs.Math.Seq.{paste};
 ghost use Rattle.class_layout.specs.Sizes.{Sized, SizedFragment};
 ghost use Rattle.bundle_table.specs.Kept.{stood, kept_one, kept, in_front};
 
+use class_layout::walk::fragments;
 use numbers::kinds;
 use table_bytes::size_at;
 use table_records::bodies::PREAMBLE_SIZE;
@@ -19,10 +20,8 @@ pub fn kept_length(table: &[u8], sizes: &[u16], marks: &[u8]) -> usize
     ensures { result ≡ length (kept table.now marks.now) }
 {
     let mut count = preamble_size(table);
-    let mut at = PREAMBLE_SIZE;
-    while at < table.len() {
+    for at in fragments(table, sizes) {
         count = count + kept_size(table, sizes, marks, at);
-        at = at + size_at(sizes, at);
     }
     count
 }
@@ -35,12 +34,10 @@ pub fn copy_kept(table: &[u8], sizes: &[u16], marks: &[u8], out: &mut [u8])
 {
     let mut to = preamble_size(table);
     copy(table, 0, to, out, 0);
-    let mut at = PREAMBLE_SIZE;
-    while at < table.len() {
+    for at in fragments(table, sizes) {
         let size = kept_size(table, sizes, marks, at);
         copy(table, at, size, out, to);
         to = to + size;
-        at = at + size_at(sizes, at);
     }
 }
 
@@ -48,10 +45,7 @@ pub fn copy_kept(table: &[u8], sizes: &[u16], marks: &[u8], out: &mut [u8])
 fn preamble_size(table: &[u8]) -> usize
     ensures { result ≡ length (take 2 table.now) }
 {
-    if table.len() < PREAMBLE_SIZE {
-        return table.len();
-    }
-    PREAMBLE_SIZE
+    table.len().min(PREAMBLE_SIZE)
 }
 
 // How many bytes of a fragment stay: all, or none.
@@ -69,14 +63,10 @@ fn stays(table: &[u8], marks: &[u8], fragment: usize) -> bool
     requires { (fragment < length table.now) × (fragment < length marks.now) }
     ensures { result ≡ stood table.now marks.now fragment }
 {
-    let kind = table[fragment];
-    if kind == kinds::STREAM_CLASS {
-        return 0 < marks[fragment];
+    match table[fragment] {
+        kinds::STREAM_CLASS | kinds::EVENT_CLASS => 0 < marks[fragment],
+        _ => true,
     }
-    if kind == kinds::EVENT_CLASS {
-        return 0 < marks[fragment];
-    }
-    true
 }
 
 // Puts so many bytes of a table, from one on, into a buffer.
@@ -84,9 +74,5 @@ fn copy(table: &[u8], from: usize, size: usize, out: &mut [u8], to: usize)
     requires { (from + size ≤ length table.now) × (to + size ≤ length out.old) }
     ensures { out.new ≡ paste out.old to (drop from table.now) size }
 {
-    let mut i = 0;
-    while i < size {
-        out[to + i] = table[from + i];
-        i = i + 1;
-    }
+    out[to..to + size].copy_from_slice(&table[from..from + size]);
 }

@@ -4,11 +4,12 @@
 
 ghost use Rattle.std.specs.Prelude.{◌≡◌};
 ghost use Rattle.table_offsets.specs.Check.{length_ok, count_ok, number_fault, slot_fault, kind_fault, class_fault};
+ghost use Rattle.table_offsets.specs.Faults.{fault_number};
 
-use numbers::{faults, kinds, limits, roots};
+use numbers::{kinds, limits, roots};
 use roles::role_ok;
 use table_bytes::within;
-use table_offsets::{Says, Under};
+use table_offsets::{Fault, Says, Under};
 use table_records::{head_fault, record_says};
 
 mod roles;
@@ -47,101 +48,89 @@ fn count_ok(kind: u8, count: usize) -> bool
     }
 }
 
-// Number 10, or 0. "Order is 0 little, 1 big. Align is an exponent 0 to 6."
-fn number_fault(says: Says) -> u8
-    ensures { result ≡ number_fault says }
+// Number 10. "Order is 0 little, 1 big. Align is an exponent 0 to 6."
+fn number_fault(says: Says) -> Result<(), Fault>
+    ensures { fault_number result ≡ number_fault says }
 {
-    if length_ok(says.kind, says.length) {} else {
-        return faults::NUMBER_OUT_OF_RANGE;
+    if !length_ok(says.kind, says.length) {
+        return Err(Fault::NumberOutOfRange);
     }
     if 1 < says.order {
-        return faults::NUMBER_OUT_OF_RANGE;
+        return Err(Fault::NumberOutOfRange);
     }
     let align_out = 6 < says.align;
     if align_out {
-        return faults::NUMBER_OUT_OF_RANGE;
+        return Err(Fault::NumberOutOfRange);
     }
     if within(says.sets, limits::FIRST_SLOT_OUT, limits::LAST_SLOT_OUT) {
-        return faults::NUMBER_OUT_OF_RANGE;
+        return Err(Fault::NumberOutOfRange);
     }
     if within(says.reads, limits::FIRST_SLOT_OUT, limits::LAST_SLOT_OUT) {
-        return faults::NUMBER_OUT_OF_RANGE;
+        return Err(Fault::NumberOutOfRange);
     }
     if numbers::roles::LAST_ROLE < says.role {
-        return faults::NUMBER_OUT_OF_RANGE;
+        return Err(Fault::NumberOutOfRange);
     }
-    if count_ok(says.kind, says.count) {} else {
-        return faults::NUMBER_OUT_OF_RANGE;
+    if !count_ok(says.kind, says.count) {
+        return Err(Fault::NumberOutOfRange);
     }
-    faults::NO_FAULT
+    Ok(())
 }
 
-// Number 11, or 0. "Packet roots read only 0 to 15; event roots read any"; none reads the mark that says that no slot is set.
-fn slot_fault(root: u8, sets: u8, reads: u8) -> u8
-    ensures { result ≡ slot_fault root sets reads }
+// Number 11. "Packet roots read only 0 to 15; event roots read any"; none reads the mark that says that no slot is set.
+fn slot_fault(root: u8, sets: u8, reads: u8) -> Result<(), Fault>
+    ensures { fault_number result ≡ slot_fault root sets reads }
 {
     if root < roots::EVENT_HEADER {
         let past_packet = limits::LAST_PACKET_SLOT < reads;
         if past_packet {
-            return faults::SLOT_NOT_ALLOWED;
+            return Err(Fault::SlotNotAllowed);
         }
         if within(sets, limits::FIRST_EVENT_SLOT, limits::LAST_SLOT_OUT) {
-            return faults::SLOT_NOT_ALLOWED;
+            return Err(Fault::SlotNotAllowed);
         }
-        return faults::NO_FAULT;
+        return Ok(());
     }
     if limits::LAST_SLOT < reads {
-        return faults::SLOT_NOT_ALLOWED;
+        return Err(Fault::SlotNotAllowed);
     }
     if sets < limits::FIRST_EVENT_SLOT {
-        return faults::SLOT_NOT_ALLOWED;
+        return Err(Fault::SlotNotAllowed);
     }
-    faults::NO_FAULT
+    Ok(())
 }
 
-// Number 9, or 0: each root is "followed by a structure"; elsewhere any class may stand.
-fn kind_fault(k: u8, start: usize, at: usize) -> u8
-    ensures { result ≡ kind_fault k start at }
+// Number 9: each root is "followed by a structure"; elsewhere any class may stand.
+fn kind_fault(k: u8, start: usize, at: usize) -> Result<(), Fault>
+    ensures { fault_number result ≡ kind_fault k start at }
 {
     if at == start {
         if k == kinds::STRUCTURE {
-            return faults::NO_FAULT;
+            return Ok(());
         }
-        return faults::KIND_NOT_ALLOWED;
+        return Err(Fault::KindNotAllowed);
     }
     if within(k, kinds::BIT_ARRAY, kinds::VARIANT) {
-        return faults::NO_FAULT;
+        return Ok(());
     }
-    faults::KIND_NOT_ALLOWED
+    Err(Fault::KindNotAllowed)
 }
 
-// The lowest number of the record at `at` as a class with so many depths left, or 0.
-pub fn class_fault(table: &[u8], under: Under, left: usize, at: usize) -> u8
-    ensures { result ≡ class_fault under left table.now at }
+// The lowest number of the record at `at` as a class with so many depths left.
+pub fn class_fault(table: &[u8], under: Under, left: usize, at: usize) -> Result<(), Fault>
+    ensures { fault_number result ≡ class_fault under left table.now at }
 {
-    let h = head_fault(table, at);
-    if h != faults::NO_FAULT {
-        return h;
-    }
-    let k = kind_fault(table[at], under.start, at);
-    if k != faults::NO_FAULT {
-        return k;
-    }
+    head_fault(table, at)?;
+    kind_fault(table[at], under.start, at)?;
     let y = record_says(table, at);
-    let n = number_fault(y);
-    if n != faults::NO_FAULT {
-        return n;
-    }
-    let s = slot_fault(under.root, y.sets, y.reads);
-    if s != faults::NO_FAULT {
-        return s;
-    }
-    if role_ok(y, under, at) {} else {
-        return faults::ROLE_NOT_ALLOWED;
+    number_fault(y)?;
+    slot_fault(under.root, y.sets, y.reads)?;
+    if !role_ok(y, under, at) {
+        return Err(Fault::RoleNotAllowed);
     }
     let too_deep = left == 0;
     if too_deep {
-        return faults::TOO_DEEP;
+        return Err(Fault::TooDeep);
     }
-    faults::NO_FAULT
+    Ok(())
 }

@@ -2,12 +2,14 @@
 // kept by their places alone, and their ranges are read again.
 #![tactic(auto)]
 
-ghost use Rattle.std.specs.Prelude.{◌≡◌, ◌+◌, ◌*◌, ◌^◌, ◌<◌, ◌≤◌};
-ghost use Rattle.table_offsets.specs.Check.{key as key_of, meets_here, meets_one, meets_option, meets_any, bounds_fault, range_fault, option_fault, ranges_at, latest};
+ghost use Rattle.std.specs.Prelude.{◌≡◌, ◌+◌, ◌*◌, ◌^◌, ◌<◌, length};
+ghost use Rattle.table_offsets.specs.Check.{key as key_of, meets_here, meets_one, meets_option, meets_any, latest};
+ghost use Rattle.table_offsets.specs.Check.{bounds_fault, range_fault, option_fault, ranges_at};
+ghost use Rattle.table_offsets.specs.Faults.{fault_number, walk};
 
-use numbers::{faults, kinds, limits};
+use numbers::{kinds, limits};
 use table_bytes::{byte, number, wide, wide32, within};
-use table_offsets::Walk;
+use table_offsets::{Fault, FaultAt};
 use table_records::{bodies, head_fault};
 
 // Half of the 64-bit words.
@@ -41,13 +43,11 @@ fn meets_one(table: &[u8], sign: u8, low: u64, high: u64, at: usize, n: usize) -
     ensures { result ≡ meets_one table.now sign low high at n }
 {
     let mut next = at;
-    let mut todo = n;
-    while 0 < todo {
+    for _ in 0..n {
         if meets_here(table, sign, low, high, next) {
             return true;
         }
         next = next + bodies::RANGE_SIZE;
-        todo = todo - 1;
     }
     false
 }
@@ -67,21 +67,11 @@ fn meets_option(table: &[u8], sign: u8, low: u64, high: u64, o: usize) -> bool
     )
 }
 
-// Whether low to high meets one of the ranges of the options at the first n places of `done`.
-fn meets(
-    table: &[u8],
-    sign: u8,
-    low: u64,
-    high: u64,
-    done: &[u32; limits::OPTION_LIMIT],
-    n: usize,
-) -> bool
-    requires { n ≤ 32 }
-    ensures { result ≡ meets_any table.now sign low high (latest done.now n) }
+// Whether low to high meets one of the ranges of the options at the places `done`.
+fn meets(table: &[u8], sign: u8, low: u64, high: u64, done: &[u32]) -> bool
+    ensures { result ≡ meets_any table.now sign low high (latest done.now (length done.now)) }
 {
-    let mut i = n;
-    while 0 < i {
-        i = i - 1;
+    for i in (0..done.len()).rev() {
         if meets_option(table, sign, low, high, wide32(done[i])) {
             return true;
         }
@@ -89,96 +79,79 @@ fn meets(
     false
 }
 
-// Number 13 of a range from low to high, or 0: "range low above high, mixed signs in one optional or variant, or ranges of two options
+// Number 13 of a range from low to high: "range low above high, mixed signs in one optional or variant, or ranges of two options
 // meeting". The first range of the optional or variant stands at `first`.
 fn bounds_fault(
     table: &[u8],
     first: usize,
-    done: &[u32; limits::OPTION_LIMIT],
-    n: usize,
+    done: &[u32],
     sign: u8,
     low: u64,
     high: u64,
-) -> u8
-    requires { (n ≤ 32) × (first < 2 ^ 63) }
-    ensures { result ≡ bounds_fault table.now first (latest done.now n) sign low high }
+) -> Result<(), Fault>
+    requires { first < 2 ^ 63 }
+    ensures { fault_number result ≡ bounds_fault table.now first (latest done.now (length done.now)) sign low high }
 {
     if high < low {
-        return faults::RANGES_CONTRADICT;
+        return Err(Fault::RangesContradict);
     }
     if byte(table, first + 1) != sign {
-        return faults::RANGES_CONTRADICT;
+        return Err(Fault::RangesContradict);
     }
-    if meets(table, sign, low, high, done, n) {
-        return faults::RANGES_CONTRADICT;
+    if meets(table, sign, low, high, done) {
+        return Err(Fault::RangesContradict);
     }
-    faults::NO_FAULT
+    Ok(())
 }
 
-// The lowest number of the record at `at` as a range, or 0.
-fn range_fault(
-    table: &[u8],
-    first: usize,
-    done: &[u32; limits::OPTION_LIMIT],
-    n: usize,
-    at: usize,
-) -> u8
-    requires { (n ≤ 32) × (first < 2 ^ 63) }
-    ensures { result ≡ range_fault table.now first (latest done.now n) at }
+// The lowest number of the record at `at` as a range.
+fn range_fault(table: &[u8], first: usize, done: &[u32], at: usize) -> Result<(), Fault>
+    requires { first < 2 ^ 63 }
+    ensures { fault_number result ≡ range_fault table.now first (latest done.now (length done.now)) at }
 {
-    let h = head_fault(table, at);
-    if h != faults::NO_FAULT {
-        return h;
-    }
+    head_fault(table, at)?;
     if table[at] != kinds::RANGE {
-        return faults::KIND_NOT_ALLOWED;
+        return Err(Fault::KindNotAllowed);
     }
     let sign = byte(table, at + 1);
     if 1 < sign {
-        return faults::NUMBER_OUT_OF_RANGE;
+        return Err(Fault::NumberOutOfRange);
     }
     let low = key(sign, number(table, at + 2, 8));
     let high = key(sign, number(table, at + 10, 8));
-    bounds_fault(table, first, done, n, sign, low, high)
+    bounds_fault(table, first, done, sign, low, high)
 }
 
 pub fn check_ranges(
     table: &[u8],
     first: usize,
-    done: &[u32; limits::OPTION_LIMIT],
-    n: usize,
+    done: &[u32],
     at: usize,
     count: usize,
-) -> Walk
-    requires { (n ≤ 32) × (first < 2 ^ 63) }
-    ensures { result ≡ ranges_at table.now first (latest done.now n) at count }
+) -> Result<usize, FaultAt>
+    requires { first < 2 ^ 63 }
+    ensures { walk result ≡ ranges_at table.now first (latest done.now (length done.now)) at count }
 {
     let mut next = at;
-    let mut todo = count;
-    while 0 < todo {
-        let f = range_fault(table, first, done, n, next);
-        if f != faults::NO_FAULT {
-            return Walk::Bad(f, next);
+    for _ in 0..count {
+        if let Err(fault) = range_fault(table, first, done, next) {
+            return Err(FaultAt { fault, byte: next });
         }
         next = next + bodies::RANGE_SIZE;
-        todo = todo - 1;
     }
-    Walk::Fine(next)
+    Ok(next)
 }
 
-// The lowest number of the record at `at` as an option, or 0.
-pub fn option_fault(table: &[u8], at: usize) -> u8
-    ensures { result ≡ option_fault table.now at }
+// The lowest number of the record at `at` as an option.
+pub fn option_fault(table: &[u8], at: usize) -> Result<(), Fault>
+    ensures { fault_number result ≡ option_fault table.now at }
 {
-    let h = head_fault(table, at);
-    if h != faults::NO_FAULT {
-        return h;
-    }
+    head_fault(table, at)?;
     if table[at] != kinds::OPTION {
-        return faults::KIND_NOT_ALLOWED;
+        return Err(Fault::KindNotAllowed);
     }
     if within(byte(table, at + 1), 1, limits::RANGE_LIMIT) {
-        return faults::NO_FAULT;
+        return Ok(());
     }
-    faults::NUMBER_OUT_OF_RANGE
+    Err(Fault::NumberOutOfRange)
 }

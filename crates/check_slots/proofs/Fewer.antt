@@ -124,7 +124,8 @@ module _ (f : Walk) (s : Steady f) where
   unfolding walk_options
   options-steady zero h k x l = refl
   options-steady (suc n) h k x l =
-      when_whole (is_whole x) _ _ (onward-alike (walk_options f n) (options-steady n) h k l _ _ (option-steady h k (record_of x) (behind x) l))
+      when_whole (is_whole x) _ _
+      (onward-alike (walk_options f n) (options-steady n) h k l _ _ (option-steady h k (record_of x) (behind x) l))
 
   shape-steady : (y : Said) (w : Shape) → Steady (walk_shape f y w)
   unfolding walk_shape

@@ -1,6 +1,7 @@
 pub mod Onward
 pub mod Sized
 pub mod Rising
+pub mod Within
 pub mod TieHomes
 pub mod TieClasses
 mod Fewer

@@ -67,7 +67,8 @@ pub is-a : (t : List ℕ) (k at : ℕ) → head_fault t at ≡ 0 → byte_at t a
 unfolding is_a
 is-a t k at h e = rw (eq-eqb (head_fault t at) 0 h, eq-eqb (byte_at t at) k e)
 
-pub is_among_lem : (t : List ℕ) (low high at : ℕ) → head_fault t at ≡ 0 → low ≤ byte_at t at → byte_at t at ≤ high → is_among t low high at ≡ true
+pub is_among_lem : (t : List ℕ) (low high at : ℕ) → head_fault t at ≡ 0 → low ≤ byte_at t at → byte_at t at ≤ high
+    → is_among t low high at ≡ true
 unfolding is_among inside
 is_among_lem t low high at h l u = rw (eq-eqb (head_fault t at) 0 h, le-leb low (byte_at t at) l, le-leb (byte_at t at) high u)
 

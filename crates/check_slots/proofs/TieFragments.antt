@@ -3,7 +3,7 @@
 use mathlib.Core.Path.{◌≡◌, refl, sym, ap, subst, ◌∙◌}
 use mathlib.Core.Bool.{Bool, true, false, ◌&&◌}
 use mathlib.Core.List.{List, [], ◌∷◌}
-use Prim.Native.Nat.{ℕ, zero, suc, ◌+◌, ◌-◌, ◌<◌, ◌≤◌}
+use Prim.Native.Nat.{ℕ, zero, suc, ◌+◌, ◌<◌, ◌≤◌}
 use native.Mathlib.Omega.{arith}
 use lib.ListN.{length, drop, length-replicate}
 use lib.Dec.{ltb, eqb}
@@ -14,7 +14,8 @@ use Rattle.rules.specs.Limits.{depth_limit}
 use Rattle.rules.specs.Record.{Fragment, preamble, trace_class, clock_class, stream_class, event_class}
 use Rattle.rules.specs.Record.{Record, record_of, behind}
 use Rattle.rules.specs.Homes.{Homes, no_homes as nothing_set, both, Walked, fault, walked, lost, onward, is_whole, is_any_root}
-use Rattle.rules.specs.Homes.{walk_class, walk_roots, homes_of as rules_homes, homes_before, header_homes, stream_homes, walk_rest, walk_opened}
+use Rattle.rules.specs.Homes.{walk_class, walk_roots, homes_of as rules_homes, homes_before, header_homes, stream_homes}
+use Rattle.rules.specs.Homes.{walk_rest, walk_opened}
 use Rattle.rules.specs.Homes.{walk_fragments, walk}
 use Rattle.table_offsets.specs.Bodies.{no_kind, body_mark}
 use Rattle.table_offsets.specs.Check.{pick_n, byte_at, u64}
@@ -25,8 +26,9 @@ use Rattle.table_offsets.proofs.TieKinds.{an_event, a_root, a_class, a_range, an
 use Rattle.check_slots.specs.Homes.{nowhere, fault_at, is_a, is_among, Spot, pick_p, pick_l, no_homes, class_at, roots_at, homes_of}
 use Rattle.check_slots.specs.Homes.{fragment_at, stream_roots, roots_before, header_with, streams_with, fragments_at, fault_of}
 use Rattle.check_slots.specs.Homes.{first_home_fault}
-use Rattle.check_slots.proofs.Onward.{a-here, among-here, nowhere-past, nowhere-within}
-use Rattle.check_slots.proofs.Rising.{not-among, roots-past, homes_none}
+use Rattle.check_slots.proofs.Onward.{a-here, among-here, nowhere-within}
+use Rattle.check_slots.proofs.Rising.{roots-past, homes_none}
+use Rattle.check_slots.proofs.Within.{fragments-past, fault-above, fault-none}
 use Rattle.check_slots.proofs.TieHomes.{Fresh, Rel, rel-first, rel-none, fresh-none, fresh-later}
 use Rattle.check_slots.proofs.TieClasses.{Tied, both-fault, both-walked, both-lost, Begun, none-tie, sooner, onward-tie, classes-tie}
 use Rattle.check_slots.proofs.TieClasses.{whole-test, whole_here, here-whole, is_among_lem}
@@ -68,7 +70,8 @@ module _ (t : List ℕ) (bytes : Bytes t) where
       (sym (root-test t at x b.rest)) (by (is_a t 6 at) refl (λ e y w g c. roots-tie n e (both g h) y w c))
     where
       by : (c : Bool) → is_a t 6 at ≡ c
-          → ((e : ℕ) (y w : List ℕ) (g : Homes) → Begun t 0 e (both g h) y w → Tied t 0 e w (walk_roots n (both g h) y) (roots_at t (e, w) n))
+          → ((e : ℕ) (y w : List ℕ) (g : Homes) → Begun t 0 e (both g h) y w
+          → Tied t 0 e w (walk_roots n (both g h) y) (roots_at t (e, w) n))
           → Tied t 0 at v (elim c [ true ↦ onward h (walk_class depth_limit h (behind x)) (walk_roots n) | false ↦ walked nothing_set x ])
           (pick_p c (roots_at t (class_at 9 t 0 (at + 2) v) n) (at, v))
       by true e rec = unfold pick_p in
@@ -115,7 +118,8 @@ module _ (t : List ℕ) (bytes : Bytes t) where
       }
 
   -- the roots from o on were walked, with some slots set before
-  kept-roots : (o e : ℕ) (h g : Homes) (x y : List ℕ) → 0 < o → Rest t o x → Rest t e y → walk_roots (length x) h x ≡ walked g y → Kept o e g
+  kept-roots : (o e : ℕ) (h g : Homes) (x y : List ℕ) → 0 < o → Rest t o x → Rest t e y → walk_roots (length x) h x ≡ walked g y
+      → Kept o e g
   unfolding homes_of
   kept-roots o e h g x y l r r' w =
       let n = rest-length t o x r in
@@ -129,7 +133,8 @@ module _ (t : List ℕ) (bytes : Bytes t) where
         size = length-replicate {A = ℕ} 256 0;
       } in
       kept-walked o e g y (roots_at t (o, no_homes) (length x)) l r'
-      (subst (λ (c : Walked). Tied t 0 o no_homes c (roots_at t (o, no_homes) (length x))) a (roots-tie (length x) o nothing_set x no_homes b))
+      (subst (λ (c : Walked). Tied t 0 o no_homes c (roots_at t (o, no_homes) (length x))) a
+      (roots-tie (length x) o nothing_set x no_homes b))
       (ap (λ (n : ℕ). (roots_at t (o, no_homes) n).1) n)
 
   -- the stream classes so far, by their places
@@ -159,11 +164,6 @@ module _ (t : List ℕ) (bytes : Bytes t) where
 pub data Ended (t : List ℕ) : Walked → ℕ → Type 0 where
   ended-fault : {y : List ℕ} {b : ℕ} → Rest t b y → b < length t → Ended t (fault y) (fault_at t b)
   ended-lost : {e : ℕ} → e ≤ length t → Ended t lost e
-
-fragments-past : (t : List ℕ) (header : ℕ) (os : List ℕ) (n at : ℕ) → length t ≤ at → fragments_at t header os at n ≡ at
-unfolding fragments_at pick_n
-fragments-past t header os zero at l = refl
-fragments-past t header os (suc n) at l = rw (not-among t 1 5 at l) (nowhere-past t at l)
 
 fragments-not : (t : List ℕ) (header : ℕ) (os : List ℕ) (n at : ℕ) → is_among t 1 5 at ≡ false
     → fragments_at t header os at (suc n) ≡ nowhere t at
@@ -276,7 +276,8 @@ module _ (t : List ℕ) (bytes : Bytes t) (n : ℕ) (F : Homes → List (ℕ × 
         let o = opens t header os at in
         rw (fragments-step t header os n at a 16 j (stream_roots t (u64 t (at + 1)) os) (o.stream-before i) header
         (o.header-old 5 i (λ e. omega arith)) os (o.streams-old 5 i (λ e. omega arith)))
-        (rest-tie (event_class (u64 t (at + 1)) (u64 t (at + 9))) h l at (at + 17) (behind x) (omega arith) (rest-behind t at x r whole 16 j)
+        (rest-tie (event_class (u64 t (at + 1)) (u64 t (at + 9))) h l at (at + 17) (behind x) (omega arith)
+        (rest-behind t at x r whole 16 j)
         (stream_roots t (u64 t (at + 1)) os) (listed t bytes at (u64 t (at + 1)) list) header os
         (λ k e y u g w. (kept-later t bytes header at e h u kept, listed-later t bytes at e u list)))
     opened-tie m z v a_root i j = absurd (omega (arith, (among-here t 1 5 at a).1))
@@ -342,16 +343,6 @@ fragments-tie t bytes (suc n) at x r h l header os kept list =
     here-tie t bytes n (walk_fragments n) (fragments-tie t bytes n) at x r h l header os kept list
 
 -- The whole table
-
-fault-above : (t : List ℕ) (b : ℕ) → fault_of t (fault_at t b) ≡ b
-unfolding fault_of pick_n
-fault-above t b =
-    let z : fault_at t b - length t - 1 ≡ b = omega arith in
-    rw (lt-ltb (length t) (fault_at t b) (omega arith), z)
-
-fault-none : (t : List ℕ) (e : ℕ) → e ≤ length t → fault_of t e ≡ length t
-unfolding fault_of pick_n
-fault-none t e l = rw (le-ltb (length t) e l)
 
 told : (t : List ℕ) {o : Walked} {e : ℕ} → Ended t o e
     → o ≡ elim (ltb (fault_of t e) (length t)) [ true ↦ fault (drop (fault_of t e) t) | false ↦ lost ]

@@ -1,7 +1,8 @@
 -- The walk of homes by offsets, as the code walks. A place below the table's length is a byte of it, where the walk goes on. The length is
 -- the end, and stands for "no such records here" too, since nothing is found there. A place above it is a fault: 1 more than the length,
 -- and the byte of the class at fault; nothing goes on from there. It is the rules' own walk (proofs/TieFragments).
-use Rattle.std.specs.Prelude.{ℕ, zero, suc, ◌+◌, ◌-◌, List, [], ◌∷◌, Bool, true, false, not, ◌&&◌, length, get_or, set, replicate, ltb, leb, eqb}
+use Rattle.std.specs.Prelude.{ℕ, zero, suc, ◌+◌, ◌-◌, List, [], ◌∷◌, Bool, true, false, not, ◌&&◌, length, get_or, set, replicate}
+use Rattle.std.specs.Prelude.{ltb, leb, eqb}
 use Rattle.table_offsets.specs.Bodies.{body_mark}
 use Rattle.table_offsets.specs.Check.{pick_n, pick_b, inside, byte_at, u64, head_fault, says_at}
 

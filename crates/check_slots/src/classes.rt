@@ -2,8 +2,9 @@
 ghost use Rattle.std.specs.Prelude.{◌≡◌, ◌≤◌, ◌<◌, ◌^◌, length};
 ghost use Rattle.rules.specs.Limits.{table_limit};
 ghost use Rattle.check_slots.specs.Homes.{set_elsewhere, noted, home_within, parts as parts_of, part_at, class_at, all_roots_at};
+ghost use Rattle.check_slots.specs.Told.{Told};
 
-use crate::steps::{behind_option, behind_ranges, class_size, is_a, left_from, nowhere};
+use crate::steps::{behind_option, behind_ranges, class_size, is_a, nowhere};
 use numbers::{kinds, limits};
 use table_bytes::{byte, wide, within};
 use table_records::{bodies, slot_named};
@@ -82,53 +83,54 @@ fn part_at(table: &[u8], at: usize, next: usize) -> usize
     }
 }
 
-// The class at `at`, whose home is given, with so many depths left.
-fn walk_class(table: &[u8], homes: &mut [u16], left: usize, home: u16, at: usize) -> usize
+// The class at `at`, whose home is given, with so many depths left: where the walk goes on, or the byte of a class at fault.
+fn walk_class(
+    table: &[u8],
+    homes: &mut [u16],
+    left: usize,
+    home: u16,
+    at: usize,
+) -> Result<usize, usize>
     requires { (length table.now ≤ table_limit) × ((length homes.old ≡ 256) × (home < 65535)) }
-    ensures place { result ≡ (class_at left table.now home at homes.old).0 }
+    ensures place { Told table.now at (class_at left table.now home at homes.old).0 result }
     ensures set { homes.new ≡ (class_at left table.now home at homes.old).1 }
 {
     if left == 0 {
-        return nowhere(table, at);
+        return Ok(nowhere(table, at));
     }
-    let size = class_size(table, at);
-    if size == 0 {
-        return nowhere(table, at);
-    }
+    let Some(size) = class_size(table, at) else {
+        return Ok(nowhere(table, at));
+    };
     let slot = slot_named(table, at);
     if elsewhere(homes, slot, home) {
-        return table.len() + 1 + at;
+        return Err(at);
     }
     note(homes, slot, home);
     let mut next = at + size;
     let is_leaf = byte(table, at) < kinds::STRUCTURE;
     if is_leaf {
-        return next;
+        return Ok(next);
     }
     let inner = home_within(table, home, at);
     let deeper = left - 1;
-    let mut todo = parts(table, at);
-    while 0 < todo {
-        next = walk_class(table, homes, deeper, inner, part_at(table, at, next));
-        todo = todo - 1;
+    for _ in 0..parts(table, at) {
+        next = walk_class(table, homes, deeper, inner, part_at(table, at, next))?;
     }
-    next
+    Ok(next)
 }
 
 // The roots from `at` on, whatever their numbers.
-pub(crate) fn walk_roots(table: &[u8], homes: &mut [u16], at: usize) -> usize
+pub(crate) fn walk_roots(table: &[u8], homes: &mut [u16], at: usize) -> Result<usize, usize>
     requires { (length table.now ≤ table_limit) × (length homes.old ≡ 256) }
-    ensures place { result ≡ (all_roots_at table.now at homes.old).0 }
+    ensures place { Told table.now at (all_roots_at table.now at homes.old).0 result }
     ensures set { homes.new ≡ (all_roots_at table.now at homes.old).1 }
 {
     let mut next = at;
-    let mut todo = left_from(table, at);
-    while 0 < todo {
-        if is_a(table, kinds::ROOT, next) {} else {
-            return next;
+    for _ in 0..table.len().saturating_sub(at) {
+        if !is_a(table, kinds::ROOT, next) {
+            return Ok(next);
         }
-        next = walk_class(table, homes, DEPTHS, NO_ARRAY, next + bodies::ROOT_SIZE);
-        todo = todo - 1;
+        next = walk_class(table, homes, DEPTHS, NO_ARRAY, next + bodies::ROOT_SIZE)?;
     }
-    next
+    Ok(next)
 }

@@ -5,17 +5,18 @@
 // steps     which record stands at a byte, and where the walk goes on behind ranges and options
 // classes   a class and all that it holds; roots
 //
-// A place is a number: below the table's length a byte of it; the length, where the walk ends or finds no record that it can go over; above
-// it a fault, 1 more than the length and the byte of the class. Nothing goes on from the length or from above it, so that no step asks how
-// the one before it went. An event class begins with what its stream class's roots set. The homes of 128 such fragments are kept; if
-// they are not among these, the roots are walked anew. With more stream classes than that, each has few bytes: it is not worth the room.
+// A walk answers the place where it goes on, or the byte of a class at fault, which ends the walks around it too. A place below the
+// table's length is a byte of it; the length is where the walk ends or finds no record that it can go over, and nothing goes on from
+// there. An event class begins with what its stream class's roots set. The homes of 128 such fragments are kept; if they are not among
+// these, the roots are walked anew. With more stream classes than that, each has few bytes: it is not worth the room.
 #![tactic(auto)]
 
-ghost use Rattle.std.specs.Prelude.{◌≡◌, ◌≤◌, ◌<◌, ◌+◌, ◌^◌, eqb, length};
+ghost use Rattle.std.specs.Prelude.{◌≡◌, ◌≤◌, ◌<◌, ◌+◌, ◌^◌, [], eqb, length};
 ghost use Rattle.rules.specs.Limits.{table_limit};
 ghost use Rattle.table_offsets.specs.Check.{pick_n, latest};
 ghost use Rattle.check_slots.specs.Homes.{homes_of, all_roots_at, stream_roots, roots_before, header_with};
-ghost use Rattle.check_slots.specs.Homes.{fault_of as faultOfPlace, first_home_fault};
+ghost use Rattle.check_slots.specs.Homes.{fragments_at, first_home_fault};
+ghost use Rattle.check_slots.specs.Told.{Told};
 
 use classes::{SLOT_VALUES, walk_roots};
 use numbers::kinds;
@@ -39,7 +40,7 @@ fn homes_from(table: &[u8], before: usize) -> [u16; SLOT_VALUES]
     ensures { result ≡ homes_of table.now before }
 {
     let mut homes = [0u16; SLOT_VALUES];
-    let end = walk_roots(table, &mut homes, before);
+    let _ = walk_roots(table, &mut homes, before); // a fault is told where these roots are a fragment's own
     homes
 }
 
@@ -59,14 +60,10 @@ fn kept_at(places: &[usize; KEPT], before: usize, turn: usize) -> usize
     requires { turn < 128 }
     ensures { result < 128 }
 {
-    let mut i: usize = 0;
-    while i < KEPT {
-        if places[i] == before {
-            return i;
-        }
-        i = i + 1;
-    }
-    turn
+    places
+        .iter()
+        .position(|place| *place == before)
+        .unwrap_or(turn)
 }
 
 // The turn goes on where it was taken.
@@ -80,23 +77,20 @@ fn next_turn(turn: usize, i: usize) -> usize
     turn
 }
 
-// The roots from `at` on, where such slots have been set in the same packet or event.
-fn walk_fragment(table: &[u8], before: [u16; SLOT_VALUES], at: usize) -> usize
+// The roots from `at` on, where such slots have been set in the same packet or event: where they end, or the byte of a class at fault.
+fn walk_fragment(table: &[u8], before: [u16; SLOT_VALUES], at: usize) -> Result<usize, usize>
     requires { length table.now ≤ table_limit }
-    ensures { result ≡ (all_roots_at table.now at before).0 }
+    ensures { Told table.now at (all_roots_at table.now at before).0 result }
 {
     let mut homes = before;
     walk_roots(table, &mut homes, at)
 }
 
-// Where the roots of the latest stream class of an id begin, of those at the first n places; if there is none, the table's length.
-fn stream_roots(table: &[u8], id: u64, streams: &[u32; STREAMS], n: usize) -> usize
-    requires { n ≤ 6554 }
-    ensures { result ≡ stream_roots table.now id (latest streams.now n) }
+// Where the roots of the latest stream class of an id begin, of those at the places; if there is none, the table's length.
+fn stream_roots(table: &[u8], id: u64, streams: &[u32]) -> usize
+    ensures { result ≡ stream_roots table.now id (latest streams.now (length streams.now)) }
 {
-    let mut i = n;
-    while 0 < i {
-        i = i - 1;
+    for i in (0..streams.len()).rev() {
         let o = wide32(streams[i]);
         if number(table, o + 1, 8) == id {
             return o + bodies::STREAM_CLASS_SIZE;
@@ -106,14 +100,14 @@ fn stream_roots(table: &[u8], id: u64, streams: &[u32; STREAMS], n: usize) -> us
 }
 
 // Where the roots begin that the fragment at `at` has before its own in a packet or an event.
-fn roots_before(table: &[u8], header: usize, streams: &[u32; STREAMS], n: usize, at: usize) -> usize
-    requires { (n ≤ 6554) × (at < 2 ^ 62) }
-    ensures { result ≡ roots_before table.now header (latest streams.now n) at }
+fn roots_before(table: &[u8], header: usize, streams: &[u32], at: usize) -> usize
+    requires { at < 2 ^ 62 }
+    ensures { result ≡ roots_before table.now header (latest streams.now (length streams.now)) at }
 {
     let k = byte(table, at);
     match k {
         kinds::STREAM_CLASS => header,
-        kinds::EVENT_CLASS => stream_roots(table, number(table, at + 1, 8), streams, n),
+        kinds::EVENT_CLASS => stream_roots(table, number(table, at + 1, 8), streams),
         _ => table.len(),
     }
 }
@@ -131,17 +125,38 @@ fn header_with(table: &[u8], header: usize, at: usize) -> usize
 fn counted(k: u8) -> usize
     ensures { result ≡ pick_n (eqb k 4) 1 0 }
 {
-    let is_stream = k == kinds::STREAM_CLASS;
-    if is_stream { 1 } else { 0 }
+    usize::from(k == kinds::STREAM_CLASS)
 }
 
-fn fault_of(table: &[u8], place: usize) -> usize
-    ensures { result ≡ faultOfPlace table.now place }
+// The fragments from the table's start on.
+fn walk_fragments(table: &[u8]) -> Result<usize, usize>
+    requires { length table.now ≤ table_limit }
+    ensures { Told table.now 0 (fragments_at table.now (length table.now) [] 0 (length table.now)) result }
 {
-    if table.len() < place {
-        return place - table.len() - 1;
+    let mut known = [[0u16; SLOT_VALUES]; KEPT];
+    let mut places = [table.len(); KEPT];
+    let mut turn: usize = 0;
+    let mut streams = [0u32; STREAMS]; // the first `n` are the stream classes so far: there is no heap
+    let mut n: usize = 0;
+    let mut header = table.len();
+    let mut next: usize = 0;
+    for _ in 0..table.len() {
+        if !is_among(table, kinds::PREAMBLE, kinds::EVENT_CLASS, next) {
+            return Ok(nowhere(table, next));
+        }
+        let k = table[next];
+        let before = roots_before(table, header, &streams[..n], next);
+        header = header_with(table, header, next);
+        streams[n] = next as u32;
+        n += counted(k);
+        let i = kept_at(&places, before, turn);
+        let homes = renewed(table, known[i], places[i], before);
+        known[i] = homes;
+        places[i] = before;
+        turn = next_turn(turn, i);
+        next = walk_fragment(table, homes, next + 1 + wide(mark_of(k)))?;
     }
-    table.len()
+    Ok(next)
 }
 
 // The byte of the first class that sets a slot of another home, or the table's length where there is none: for every slice of bytes the
@@ -150,30 +165,8 @@ pub fn first_home_fault(table: &[u8]) -> usize
     requires { length table.now ≤ table_limit }
     ensures { result ≡ first_home_fault table.now }
 {
-    let mut known = [[0u16; SLOT_VALUES]; KEPT];
-    let mut places = [table.len(); KEPT];
-    let mut turn: usize = 0;
-    let mut streams = [0u32; STREAMS];
-    let mut n: usize = 0;
-    let mut header = table.len();
-    let mut next: usize = 0;
-    let mut todo = table.len();
-    while 0 < todo {
-        if is_among(table, kinds::PREAMBLE, kinds::EVENT_CLASS, next) {} else {
-            return fault_of(table, nowhere(table, next));
-        }
-        let k = table[next];
-        let before = roots_before(table, header, &streams, n, next);
-        header = header_with(table, header, next);
-        streams[n] = next as u32;
-        n = n + counted(k);
-        let i = kept_at(&places, before, turn);
-        let homes = renewed(table, known[i], places[i], before);
-        known[i] = homes;
-        places[i] = before;
-        turn = next_turn(turn, i);
-        next = walk_fragment(table, homes, next + 1 + wide(mark_of(k)));
-        todo = todo - 1;
+    match walk_fragments(table) {
+        Ok(_) => table.len(),
+        Err(at) => at,
     }
-    fault_of(table, next)
 }

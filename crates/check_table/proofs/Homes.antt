@@ -1,4 +1,7 @@
 -- The rules' answer is the earlier of both walks' by offsets: where that over homes finds a byte, the rules' walk finds it too.
+use Rattle.std.specs.Prelude.{Result}
+use Rattle.rules.specs.declared.TableFault.{TableFault}
+use Rattle.rules.specs.declared.ByteLength.{ByteLength}
 use mathlib.Core.Path.{◌≡◌, refl, sym, ap, ◌∙◌}
 use Prim.Native.Nat.{ℕ, ◌-◌, ◌≤◌, ◌<◌}
 use native.Mathlib.Omega.{arith}
@@ -9,8 +12,7 @@ use lib.ListN.{length, drop, length-drop}
 use lib.Dec.{ltb}
 use borrow.Author.Tests.{ltb-true, ltb-false}
 use Rattle.facts.specs.Bytes.{Bytes}
-use Rattle.rules.specs.declared.Checked.{Checked}
-use Rattle.rules.specs.Homes.{Walked, fault, lost, walk}
+use Rattle.rules.specs.Homes.{Walked, fault, lost}
 use Rattle.rules.specs.Parse.{checked}
 use Rattle.table_offsets.specs.Check.{checked_at}
 use Rattle.table_offsets.specs.Earlier.{fault_byte, earlier}
@@ -22,7 +24,7 @@ use Rattle.check_slots.proofs.TieFragments.{walk-tie}
 abbrev found : List ℕ → ℕ → Walked
 found t f = elim (ltb f (length t)) [ true ↦ fault (drop f t) | false ↦ lost ]
 
-by-walk : (t : List ℕ) (c : Checked) (f : ℕ) → earlier (length t) c (fault_byte t (found t f)) ≡ earlier (length t) c f
+by-walk : (t : List ℕ) (c : Result ByteLength TableFault) (f : ℕ) → earlier (length t) c (fault_byte t (found t f)) ≡ earlier (length t) c f
 unfolding fault_byte
 by-walk t c f = by (ltb f (length t)) refl
   where

@@ -8,21 +8,23 @@
 ghost use Rattle.std.specs.Prelude.{◌≡◌, false, [], ◌≤◌, ◌-◌, length};
 ghost use Rattle.rules.specs.Limits.{table_limit};
 ghost use Rattle.rules.specs.Parse.{checked};
+ghost use Rattle.rules.specs.Place.{byte_length};
+ghost use Rattle.rules.specs.Verdict.{table_fault};
 ghost use Rattle.table_offsets.specs.Check.{traced as tracedBy, counted as countedOf, fragments_at, checked_at};
 ghost use Rattle.table_offsets.specs.Earlier.{earlier};
+ghost use Rattle.table_offsets.specs.Faults.{number as numberOf};
 
 use check_fragment::{first_fault, fragment_fault, lowest};
-use check_order::PLACES;
 use check_roots::{roots_of, stray};
 use check_slots::first_home_fault;
-use numbers::{faults, kinds, limits};
-use rules::{ByteLength, Checked};
-use table_offsets::Walk;
+use numbers::{kinds, limits};
+use rules::{ByteLength, TableFault};
+use table_offsets::Fault;
 use table_records::bodies;
 
 // "Number 1 is tested first, at byte 0. Then the first record with a fault decides, by its first byte, and there the lowest number"
 // (Refusing a table): for every slice of bytes the rules' own answer.
-pub fn check(table: &[u8]) -> Checked
+pub fn check(table: &[u8]) -> Result<ByteLength, TableFault>
     ensures { result ≡ checked table.now }
 {
     let a = answer(table);
@@ -34,83 +36,100 @@ pub fn check(table: &[u8]) -> Checked
 }
 
 // Of a table of `size` bytes: its answer, or 11 at the byte `p` below the size, whichever comes first: "the first record with a fault
-// decides, by its first byte, and there the lowest number" (Refusing a table).
-fn earlier_of(size: usize, a: Checked, p: usize) -> Checked
+// decides, by its first byte, and there the lowest number" (Refusing a table). With no such byte `p` is the size (`first_home_fault`).
+fn earlier_of(
+    size: usize,
+    a: Result<ByteLength, TableFault>,
+    p: usize,
+) -> Result<ByteLength, TableFault>
     ensures { result ≡ earlier size a p }
 {
     if size <= p {
         return a;
     }
     match a {
-        Checked::Accepted(length) => Checked::Refused(faults::SLOT_NOT_ALLOWED, ByteLength(p)),
-        Checked::Refused(number, byte) => {
-            if p < byte.0 {
-                return Checked::Refused(faults::SLOT_NOT_ALLOWED, ByteLength(p));
+        Ok(_) => refused(Fault::SlotNotAllowed, p),
+        Err(fault) => {
+            let byte = fault.byte.0;
+            if p < byte {
+                return refused(Fault::SlotNotAllowed, p);
             }
-            if byte.0 < p {
-                return Checked::Refused(number, byte);
+            if byte < p {
+                return Err(fault);
             }
-            let is_higher = faults::SLOT_NOT_ALLOWED < number;
+            let is_higher = Fault::SlotNotAllowed.number() < fault.number;
             if is_higher {
-                return Checked::Refused(faults::SLOT_NOT_ALLOWED, ByteLength(p));
+                return refused(Fault::SlotNotAllowed, p);
             }
-            Checked::Refused(number, byte)
+            Err(fault)
         }
     }
 }
 
+fn refused(fault: Fault, byte: usize) -> Result<ByteLength, TableFault>
+    ensures { result ≡ Err (table_fault (numberOf fault) (byte_length byte)) }
+{
+    Err(TableFault {
+        number: fault.number(),
+        byte: ByteLength(byte),
+    })
+}
+
 // The answer by offsets, without the homes of slots.
-fn answer(table: &[u8]) -> Checked
+fn answer(table: &[u8]) -> Result<ByteLength, TableFault>
     ensures { result ≡ checked_at table.now }
 {
     if table.len() == 0 {
-        return Checked::Refused(faults::BAD_SIZE, ByteLength(0));
+        return refused(Fault::BadSize, 0);
     }
     let too_long = limits::TABLE_LIMIT < table.len();
     if too_long {
-        return Checked::Refused(faults::BAD_SIZE, ByteLength(0));
+        return refused(Fault::BadSize, 0);
     }
-    let f = first_fault(table);
-    if f != faults::NO_FAULT {
-        return Checked::Refused(f, ByteLength(0));
+    if let Err(fault) = first_fault(table) {
+        return refused(fault, 0);
     }
-    let s = stray(table, bodies::PREAMBLE_SIZE);
-    if s != faults::NO_FAULT {
-        return Checked::Refused(s, ByteLength(bodies::PREAMBLE_SIZE));
+    if let Err(fault) = stray(table, bodies::PREAMBLE_SIZE) {
+        return refused(fault, bodies::PREAMBLE_SIZE);
     }
     check_fragments(table, bodies::PREAMBLE_SIZE)
 }
 
+// One place more than the limit: a trace class, which does not count, may stand behind the last fragment that does.
+const PLACES: usize = limits::FRAGMENT_LIMIT + 1;
+
 // The fragments behind the preamble, which ends at `at`.
-fn check_fragments(table: &[u8], at: usize) -> Checked
+fn check_fragments(table: &[u8], at: usize) -> Result<ByteLength, TableFault>
     requires { (length table.now ≤ table_limit) × (at ≤ table_limit) }
     ensures { result ≡ fragments_at (length table.now - at) table.now false [] at }
 {
-    let mut seen = [0u32; PLACES];
+    let mut seen = [0u32; PLACES]; // the first `n` are the fragments so far: there is no heap
     let mut n: usize = 0;
     let mut trace = false;
     let mut next = at;
+    // by hand: a fragment ends where its roots do, which no range counts
     while next < table.len() {
-        let f = fragment_fault(table, trace, &seen, n, next);
-        if f != faults::NO_FAULT {
-            return Checked::Refused(f, ByteLength(next));
+        if let Err(fault) = fragment_fault(table, trace, &seen[..n], next) {
+            return refused(fault, next);
         }
         let k = table[next];
         seen[n] = next as u32;
         n = n + counted(k);
         trace = traced(trace, k);
-        let r = roots_of(table, next);
-        match r {
-            Walk::Bad(m, p) => {
-                let low = lowest(table, trace, &seen, n, m, p);
-                return Checked::Refused(low, ByteLength(p));
+        match roots_of(table, next) {
+            Err(found) => {
+                let low = lowest(table, trace, &seen[..n], found.fault.number(), found.byte);
+                return Err(TableFault {
+                    number: low,
+                    byte: ByteLength(found.byte),
+                });
             }
-            Walk::Fine(e) => {
-                next = e;
+            Ok(end) => {
+                next = end;
             }
         }
     }
-    Checked::Accepted(ByteLength(table.len()))
+    Ok(ByteLength(table.len()))
 }
 
 fn counted(k: u8) -> usize

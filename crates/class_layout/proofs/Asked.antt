@@ -1,17 +1,16 @@
 -- What a reading asks an accepted table is what stands at its fragments' places, and each fragment stands whole.
 -- In order: one fragment, by its kind; the fragments to the end; the table.
+use Rattle.std.specs.Prelude.{Option, Some, Ok}
 use mathlib.Core.Path.{◌≡◌, refl, ap, ◌∙◌}
 use Prim.Native.Nat.{ℕ, zero, suc, ◌+◌, ◌-◌, ◌≤◌}
 use native.Mathlib.Omega.{arith}
 use mathlib.Core.List.{List, [], ◌∷◌}
 use mathlib.Core.Bool.{Bool, true, false, not, ◌&&◌, ◌||◌}
-use mathlib.Core.Option.{Option, some}
 use lib.ListN.{length, take, drop, length-drop, drop_of_length-le}
 use lib.Seq.{drop-cons}
 use lib.Dec.{ltb, eqb}
 use borrow.Author.Tests.{ltb-true, ltb-false}
 use Rattle.rules.specs.declared.ByteLength.{ByteLength}
-use Rattle.rules.specs.declared.Checked.TheVariants.{Accepted}
 use Rattle.rules.specs.Place.{byte_length}
 use Rattle.rules.specs.Class.{Class}
 use Rattle.rules.specs.Record.{Fragment as Opening, preamble, trace_class, clock_class, stream_class, event_class, Record, unknown, fragment}
@@ -93,29 +92,29 @@ module _ (t : List ℕ) where
   none-tabled = record { each = tt; uuid = refl; header = refl; stream = λ i. refl; event = λ i j. refl }
 
   found : {A B : Type 0} (f : A → B) (b : Bool) (a : A) (o : Option A) (c : B) (p : Option B) → c ≡ f a → p ≡ map_option f o
-      → ◌≡◌ {A = Option B} (elim b [ true ↦ some c | false ↦ p ]) (map_option f (elim b [ true ↦ some a | false ↦ o ]))
+      → ◌≡◌ {A = Option B} (elim b [ true ↦ Some c | false ↦ p ]) (map_option f (elim b [ true ↦ Some a | false ↦ o ]))
   unfolding map_option
-  found f true a o c p e h = ap some e
+  found f true a o c p e h = ap Some e
   found f false a o c p e h = h
 
   -- the lookups at a fragment of the kind k
   module _ (at k : ℕ) (os : List ℕ) (e : u8 t at ≡ k) where
-    trace-here : find_trace_at t (at ∷ os) ≡ elim (eqb k 2) [ true ↦ some at | false ↦ find_trace_at t os ]
+    trace-here : find_trace_at t (at ∷ os) ≡ elim (eqb k 2) [ true ↦ Some at | false ↦ find_trace_at t os ]
     unfolding first_of is_trace
-    trace-here = ap {B = Option ℕ} (λ k. elim (eqb k 2) [ true ↦ some at | false ↦ find_trace_at t os ]) e
+    trace-here = ap {B = Option ℕ} (λ k. elim (eqb k 2) [ true ↦ Some at | false ↦ find_trace_at t os ]) e
 
     stream-here : (i : ℕ)
-        → find_stream_at t (at ∷ os) i ≡ elim (eqb k 4 && eqb (u64 t (at + 1)) i) [ true ↦ some at | false ↦ find_stream_at t os i ]
+        → find_stream_at t (at ∷ os) i ≡ elim (eqb k 4 && eqb (u64 t (at + 1)) i) [ true ↦ Some at | false ↦ find_stream_at t os i ]
     unfolding first_of is_stream
-    stream-here i = ap {B = Option ℕ} (λ k. elim (eqb k 4 && eqb (u64 t (at + 1)) i) [ true ↦ some at | false ↦ find_stream_at t os i ]) e
+    stream-here i = ap {B = Option ℕ} (λ k. elim (eqb k 4 && eqb (u64 t (at + 1)) i) [ true ↦ Some at | false ↦ find_stream_at t os i ]) e
 
     event-here : (i j : ℕ)
         → find_event_at t (at ∷ os) i j
-        ≡ elim (eqb k 5 && (eqb (u64 t (at + 1)) i && eqb (u64 t (at + 9)) j)) [ true ↦ some at | false ↦ find_event_at t os i j ]
+        ≡ elim (eqb k 5 && (eqb (u64 t (at + 1)) i && eqb (u64 t (at + 9)) j)) [ true ↦ Some at | false ↦ find_event_at t os i j ]
     unfolding first_of is_event
     event-here i j =
         ap {B = Option ℕ}
-        (λ k. elim (eqb k 5 && (eqb (u64 t (at + 1)) i && eqb (u64 t (at + 9)) j)) [ true ↦ some at | false ↦ find_event_at t os i j ])
+        (λ k. elim (eqb k 5 && (eqb (u64 t (at + 1)) i && eqb (u64 t (at + 9)) j)) [ true ↦ Some at | false ↦ find_event_at t os i j ])
         e
 
   added : (q : Ids) (g : Opening) (at : ℕ) (cs : List (Option Class)) (os : List ℕ) (T : Table) → record_of (drop at t) ≡ fragment g
@@ -339,11 +338,11 @@ pub record Accepts (t : List ℕ) : Type 0 where
   pub streams : (i : ℕ) → FirstOf (is_stream t i) (fragments_of t)
   pub firsts : (i j : ℕ) → FirstOf (is_event t i j) (fragments_of t)
 
-pub checked-accepts : (t : List ℕ) (n : ByteLength) → checked t ≡ Accepted n → Accepts t
+pub checked-accepts : (t : List ℕ) (n : ByteLength) → checked t ≡ Ok n → Accepts t
 unfolding checked checked_of
 checked-accepts t n h = by (parse t) refl h
   where
-    by : (o : Parsed Table) → parse t ≡ o → checked_of t o ≡ Accepted n → Accepts t
+    by : (o : Parsed Table) → parse t ≡ o → checked_of t o ≡ Ok n → Accepts t
     by (bad m x) e h = let z : ◌≡◌ {A = ℕ} 0 1 = cc in absurd (omega arith)
     by (good T y) e h = record {
       limit = table-size t T y e;
@@ -354,10 +353,10 @@ checked-accepts t n h = by (parse t) refl h
     }
 
 -- a table that is accepted is so to its end
-pub checked-whole : (t : List ℕ) (n : ByteLength) → checked t ≡ Accepted n → checked t ≡ Accepted (byte_length (length t))
+pub checked-whole : (t : List ℕ) (n : ByteLength) → checked t ≡ Ok n → checked t ≡ Ok (byte_length (length t))
 unfolding checked
 checked-whole t n h = by (parse t) h
   where
-    by : (o : Parsed Table) → checked_of t o ≡ Accepted n → checked_of t o ≡ Accepted (byte_length (length t))
+    by : (o : Parsed Table) → checked_of t o ≡ Ok n → checked_of t o ≡ Ok (byte_length (length t))
     by (bad m y) h = let z : ◌≡◌ {A = ℕ} 0 1 = unfold checked_of in cc in absurd (omega arith)
     by (good T y) h = unfold checked_of in refl

@@ -1,4 +1,5 @@
 -- The class record that stands at a byte: what it says, by what it announces, and the length that the table of body lengths has for it.
+use Rattle.std.specs.Prelude.{Some, None}
 use mathlib.Core.Path.{◌≡◌, refl, sym, ap, ◌∙◌}
 use Prim.Native.Nat.{ℕ, zero, suc, ◌+◌, ◌-◌, ◌≤◌, ◌<◌}
 use native.Mathlib.Omega.{arith}
@@ -13,7 +14,6 @@ use Rattle.rules.specs.Record.{elements_of, option?, options, Says, says}
 use Rattle.rules.specs.Record.{class}
 use Rattle.rules.specs.Record.{u8, u16, Layout, no, bits_layout, layouts, size, record_of}
 use Rattle.table_offsets.specs.Bodies.{known, body_in, body_of}
-use Rattle.table_offsets.specs.declared.Body.TheVariants.{Bytes, Unknown}
 use Rattle.facts.proofs.Every.{both_left, both_right}
 use Rattle.class_layout.specs.Trees.{shapes, shape_of, record_size}
 use Rattle.class_layout.proofs.Records.{body, each_row, row, u8-body, number-body, of_kind, kind-of, size-at, record-at}
@@ -158,15 +158,15 @@ bodies-pass = tt
 body-small : (k : ℕ) → k < 35 → (get_or layouts k no).0 ≤ 17
 body-small k h = leb→le _ 17 (row (λ k l. leb l.0 17) 0 layouts bodies-pass k (unfold layouts in h))
 
-class-body : (k : ℕ) → 16 ≤ k → k ≤ 32 → body_of k ≡ Bytes (get_or layouts k no).0
+class-body : (k : ℕ) → 16 ≤ k → k ≤ 32 → body_of k ≡ Some (get_or layouts k no).0
 unfolding body_of body_in known
 class-body k a b =
     let c : (get_or layouts k no).1 [] ≡ class (said_at [] 0 (shape_of k)) = rw take-nil at ((row_of k a b).says [] 0) in rw (c, body_in)
 
-pub class-bytes : (k n : ℕ) → 16 ≤ k → k ≤ 32 → body_of k ≡ Bytes n → (n + 1 ≡ record_size (shape_of k)) × (n ≤ 17)
+pub class-bytes : (k n : ℕ) → 16 ≤ k → k ≤ 32 → body_of k ≡ Some n → (n + 1 ≡ record_size (shape_of k)) × (n ≤ 17)
 class-bytes k n a b e =
     let f : (get_or layouts k no).0 ≡ n = cc (class-body k a b) in
     (omega (arith, (row_of k a b).bytes), omega (arith, body-small k (omega arith)))
 
-pub class-known : (k : ℕ) → 16 ≤ k → k ≤ 32 → body_of k ≡ Unknown → ⊥
+pub class-known : (k : ℕ) → 16 ≤ k → k ≤ 32 → body_of k ≡ None → ⊥
 class-known k a b e = let z : ◌≡◌ {A = ℕ} 0 1 = cc (class-body k a b) in omega arith

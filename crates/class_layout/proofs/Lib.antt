@@ -19,7 +19,6 @@ pub mod Rooted
 mod Once
 pub mod Asked
 pub mod Lookups
-pub mod Ahead
 pub mod Turns
 pub mod Numbered
 pub mod NumberedReads
@@ -29,3 +28,4 @@ mod NumbersNoted
 mod Noted
 pub mod Reached
 pub mod Written
+pub mod Walked

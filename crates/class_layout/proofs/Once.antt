@@ -1,11 +1,11 @@
 -- No two stream classes of an accepted table have the same id, and no two event classes the same ids (7): the class at a fragment's place
 -- is the first of its ids. One fragment, under the ids seen before it; the walk over the fragments is in Asked.
+use Rattle.std.specs.Prelude.{None, Some}
 use mathlib.Core.Path.{◌≡◌, refl, sym, ◌∙◌}
 use Prim.Native.Nat.{ℕ, ◌+◌}
 use native.Mathlib.Omega.{arith}
 use mathlib.Core.List.{List, [], ◌∷◌}
 use mathlib.Core.Bool.{Bool, true, false, ◌&&◌, ◌||◌}
-use mathlib.Core.Option.{none, some}
 use lib.ListN.{drop}
 use lib.Dec.{eqb}
 use borrow.Author.Tests.{eqb-true, eq-eqb}
@@ -22,13 +22,13 @@ all_map f (o ∷ os) h = (f o h.0, all_map f os h.1)
 
 -- each of these that passes a test is the first that does
 abbrev pub FirstOf : (ℕ → Bool) → List ℕ → Type 0
-FirstOf f os = All (λ o. f o ≡ true → first_of f os ≡ some o) os
+FirstOf f os = All (λ o. f o ≡ true → first_of f os ≡ Some o) os
 
 -- One test, f, of a fragment's place: s says whether an id that it goes by was seen
 
 module _ (f : ℕ → Bool) (s : Ids → Bool) where
   pub record OnceOf (q : Ids) (os : List ℕ) : Type 0 where
-    pub new : s q ≡ true → first_of f os ≡ none
+    pub new : s q ≡ true → first_of f os ≡ None
     pub first : FirstOf f os
 
   -- what was seen stays seen; what the fragment has was not, and then is
@@ -48,11 +48,11 @@ module _ (f : ℕ → Bool) (s : Ids → Bool) where
     first = (λ b. rw (b, first_of), all_map (λ o k b. further o (k b) (f at) refl) os w.first);
   }
     where
-      new : s q ≡ true → (b : Bool) → f at ≡ b → first_of f (at ∷ os) ≡ none
+      new : s q ≡ true → (b : Bool) → f at ≡ b → first_of f (at ∷ os) ≡ None
       new e true b = absurd (clash (sym (h.own b).0 ∙ e))
       new e false b = rw (b, first_of) (w.new (h.kept e))
 
-      further : (o : ℕ) → first_of f os ≡ some o → (b : Bool) → f at ≡ b → first_of f (at ∷ os) ≡ some o
+      further : (o : ℕ) → first_of f os ≡ Some o → (b : Bool) → f at ≡ b → first_of f (at ∷ os) ≡ Some o
       further o k true b = let n = w.new (h.own b).1 in let z : ◌≡◌ {A = ℕ} 0 1 = cc in absurd (omega arith)
       further o k false b = rw (b, first_of) k
 

@@ -4,12 +4,12 @@
 -- opening-bytes, roots-passed              the record that opens a fragment, and those behind it up to the fragment's end
 -- root-number                              of the ith root's structure, by the records of the roots in front of it
 -- first-number … payload-number            of each root, as the rules number it
+use Rattle.std.specs.Prelude.{Option, None, Some}
 use mathlib.Core.Path.{◌≡◌, refl, ap, ◌∙◌}
 use Prim.Native.Nat.{ℕ, zero, suc, ◌+◌, ◌-◌, ◌≤◌, ◌<◌}
 use native.Mathlib.Omega.{arith}
 use mathlib.Core.List.{List, [], ◌∷◌}
 use mathlib.Core.Bool.{Bool, true, false}
-use mathlib.Core.Option.{Option, none, some}
 use lib.ListN.{length, get_or, drop}
 use Rattle.rules.specs.Limits.{depth_limit}
 use Rattle.rules.specs.Class.{records}
@@ -36,11 +36,11 @@ unfoldable pub records_before : List ℕ → ℕ → ℕ → ℕ
 records_before t o i = roots_records t (root_places t (o + opening_size (u8 t o)) (roots_of (u8 t o))) i
 
 module _ (t : List ℕ) where
-  none-some : {p : ℕ} → none ≡ some p → ⊥
+  none-some : {p : ℕ} → None ≡ Some p → ⊥
   none-some h = let z : ◌≡◌ {A = ℕ} 0 1 = cc in omega arith
 
   abbrev Wholes : List (Option ℕ) → Type 0
-  Wholes ps = (i p : ℕ) → get_or ps i none ≡ some p → IsWhole depth_limit t p
+  Wholes ps = (i p : ℕ) → get_or ps i None ≡ Some p → IsWhole depth_limit t p
 
   -- the records of some roots, from a byte on
   roots-row : (ns : List ℕ) (at : ℕ) → Wholes (root_places t at ns)
@@ -53,10 +53,10 @@ module _ (t : List ℕ) where
       Rest = (at : ℕ) → Wholes (root_places t at ns) → Passed t at (roots_records t (root_places t at ns) (length ns)) (behind_roots t at ns)
 
       by : (b : Bool) → root_here t at n ≡ b → Rest
-          → Wholes (elim b [ true ↦ some (at + 2) ∷ root_places t (next_at depth_limit t (at + 2)) ns | false ↦ none ∷ root_places t at ns ])
+          → Wholes (elim b [ true ↦ Some (at + 2) ∷ root_places t (next_at depth_limit t (at + 2)) ns | false ↦ None ∷ root_places t at ns ])
           → Passed t at
           (roots_records t
-          (elim b [ true ↦ some (at + 2) ∷ root_places t (next_at depth_limit t (at + 2)) ns | false ↦ none ∷ root_places t at ns ])
+          (elim b [ true ↦ Some (at + 2) ∷ root_places t (next_at depth_limit t (at + 2)) ns | false ↦ None ∷ root_places t at ns ])
           (suc (length ns)))
           (elim b [ true ↦ behind_roots t (next_at depth_limit t (at + 2)) ns | false ↦ behind_roots t at ns ])
       by true h rec w =
@@ -71,15 +71,15 @@ module _ (t : List ℕ) where
   Counted at m = 5 < u8 t at → number_at t at ≡ m
 
   abbrev Numbers : List (Option ℕ) → ℕ → Type 0
-  Numbers ps m = (i p : ℕ) → get_or ps i none ≡ some p → number_at t p ≡ m + 1 + roots_records t ps i
+  Numbers ps m = (i p : ℕ) → get_or ps i None ≡ Some p → number_at t p ≡ m + 1 + roots_records t ps i
 
   root-there : (at m : ℕ) (ps : List (Option ℕ)) → number_at t (at + 2) ≡ m + 1
-      → Numbers ps (m + (1 + records (class_at depth_limit t (at + 2)))) → Numbers (some (at + 2) ∷ ps) m
+      → Numbers ps (m + (1 + records (class_at depth_limit t (at + 2)))) → Numbers (Some (at + 2) ∷ ps) m
   unfolding roots_records root_records map_option
   root-there at m ps e r zero p k = let same : at + 2 ≡ p = cc in omega (arith, e, ap (number_at t) same)
   root-there at m ps e r (suc i) p k = omega (arith, r i p k)
 
-  root-absent : (m : ℕ) (ps : List (Option ℕ)) → Numbers ps m → Numbers (none ∷ ps) m
+  root-absent : (m : ℕ) (ps : List (Option ℕ)) → Numbers ps m → Numbers (None ∷ ps) m
   unfolding roots_records root_records map_option
   root-absent m ps r zero p k = absurd (none-some k)
   root-absent m ps r (suc i) p k = omega (arith, r i p k)
@@ -93,8 +93,8 @@ module _ (t : List ℕ) where
       Rest = (at m : ℕ) → Begins t at → Counted at m → Wholes (root_places t at ns) → Numbers (root_places t at ns) m
 
       by : (b : Bool) → root_here t at n ≡ b → Rest
-          → Wholes (elim b [ true ↦ some (at + 2) ∷ root_places t (next_at depth_limit t (at + 2)) ns | false ↦ none ∷ root_places t at ns ])
-          → Numbers (elim b [ true ↦ some (at + 2) ∷ root_places t (next_at depth_limit t (at + 2)) ns | false ↦ none ∷ root_places t at ns ]) m
+          → Wholes (elim b [ true ↦ Some (at + 2) ∷ root_places t (next_at depth_limit t (at + 2)) ns | false ↦ None ∷ root_places t at ns ])
+          → Numbers (elim b [ true ↦ Some (at + 2) ∷ root_places t (next_at depth_limit t (at + 2)) ns | false ↦ None ∷ root_places t at ns ]) m
       by true h rec w =
           let k = root-byte t at n h in
           let v = w 0 (at + 2) refl in
@@ -128,13 +128,13 @@ module _ (t : List ℕ) (o : ℕ) (f : Fragment t o) where
       let n = rw opening-bytes at (next-number f.begins (rw opening-bytes h)) in
       omega (arith, n, opening-number f.begins f.high)
 
-  root-counts : (i p : ℕ) → root_place t o i ≡ some p → number_at t p ≡ first_root + records_before t o i
+  root-counts : (i p : ℕ) → root_place t o i ≡ Some p → number_at t p ≡ first_root + records_before t o i
   unfolding root_place records_before
   root-counts i p e =
       root-numbers t (roots_of (u8 t o)) (o + opening_size (u8 t o)) 1 (begins-behind f.begins _ opening-bytes) behind-opening
       f.roots i p e
 
-pub root-number : (t : List ℕ) (o i p : ℕ) → Fragment t o → root_place t o i ≡ some p → number_at t p ≡ first_root + records_before t o i
+pub root-number : (t : List ℕ) (o i p : ℕ) → Fragment t o → root_place t o i ≡ Some p → number_at t p ≡ first_root + records_before t o i
 root-number t o i p f e = root-counts t o f i p e
 
 -- Each root: of a stream class its context, its event header and its common context; of an event class its specific context and its payload
@@ -143,7 +143,7 @@ before-second : (t : List ℕ) (o : ℕ) → records_before t o 1 ≡ root_recor
 unfolding records_before root_class root_place
 before-second t o = by (root_places t (o + opening_size (u8 t o)) (roots_of (u8 t o)))
   where
-    by : (ps : List (Option ℕ)) → roots_records t ps 1 ≡ root_records (map_option (class_at depth_limit t) (get_or ps 0 none))
+    by : (ps : List (Option ℕ)) → roots_records t ps 1 ≡ root_records (map_option (class_at depth_limit t) (get_or ps 0 None))
     by [] = unfold roots_records map_option root_records in refl
     by (p ∷ ps) = unfold roots_records in omega arith
 
@@ -153,25 +153,25 @@ before-third t o = by (root_places t (o + opening_size (u8 t o)) (roots_of (u8 t
   where
     by : (ps : List (Option ℕ))
         → roots_records t ps 2
-        ≡ root_records (map_option (class_at depth_limit t) (get_or ps 0 none)) + root_records (map_option (class_at depth_limit t) (get_or ps 1 none))
+        ≡ root_records (map_option (class_at depth_limit t) (get_or ps 0 None)) + root_records (map_option (class_at depth_limit t) (get_or ps 1 None))
     by [] = unfold roots_records map_option root_records in refl
     by (p ∷ []) = unfold roots_records map_option root_records in refl
     by (p ∷ q ∷ ps) = unfold roots_records in omega arith
 
 module _ (t : List ℕ) (o p : ℕ) (f : Fragment t o) where
   -- the trace class's header, a stream class's context, an event class's specific context
-  pub first-number : root_place t o 0 ≡ some p → number_at t p ≡ first_root
+  pub first-number : root_place t o 0 ≡ Some p → number_at t p ≡ first_root
   unfolding records_before roots_records
   first-number e = root-counts t o f 0 p e
 
-  pub header-number : root_place t o 1 ≡ some p → number_at t p ≡ header_number (stream_class_at t o)
+  pub header-number : root_place t o 1 ≡ Some p → number_at t p ≡ header_number (stream_class_at t o)
   unfolding stream_class_at
   header-number e = root-counts t o f 1 p e ∙ ap (λ n. first_root + n) (before-second t o)
 
-  pub common-number : root_place t o 2 ≡ some p → number_at t p ≡ common_number (stream_class_at t o)
+  pub common-number : root_place t o 2 ≡ Some p → number_at t p ≡ common_number (stream_class_at t o)
   unfolding stream_class_at
   common-number e = omega (arith, root-counts t o f 2 p e, before-third t o)
 
-  pub payload-number : root_place t o 1 ≡ some p → number_at t p ≡ payload_number (event_class_at t o)
+  pub payload-number : root_place t o 1 ≡ Some p → number_at t p ≡ payload_number (event_class_at t o)
   unfolding event_class_at
   payload-number e = root-counts t o f 1 p e ∙ ap (λ n. first_root + n) (before-second t o)

@@ -1,11 +1,11 @@
 -- What the rules' parse accepts as a fragment's roots are the classes at the roots' places, each whole.
+use Rattle.std.specs.Prelude.{Option, None, Some}
 use mathlib.Core.Path.{◌≡◌, refl, sym, ap, ◌∙◌, subst}
 use Prim.Native.Nat.{ℕ, zero, suc, ◌+◌, ◌≤◌, ◌<◌}
 use native.Mathlib.Omega.{arith}
 use mathlib.Core.List.{List, [], ◌∷◌, map}
 use mathlib.Core.Bool.{Bool, true, false, not, ◌&&◌}
 use mathlib.Core.Logic.{⊎_elim}
-use mathlib.Core.Option.{Option, none, some}
 use lib.ListN.{length, get_or, drop, length-drop, get_or-map}
 use lib.Dec.{ltb, leb, eqb}
 use borrow.Author.Tests.{lt-ltb, le-ltb, le-leb, lt-leb, eqb-true, eqb-false}
@@ -64,18 +64,18 @@ module _ (t : List ℕ) where
 
   pub record RootsStand (ps : List (Option ℕ)) (at next : ℕ) (cs : List (Option Class)) (x : List ℕ) : Type 0 where
     pub classes : cs ≡ map (map_option (class_at depth_limit t)) ps
-    pub wholes : (i p : ℕ) → get_or ps i none ≡ some p → IsWhole depth_limit t p
+    pub wholes : (i p : ℕ) → get_or ps i None ≡ Some p → IsWhole depth_limit t p
     pub rest : x ≡ drop next t
     pub within : next ≤ length t
     pub onward : at ≤ next
     pub begins : Begins t next
 
-  none-some : {p : ℕ} → none ≡ some p → ⊥
+  none-some : {p : ℕ} → None ≡ Some p → ⊥
   none-some h = let z : ◌≡◌ {A = ℕ} 0 1 = cc in omega arith
 
   root-there : (at next : ℕ) (ps : List (Option ℕ)) (c : Class) (cs bs : List (Option Class)) (x y z : List ℕ)
-      → Stands depth_limit t (at + 2) c x → RootsStand ps (next_at depth_limit t (at + 2)) next cs y → good (some c ∷ cs) y ≡ good bs z
-      → RootsStand (some (at + 2) ∷ ps) at next bs z
+      → Stands depth_limit t (at + 2) c x → RootsStand ps (next_at depth_limit t (at + 2)) next cs y → good (Some c ∷ cs) y ≡ good bs z
+      → RootsStand (Some (at + 2) ∷ ps) at next bs z
   unfolding map_option
   root-there at next ps c cs bs x y z a b e = record {
     classes = sym (good-value e) ∙ rw (← a.says, b.classes);
@@ -86,13 +86,13 @@ module _ (t : List ℕ) where
     begins = b.begins;
   }
     where
-      wholes : (i p : ℕ) → get_or (some (at + 2) ∷ ps) i none ≡ some p → IsWhole depth_limit t p
+      wholes : (i p : ℕ) → get_or (Some (at + 2) ∷ ps) i None ≡ Some p → IsWhole depth_limit t p
       wholes zero p e = subst (IsWhole depth_limit t) (cc) a.stands
       wholes (suc i) p e = b.wholes i p e
 
   root-absent : (at next : ℕ) (ps : List (Option ℕ)) (cs bs : List (Option Class)) (x z : List ℕ) → RootsStand ps at next cs x
-      → good (none ∷ cs) x ≡ good bs z
-      → RootsStand (none ∷ ps) at next bs z
+      → good (None ∷ cs) x ≡ good bs z
+      → RootsStand (None ∷ ps) at next bs z
   unfolding map_option
   root-absent at next ps cs bs x z b e =
       record {
@@ -104,7 +104,7 @@ module _ (t : List ℕ) where
         begins = b.begins;
       }
     where
-      wholes : (i p : ℕ) → get_or (none ∷ ps) i none ≡ some p → IsWhole depth_limit t p
+      wholes : (i p : ℕ) → get_or (None ∷ ps) i None ≡ Some p → IsWhole depth_limit t p
       wholes zero p e = absurd (none-some e)
       wholes (suc i) p e = b.wholes i p e
 
@@ -138,11 +138,11 @@ module _ (t : List ℕ) where
       by : (b : Bool) → root_here t at n ≡ b → Rest
           → elim b [
             | true ↦ then (parse_class q under depth_limit top (behind (drop at t))) λ c x.
-                then (parse_roots q timed u ns x) λ cs x. good (some c ∷ cs) x
-            | false ↦ then (parse_roots q timed u ns (drop at t)) λ cs x. good (none ∷ cs) x
+                then (parse_roots q timed u ns x) λ cs x. good (Some c ∷ cs) x
+            | false ↦ then (parse_roots q timed u ns (drop at t)) λ cs x. good (None ∷ cs) x
           ] ≡ good cs x
           → RootsStand
-          (elim b [ true ↦ some (at + 2) ∷ root_places t (next_at depth_limit t (at + 2)) ns | false ↦ none ∷ root_places t at ns ]) at
+          (elim b [ true ↦ Some (at + 2) ∷ root_places t (next_at depth_limit t (at + 2)) ns | false ↦ None ∷ root_places t at ns ]) at
           (elim b [ true ↦ behind_roots t (next_at depth_limit t (at + 2)) ns | false ↦ behind_roots t at ns ]) cs x
       by true h rec e =
           let size = root-size t at (root-byte at n h) in
@@ -158,6 +158,6 @@ module _ (t : List ℕ) where
 
   -- the ith root's class
   pub root-class : (ps : List (Option ℕ)) (at next : ℕ) (cs : List (Option Class)) (x : List ℕ) (i : ℕ) → RootsStand ps at next cs x
-      → root_of cs i ≡ map_option (class_at depth_limit t) (get_or ps i none)
+      → root_of cs i ≡ map_option (class_at depth_limit t) (get_or ps i None)
   unfolding root_of map_option
-  root-class ps at next cs x i h = rw h.classes (get_or-map (map_option (class_at depth_limit t)) ps i none)
+  root-class ps at next cs x i h = rw h.classes (get_or-map (map_option (class_at depth_limit t)) ps i None)

@@ -1,12 +1,12 @@
 -- What the rules' parse accepts at a byte of a table is the class that stands there, whole, and the parse goes on where that class ends.
 -- It goes from record to record: where one begins at that byte, one begins behind the class too.
 -- In order: ranges; members and options, whose classes are one depth less; a class.
+use Rattle.std.specs.Prelude.{Option, None, Some}
 use mathlib.Core.Path.{◌≡◌, refl, sym, ap, ◌∙◌}
 use Prim.Native.Nat.{ℕ, zero, suc, ◌+◌, ◌*◌, ◌≤◌, ◌<◌}
 use native.Mathlib.Omega.{arith}
 use mathlib.Core.List.{List, [], ◌++◌}
 use mathlib.Core.Bool.{false}
-use mathlib.Core.Option.{Option, none, some}
 use lib.ListN.{length, drop}
 use lib.Dec.{ltb}
 use borrow.Author.Tests.{ltb-false}
@@ -57,10 +57,10 @@ took-inside t m at v w l f e = record {
 -- the sign behind n ranges, of which the first has the sign g, under a sign
 unfoldable pub sign_from : ℕ → Sign → Option Sign → Option Sign
 sign_from zero g o = o
-sign_from (suc n) g none = some g
-sign_from (suc n) g (some s) = some s
+sign_from (suc n) g None = Some g
+sign_from (suc n) g (Some s) = Some s
 
-sign_kept : (n : ℕ) (g s : Sign) → sign_from n g (some s) ≡ some s
+sign_kept : (n : ℕ) (g s : Sign) → sign_from n g (Some s) ≡ Some s
 unfolding sign_from
 sign_kept zero g s = refl
 sign_kept (suc n) g s = refl
@@ -68,16 +68,16 @@ sign_kept (suc n) g s = refl
 sign-through : (m n : ℕ) (g s : Sign) (o : Option Sign) → 1 ≤ m → sign_from (suc n) g o ≡ sign_from n s (sign_from m g o)
 unfolding sign_from
 sign-through zero n g s o h = absurd (omega arith)
-sign-through (suc m) n g s none h = sym (sign_kept n s g)
-sign-through (suc m) n g s (some r) h = sym (sign_kept n s r)
+sign-through (suc m) n g s None h = sym (sign_kept n s g)
+sign-through (suc m) n g s (Some r) h = sym (sign_kept n s r)
 
-same_sign : (n : ℕ) (g : Sign) (o : Option Sign) → other_sign g o ≡ false → sign_from (suc n) g o ≡ some g
+same_sign : (n : ℕ) (g : Sign) (o : Option Sign) → other_sign g o ≡ false → sign_from (suc n) g o ≡ Some g
 unfolding sign_from other_sign
-same_sign n g none h = refl
-same_sign n plain (some plain) h = refl
-same_sign n plain (some signed) h = absurd (clash (sym h))
-same_sign n signed (some plain) h = absurd (clash (sym h))
-same_sign n signed (some signed) h = refl
+same_sign n g None h = refl
+same_sign n plain (Some plain) h = refl
+same_sign n plain (Some signed) h = absurd (clash (sym h))
+same_sign n signed (Some plain) h = absurd (clash (sym h))
+same_sign n signed (Some signed) h = refl
 
 -- a range with no fault has the sign so far
 range-sign : (o : Option Sign) (rs : List Range) (g l h : ℕ) → range_fault o rs (range g l h) ≡ 0 → other_sign (sign_of g) o ≡ false
@@ -123,12 +123,12 @@ module _ (t : List ℕ) where
       by rec (range g a b) e z m k =
           let r = range_at t at g a b e in
           let c = then-good _ _ p x (rw r.bytes at k) in
-          let s = rec (some (sign_of g)) (at + 18) c.value c.rest (omega (arith, r.bytes)) (begins-behind begun 18 r.bytes)
+          let s = rec (Some (sign_of g)) (at + 18) c.value c.rest (omega (arith, r.bytes)) (begins-behind begun 18 r.bytes)
           c.first in
           let g₁ : u8 t (at + 1) ≡ g = cc r.says in
           let l₁ : u64 t (at + 2) ≡ a = cc r.says in
           let h₁ : u64 t (at + 10) ≡ b = cc r.says in
-          let f₀ : sign_from (suc n) (sign_at t at) o ≡ some (sign_of g) = rw g₁ (same_sign n (sign_of g) o (range-sign o earlier g a b z)) in
+          let f₀ : sign_from (suc n) (sign_at t at) o ≡ Some (sign_of g) = rw g₁ (same_sign n (sign_of g) o (range-sign o earlier g a b z)) in
           let f₁ : sign_from (suc n) (sign_at t at) o ≡ c.value.0 = f₀ ∙ sym (sign_kept n _ (sign_of g)) ∙ ap (λ v. v.0) s.says in
           let f₂ : ranges_at t (at + 18) n ≡ c.value.1 = ap (λ v. v.1) s.says in
           let d : at + 18 + 18 * n ≡ at + 18 * suc n = omega arith in
@@ -261,12 +261,12 @@ module _ (t : List ℕ) where
         }
 
     flagged-or-not : (i n at : ℕ) (c : Class)
-        → selected i (sign_from n (sign_at t at) none, ranges_at t at n) c ≡ optional_of i (sign_at t at) (ranges_at t at n) c
+        → selected i (sign_from n (sign_at t at) None, ranges_at t at n) c ≡ optional_of i (sign_at t at) (ranges_at t at n) c
     unfolding selected sign_from ranges_at optional_of
     flagged-or-not i zero at c = refl
     flagged-or-not i (suc n) at c = refl
 
-    first-sign : (n : ℕ) (s : Sign) → 1 ≤ n → the_sign (sign_from n s none) ≡ s
+    first-sign : (n : ℕ) (s : Sign) → 1 ≤ n → the_sign (sign_from n s None) ≡ s
     unfolding the_sign sign_from
     first-sign zero s l = absurd (omega arith)
     first-sign (suc n) s l = refl
@@ -306,16 +306,16 @@ module _ (t : List ℕ) where
         took-inside t (dynamic_array (u8 t (at + 1)) (u8 t (at + 2))) at ((k.align, b.stands), tt) b (omega arith) refl a.second
     shape-stands z at option? c x k l begun e =
         let o = at + 3 + 18 * u8 t (at + 2) in
-        let a = then-good (parse_ranges q [] (u8 t (at + 2)) none (drop (at + 3) t)) _ c x e in
-        let b = ranges-stand q [] (u8 t (at + 2)) none (at + 3) a.value a.rest l begun a.first in
+        let a = then-good (parse_ranges q [] (u8 t (at + 2)) None (drop (at + 3) t)) _ c x e in
+        let b = ranges-stand q [] (u8 t (at + 2)) None (at + 3) a.value a.rest l begun a.first in
         let d = then-good (f inside (drop o t)) _ c x (rw b.rest at a.second) in
         let w = deeper inside o d.value d.rest b.begins d.first in
         took-inside t (selected (u8 t (at + 1)) a.value) at ((b.within, w.stands), b.stands) w (omega arith)
         (sym (flagged-or-not (u8 t (at + 1)) (u8 t (at + 2)) (at + 3) _) ∙ ap (λ p. selected (u8 t (at + 1)) p (h o).class) b.says)
         d.second
     shape-stands z at options c x k l begun e =
-        let a = then-good (parse_options q f (u8 t (at + 2)) (none, []) (drop (at + 3) t)) _ c x e in
-        let b = options-stand (u8 t (at + 2)) (none, []) (at + 3) a.value a.rest l begun a.first in
+        let a = then-good (parse_options q f (u8 t (at + 2)) (None, []) (drop (at + 3) t)) _ c x e in
+        let b = options-stand (u8 t (at + 2)) (None, []) (at + 3) a.value a.rest l begun a.first in
         let i : 1 ≤ u8 t (at + 2) = k.options refl in
         let j : at + 5 ≡ at + 3 + 2 = omega arith in
         took-inside t (λ p. variant (u8 t (at + 1)) (the_sign p.0) p.1) at ((i, b.stands.0), b.stands.1) b (omega arith)

@@ -1,20 +1,19 @@
 -- The loop over a fragment's roots: which root's place it still has to find from a byte on.
+use Rattle.std.specs.Prelude.{Option, None, Some}
 use mathlib.Core.Path.{◌≡◌, refl, sym, ap, ◌∙◌}
 use Prim.Native.Nat.{ℕ, zero, suc, ◌+◌, ◌-◌, ◌≤◌, ◌<◌}
 use native.Mathlib.Omega.{arith}
 use mathlib.Core.List.{List, [], ◌∷◌}
 use mathlib.Core.Bool.{Bool, true, false}
 use mathlib.Core.Logic.{⊎_elim}
-use mathlib.Core.Option.{Option, none, some}
 use lib.ListN.{length, get_or, get_or-eq_default}
 use Rattle.rules.specs.Limits.{depth_limit}
 use Rattle.rules.specs.Record.{u8}
 use Rattle.facts.proofs.Numbers.{lt-or-ge}
-use Rattle.class_layout.specs.declared.TablePlace.TheVariants.{At, Nothing}
 use Rattle.class_layout.specs.declared.openings.Opening.{Opening}
 use Rattle.class_layout.specs.Trees.{next_at, IsWhole}
 use Rattle.class_layout.specs.Fragments.{root_here, root_places, behind_roots, root_place, behind_fragment, Fragment}
-use Rattle.class_layout.specs.Sizes.{found_of, SizedRoots, SizedFragment, numbered, OpeningOf, behind_root, SizedRoot}
+use Rattle.class_layout.specs.Sizes.{SizedRoots, SizedFragment, numbered, OpeningOf, behind_root, SizedRoot}
 
 -- a class that stands whole begins before the table's end, past which every byte reads as 0
 pub whole-inside : (d : ℕ) (t : List ℕ) (p : ℕ) → IsWhole d t p → p < length t
@@ -27,7 +26,7 @@ whole-inside (suc d) t p w = ⊎_elim
 
 -- the place of the root n if it stands at a byte, and the places behind it
 abbrev place_here : List ℕ → ℕ → ℕ → Option ℕ
-place_here t at n = elim (root_here t at n) [ true ↦ some (at + 2) | false ↦ none ]
+place_here t at n = elim (root_here t at n) [ true ↦ Some (at + 2) | false ↦ None ]
 
 places-cons : (t : List ℕ) (at n : ℕ) (ns : List ℕ) → root_places t at (n ∷ ns) ≡ place_here t at n ∷ root_places t (behind_root t at n) ns
 unfolding root_places behind_root
@@ -35,8 +34,8 @@ places-cons t at n ns = by (root_here t at n)
   where
     by : (b : Bool)
         → ◌≡◌ {A = List (Option ℕ)}
-        (elim b [ true ↦ some (at + 2) ∷ root_places t (next_at depth_limit t (at + 2)) ns | false ↦ none ∷ root_places t at ns ])
-        (elim b [ true ↦ some (at + 2) | false ↦ none ] ∷ root_places t (elim b [ true ↦ next_at depth_limit t (at + 2) | false ↦ at ]) ns)
+        (elim b [ true ↦ Some (at + 2) ∷ root_places t (next_at depth_limit t (at + 2)) ns | false ↦ None ∷ root_places t at ns ])
+        (elim b [ true ↦ Some (at + 2) | false ↦ None ] ∷ root_places t (elim b [ true ↦ next_at depth_limit t (at + 2) | false ↦ at ]) ns)
     by true = refl
     by false = refl
 
@@ -53,29 +52,28 @@ length-numbered n (suc m) = ap suc (length-numbered (n + 1) m)
 pub record Turn (t s : List ℕ) (o turn at number left : ℕ) : Type 0 where
   pub more : ℕ
   pub enough : left < more
-  pub same : root_place t o turn ≡ get_or (root_places t at (numbered number more)) left none
-  pub roots : (j p : ℕ) → get_or (root_places t at (numbered number more)) j none ≡ some p
+  pub same : root_place t o turn ≡ get_or (root_places t at (numbered number more)) left None
+  pub roots : (j p : ℕ) → get_or (root_places t at (numbered number more)) j None ≡ Some p
       → IsWhole depth_limit t p × (p + get_or s p 0 ≡ next_at depth_limit t p)
 
 module _ (t : List ℕ) (o turn : ℕ) {r : Opening} (e : OpeningOf (u8 t o) r) where
-  places-are : (j : ℕ) → root_place t o j ≡ get_or (root_places t (o + r.size) (numbered r.first r.count)) j none
+  places-are : (j : ℕ) → root_place t o j ≡ get_or (root_places t (o + r.size) (numbered r.first r.count)) j None
   unfolding root_place
   places-are j = rw (e.size, ← e.roots)
 
-  pub turn-none : r.count ≤ turn → Nothing ≡ found_of (root_place t o turn)
-  unfolding found_of
+  pub turn-none : r.count ≤ turn → None ≡ root_place t o turn
   turn-none l =
       let ps = root_places t (o + r.size) (numbered r.first r.count) in
       let k : length ps ≤ turn =
       rw (length-places t (o + r.size) (numbered r.first r.count), length-numbered r.first r.count) l in
-      rw (places-are turn, get_or-eq_default ps none {n = turn} k)
+      rw (places-are turn, get_or-eq_default ps None {n = turn} k)
 
   pub turn-start : {s : List ℕ} → SizedFragment t s o → turn < r.count → Turn t s o turn (o + r.size) r.first turn
   turn-start h l = record {
     more = r.count;
     enough = l;
     same = places-are turn;
-    roots = λ j p k. let q : root_place t o j ≡ some p = places-are j ∙ k in (h.stands.roots j p q, h.roots j p q);
+    roots = λ j p k. let q : root_place t o j ≡ Some p = places-are j ∙ k in (h.stands.roots j p q, h.roots j p q);
   }
 
 -- the root at a byte, and those behind it
@@ -90,7 +88,7 @@ module _ {t s : List ℕ} {o turn at number left : ℕ} (h : Turn t s o turn at 
   next = by h.more left h.enough h.same h.roots
     where
       Roots : List (Option ℕ) → Type 0
-      Roots ps = (j p : ℕ) → get_or ps j none ≡ some p → IsWhole depth_limit t p × (p + get_or s p 0 ≡ next_at depth_limit t p)
+      Roots ps = (j p : ℕ) → get_or ps j None ≡ Some p → IsWhole depth_limit t p × (p + get_or s p 0 ≡ next_at depth_limit t p)
 
       behind : ℕ → List (Option ℕ)
       behind more = root_places t (behind_root t at number) (numbered (number + 1) more)
@@ -98,7 +96,7 @@ module _ {t s : List ℕ} {o turn at number left : ℕ} (h : Turn t s o turn at 
       sized : (more : ℕ) → Roots (place_here t at number ∷ behind more) → SizedRoot t s at number
       sized more r b = let w = r 0 (at + 2) (rw (b, place_here)) in (whole-inside depth_limit t (at + 2) w.0, w.1)
 
-      by : (more left : ℕ) → left < more → root_place t o turn ≡ get_or (root_places t at (numbered number more)) left none
+      by : (more left : ℕ) → left < more → root_place t o turn ≡ get_or (root_places t at (numbered number more)) left None
           → Roots (root_places t at (numbered number more))
           → Next t s o turn at number left
       by zero left l e r = absurd (omega arith)
@@ -120,12 +118,10 @@ module _ {t s : List ℕ} {o turn at number left : ℕ} (h : Turn t s o turn at 
   pub turn-next : {a : ℕ} → 0 < left → a ≡ behind_root t at number → Turn t s o turn a (number + 1) (left - 1)
   turn-next l e = rw e (next.later l)
 
-  pub turn-here : left ≤ 0 → root_here t at number ≡ true → At (at + 2) ≡ found_of (root_place t o turn)
-  unfolding found_of
+  pub turn-here : left ≤ 0 → root_here t at number ≡ true → Some (at + 2) ≡ root_place t o turn
   turn-here l b = rw (next.here l, b, place_here)
 
-  pub turn-absent : left ≤ 0 → root_here t at number ≡ false → Nothing ≡ found_of (root_place t o turn)
-  unfolding found_of
+  pub turn-absent : left ≤ 0 → root_here t at number ≡ false → None ≡ root_place t o turn
   turn-absent l b = rw (next.here l, b, place_here)
 
 -- The byte behind a fragment's roots: of those from a byte on, `left` are left
@@ -141,7 +137,7 @@ behind-cons t at n ns = by (root_here t at n)
 
 pub record RootsLeft (t s : List ℕ) (o at number left : ℕ) : Type 0 where
   pub same : behind_fragment t o ≡ behind_roots t at (numbered number left)
-  pub roots : (j p : ℕ) → get_or (root_places t at (numbered number left)) j none ≡ some p
+  pub roots : (j p : ℕ) → get_or (root_places t at (numbered number left)) j None ≡ Some p
       → IsWhole depth_limit t p × (p + get_or s p 0 ≡ next_at depth_limit t p)
 
 module _ {t s : List ℕ} {o : ℕ} where
@@ -149,7 +145,7 @@ module _ {t s : List ℕ} {o : ℕ} where
   unfolding behind_fragment
   roots-start h k e = record {
     same = rw (e.size, ← e.roots);
-    roots = λ j p f. let q : root_place t o j ≡ some p = places-are t o 0 e j ∙ f in (h.roots j p q, k j p q);
+    roots = λ j p f. let q : root_place t o j ≡ Some p = places-are t o 0 e j ∙ f in (h.roots j p q, k j p q);
   }
 
   pub roots-sized : {at number : ℕ} (left : ℕ) → 0 < left → RootsLeft t s o at number left → SizedRoot t s at number

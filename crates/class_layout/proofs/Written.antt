@@ -18,7 +18,7 @@ use Rattle.class_layout.specs.Notes.{Notes, notes, note_below, note_fragments, n
 use Rattle.class_layout.proofs.Numbers.{next-onward, behind-small}
 use Rattle.class_layout.proofs.Numbered.{class-opens-none}
 use Rattle.class_layout.proofs.NumbersNoted.{numbers-record}
-use Rattle.class_layout.proofs.Ahead.{none_left}
+use Rattle.class_layout.proofs.Walked.{none_left}
 use Rattle.class_layout.proofs.Asked.{Accepts}
 use Rattle.class_layout.proofs.Noted.{From, all_noted, prepared}
 

@@ -1,7 +1,6 @@
 -- Where the fragments of a table stand and where their roots do, and the two lookups by these places. Of an accepted table this is all
 -- that a reading asks (`asked_at`; proofs/Asked).
-use Rattle.std.specs.Prelude.{◌≡◌, ℕ, zero, suc, ◌+◌, ◌-◌, ◌≤◌, ◌<◌, List, [], ◌∷◌, Bool, true, false, not, ◌&&◌, length, get_or, take, drop, ltb, eqb}
-use Rattle.std.proofs.Math.Option.{Option, none, some}
+use Rattle.std.specs.Prelude.{◌≡◌, ℕ, zero, suc, ◌+◌, ◌-◌, ◌≤◌, ◌<◌, List, [], ◌∷◌, Bool, true, false, not, ◌&&◌, length, get_or, take, drop, ltb, eqb, Option, None, Some}
 use Rattle.rules.specs.Limits.{depth_limit, no_clock}
 use Rattle.rules.specs.Class.{Class}
 use Rattle.rules.specs.Record.{u8, u64}
@@ -39,7 +38,7 @@ root_here t at n = ltb (at + 1) (length t) && (eqb (u8 t at) 6 && eqb n (u8 t (a
 unfoldable pub root_places : List ℕ → ℕ → List ℕ → List (Option ℕ)
 root_places t at [] = []
 root_places t at (n ∷ ns) =
-    elim (root_here t at n) [ true ↦ some (at + 2) ∷ root_places t (next_at depth_limit t (at + 2)) ns | false ↦ none ∷ root_places t at ns ]
+    elim (root_here t at n) [ true ↦ Some (at + 2) ∷ root_places t (next_at depth_limit t (at + 2)) ns | false ↦ None ∷ root_places t at ns ]
 
 unfoldable pub behind_roots : List ℕ → ℕ → List ℕ → ℕ
 behind_roots t at [] = at
@@ -47,7 +46,7 @@ behind_roots t at (n ∷ ns) = elim (root_here t at n) [ true ↦ behind_roots t
 
 -- where the class of a fragment's ith root stands, counted from 0 in their turn
 unfoldable pub root_place : List ℕ → ℕ → ℕ → Option ℕ
-root_place t o i = get_or (root_places t (o + opening_size (u8 t o)) (roots_of (u8 t o))) i none
+root_place t o i = get_or (root_places t (o + opening_size (u8 t o)) (roots_of (u8 t o))) i None
 
 unfoldable pub behind_fragment : List ℕ → ℕ → ℕ
 behind_fragment t o = behind_roots t (o + opening_size (u8 t o)) (roots_of (u8 t o))
@@ -75,8 +74,8 @@ is_event t i j o = eqb (u8 t o) event_kind && (eqb (u64 t (o + 1)) i && eqb (u64
 
 -- the first place that passes a test
 unfoldable pub first_of : (ℕ → Bool) → List ℕ → Option ℕ
-first_of f [] = none
-first_of f (o ∷ os) = elim (f o) [ true ↦ some o | false ↦ first_of f os ]
+first_of f [] = None
+first_of f (o ∷ os) = elim (f o) [ true ↦ Some o | false ↦ first_of f os ]
 
 abbrev pub find_trace_at : List ℕ → List ℕ → Option ℕ
 find_trace_at t os = first_of (is_trace t) os
@@ -90,8 +89,8 @@ find_event_at t os i j = first_of (is_event t i j) os
 -- What a reading asks, by places
 
 unfoldable pub map_option : {A B : Type 0} → (A → B) → Option A → Option B
-map_option f none = none
-map_option f (some a) = some (f a)
+map_option f None = None
+map_option f (Some a) = Some (f a)
 
 unfoldable pub root_class : List ℕ → ℕ → ℕ → Option Class
 root_class t o i = map_option (class_at depth_limit t) (root_place t o i)
@@ -109,12 +108,12 @@ unfoldable pub event_class_at : List ℕ → ℕ → EventClass
 event_class_at t o = record { stream = u64 t (o + 1); id = u64 t (o + 9); specific = root_class t o 0; payload = root_class t o 1 }
 
 unfoldable pub uuid_at : List ℕ → Option ℕ → List ℕ
-uuid_at t none = []
-uuid_at t (some o) = uuid_of (u8 t (o + 1)) (take 16 (drop (o + 2) t))
+uuid_at t None = []
+uuid_at t (Some o) = uuid_of (u8 t (o + 1)) (take 16 (drop (o + 2) t))
 
 unfoldable pub header_at : List ℕ → Option ℕ → Option Class
-header_at t none = none
-header_at t (some o) = root_class t o 0
+header_at t None = None
+header_at t (Some o) = root_class t o 0
 
 unfoldable pub asked_at : List ℕ → Asked
 asked_at t = record {
@@ -130,7 +129,7 @@ pub record Fragment (t : List ℕ) (o : ℕ) : Type 0 where
   pub low : 2 ≤ u8 t o
   pub high : u8 t o ≤ 5
   pub there : o + opening_size (u8 t o) ≤ length t
-  pub roots : (i p : ℕ) → root_place t o i ≡ some p → IsWhole depth_limit t p
+  pub roots : (i p : ℕ) → root_place t o i ≡ Some p → IsWhole depth_limit t p
   pub onward : o < behind_fragment t o
   pub within : behind_fragment t o ≤ length t
   pub begins : Begins t o

@@ -1,21 +1,14 @@
 -- What a table's sizes say: how many bytes each fragment takes with its roots, and each class with all that it holds.
-use Rattle.std.specs.Prelude.{◌≡◌, ℕ, zero, suc, ◌+◌, ◌≤◌, ◌<◌, List, [], ◌∷◌, true, false, length, get_or, eqb}
-use Rattle.std.proofs.Math.Option.{Option, none, some}
+use Rattle.std.specs.Prelude.{◌≡◌, ℕ, zero, suc, ◌+◌, ◌-◌, ◌≤◌, ◌<◌, List, [], ◌∷◌, true, false, length, get_or, eqb, Option, None, Some}
 use Rattle.rules.specs.Record.{u8}
 use Rattle.rules.specs.Limits.{table_limit, depth_limit}
-use Rattle.class_layout.specs.declared.TablePlace.{TablePlace}
-use Rattle.class_layout.specs.declared.TablePlace.TheVariants.{At, Nothing}
 use Rattle.class_layout.specs.declared.openings.Opening.{Opening}
 use Rattle.class_layout.specs.Trees.{next_at}
-use Rattle.class_layout.specs.Fragments.{opening_size, roots_of, root_here, behind_fragment, fragments_of, root_place, Fragment, All}
-
-unfoldable pub found_of : Option ℕ → TablePlace
-found_of none = Nothing
-found_of (some p) = At p
+use Rattle.class_layout.specs.Fragments.{opening_size, roots_of, root_here, behind_fragment, fragments_from, fragments_of, root_place, Fragment, All}
 
 -- of the fragment at a byte, and of its roots' classes
 abbrev pub SizedRoots : List ℕ → List ℕ → ℕ → Type 0
-SizedRoots t s o = (i p : ℕ) → root_place t o i ≡ some p → p + get_or s p 0 ≡ next_at depth_limit t p
+SizedRoots t s o = (i p : ℕ) → root_place t o i ≡ Some p → p + get_or s p 0 ≡ next_at depth_limit t p
 
 pub record SizedFragment (t s : List ℕ) (o : ℕ) : Type 0 where
   pub stands : Fragment t o
@@ -26,6 +19,16 @@ pub record Sized (t s : List ℕ) : Type 0 where
   pub limit : length t ≤ table_limit
   pub room : length t ≤ length s
   pub each : All (SizedFragment t s) (fragments_of t)
+
+-- the places of the fragments from a byte on; each takes a byte or more, so that as many rounds as there are bytes left are enough
+unfoldable pub places_from : List ℕ → ℕ → List ℕ
+places_from t at = fragments_from (length t - at) t at
+
+-- so of all from a byte on
+pub record SizedFrom (t s : List ℕ) (at : ℕ) : Type 0 where
+  pub limit : length t ≤ table_limit
+  pub room : length t ≤ length s
+  pub each : All (SizedFragment t s) (places_from t at)
 
 -- What `root_place` goes by
 
@@ -51,4 +54,4 @@ SizedRoot t s at n = root_here t at n ≡ true → (at + 2 < length t) × (at + 
 
 -- "1 if it has a UUID else 0; 16 bytes"
 unfoldable pub uuid_place : List ℕ → ℕ → Option ℕ
-uuid_place t o = elim (eqb (u8 t (o + 1)) 0) [ true ↦ none | false ↦ some (o + 2) ]
+uuid_place t o = elim (eqb (u8 t (o + 1)) 0) [ true ↦ None | false ↦ Some (o + 2) ]

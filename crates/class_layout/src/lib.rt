@@ -1,24 +1,17 @@
 // What an accepted class table gives a reading: where each class stands whole (specs/Trees), where the fragments and their roots do
 // (specs/Fragments), what is noted of them once (specs/Notes), and that these are the rules' own (proofs). Here are the types that code
-// shares with these definitions, and the bytes of a class record. In openings: where a fragment's roots stand. In words: the word that is
-// noted of a class.
+// shares with these definitions, and the bytes of a class record. In openings: where a fragment's roots stand. In walk: a walk over
+// fragments. In words: the word that is noted of a class.
 #![tactic(auto)]
 
 ghost use Rattle.std.specs.Prelude.{◌≡◌, ◌≤◌};
 ghost use Rattle.class_layout.specs.Trees.{shape_of, record_size};
 
-use table_offsets::Body;
 use table_records::bodies::body_of;
 
 pub mod openings;
+pub mod walk;
 pub mod words;
-
-// Where something stands in the table; or there is none.
-#[derive(Clone, Copy)]
-pub enum TablePlace {
-    At(usize),
-    Nothing,
-}
 
 // Where a class ends, its alignment's exponent, and what it sets (words).
 #[derive(Clone, Copy)]
@@ -34,7 +27,7 @@ pub fn record_size(kind: u8) -> usize
     ensures { (result ≡ record_size (shape_of kind)) × (result ≤ 256) }
 {
     match body_of(kind) {
-        Body::Bytes(n) => n + 1,
-        Body::Unknown => 0,
+        Some(n) => n + 1,
+        None => 0,
     }
 }

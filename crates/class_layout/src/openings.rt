@@ -15,12 +15,8 @@ pub fn behind_fragment(table: &[u8], sizes: &[u16], fragment: usize) -> usize
 {
     let opens = opening_of(table[fragment]);
     let mut at = fragment + opens.size;
-    let mut number = opens.first;
-    let mut left = opens.count;
-    while 0 < left {
+    for number in opens.first..opens.first + opens.count {
         at = behind_root(table, sizes, at, number);
-        number = number + 1;
-        left = left - 1;
     }
     at
 }
@@ -30,7 +26,7 @@ pub fn behind_fragment(table: &[u8], sizes: &[u16], fragment: usize) -> usize
 pub struct Opening {
     pub size: usize,
     pub first: u8,
-    pub count: usize,
+    pub count: u8,
 }
 
 pub fn opening_of(kind: u8) -> Opening

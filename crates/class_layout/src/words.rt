@@ -1,6 +1,7 @@
 // The word that is noted of a class: its alignment's exponent; what the class sets with all that it holds, in a number: 0 where no slot,
 // i + 1 where just the slot i, SEVERAL where more than one; and its record's number within its fragment. So a reading tells in one step
-// what is forgotten around an array's element, and which field it was.
+// what is forgotten around an array's element, and which field it was. Packed, and no struct: memory is fixed, with one word for each byte
+// of the longest table.
 ghost use Rattle.std.specs.Prelude.{◌≡◌, ◌<◌};
 ghost use Rattle.class_layout.specs.Words.{align_of_word, sets_of_word, number_of_word, word_of, numbered_word, sets_one, sets_both};
 

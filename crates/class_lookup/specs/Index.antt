@@ -1,6 +1,5 @@
 -- The index of event classes: a place of the table in each of its words, or 0; how it is made, and what a search by it rests on.
-use Rattle.std.specs.Prelude.{◌≡◌, ℕ, zero, suc, ◌+◌, ◌*◌, ◌/◌, ◌%◌, ◌^◌, ◌<◌, List, [], ◌∷◌, true, false, length, get_or, set, eqb}
-use Rattle.std.proofs.Math.Option.{some}
+use Rattle.std.specs.Prelude.{◌≡◌, ℕ, zero, suc, ◌+◌, ◌*◌, ◌/◌, ◌%◌, ◌^◌, ◌<◌, List, [], ◌∷◌, true, false, length, get_or, set, eqb, Some}
 use Rattle.rules.specs.Record.{u8, u64}
 use Rattle.class_layout.specs.Fragments.{event_kind, is_event, find_event_at, fragments_of, Fragment}
 
@@ -32,7 +31,7 @@ indexed t (o ∷ os) l = indexed t os (index_one t o l)
 -- a fragment, and the first event class of its ids if it is one
 pub record Hint (t : List ℕ) (o : ℕ) : Type 0 where
   pub stands : Fragment t o
-  pub first : (i j : ℕ) → is_event t i j o ≡ true → find_event_at t (fragments_of t) i j ≡ some o
+  pub first : (i j : ℕ) → is_event t i j o ≡ true → find_event_at t (fragments_of t) i j ≡ Some o
 
 -- every word is 0, or such a place
 pub record Hints (t l : List ℕ) : Type 0 where

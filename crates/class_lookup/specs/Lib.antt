@@ -1,2 +1,3 @@
 pub mod Index
+pub mod Tests
 pub mod Probes

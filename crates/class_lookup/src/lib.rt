@@ -2,17 +2,19 @@
 // the sizes that `prepare` noted; an event class is looked up in an index that `make_index` fills once per reading.
 #![tactic(auto)]
 
-ghost use Rattle.std.specs.Prelude.{◌≡◌, ◌+◌, ◌≤◌, ◌<◌, ◌^◌, length};
-ghost use Rattle.class_layout.specs.Fragments.{is_trace, is_stream, is_event, find_trace_at, find_stream_at, find_event_at, fragments_of, Fragment};
-ghost use Rattle.class_layout.specs.Sizes.{Sized, found_of};
+ghost use Rattle.std.specs.Prelude.{◌≡◌, ℕ, ◌+◌, ◌≤◌, ◌<◌, ◌^◌, Bool, length};
+ghost use Rattle.class_layout.specs.Fragments.{is_trace, is_stream, is_event, first_of, fragments_of, Fragment};
+ghost use Rattle.class_layout.specs.Fragments.{find_trace_at, find_stream_at, find_event_at};
+ghost use Rattle.class_layout.specs.Sizes.{Sized};
 ghost use Rattle.class_lookup.specs.Index.{mixed, home_of, put_from, index_one, indexed, Hints};
+ghost use Rattle.class_lookup.specs.Tests.{Tests};
 
-use class_layout::TablePlace;
+use class_layout::walk::fragments;
 use numbers::kinds;
-use table_bytes::{size_at, u64_at, wide32};
-use table_records::bodies::PREAMBLE_SIZE;
+use table_bytes::{u64_at, wide32};
 
-// Places of the index: twice as many as there can be event classes (15), so that some are always empty.
+// Places of the index: twice as many as there can be event classes (15), so that some are always empty. By hand, and no map of the
+// library's: memory is fixed, and there is no heap.
 pub const PLACES: usize = 4096;
 
 // 2 to the 32: half of an id.
@@ -31,33 +33,19 @@ const ID_HIGH: u64 = 659168895;
 const MIXED: u64 = 2147483648;
 
 // The trace class.
-pub fn find_trace_class(table: &[u8], sizes: &[u16]) -> TablePlace
+pub fn find_trace_class(table: &[u8], sizes: &[u16]) -> Option<usize>
     requires { Sized table.now sizes.now }
-    ensures { result ≡ found_of (find_trace_at table.now (fragments_of table.now)) }
+    ensures { result ≡ find_trace_at table.now (fragments_of table.now) }
 {
-    let mut at = PREAMBLE_SIZE;
-    while at < table.len() {
-        if is_trace_class(table, at) {
-            return TablePlace::At(at);
-        }
-        at = at + size_at(sizes, at);
-    }
-    TablePlace::Nothing
+    first_fragment(table, sizes, |at| is_trace_class(table, at))
 }
 
 // The stream class that has an id.
-pub fn find_stream_class(table: &[u8], sizes: &[u16], id: u64) -> TablePlace
+pub fn find_stream_class(table: &[u8], sizes: &[u16], id: u64) -> Option<usize>
     requires { Sized table.now sizes.now }
-    ensures { result ≡ found_of (find_stream_at table.now (fragments_of table.now) id) }
+    ensures { result ≡ find_stream_at table.now (fragments_of table.now) id }
 {
-    let mut at = PREAMBLE_SIZE;
-    while at < table.len() {
-        if is_stream_class(table, at, id) {
-            return TablePlace::At(at);
-        }
-        at = at + size_at(sizes, at);
-    }
-    TablePlace::Nothing
+    first_fragment(table, sizes, |at| is_stream_class(table, at, id))
 }
 
 // The event class that has both ids: by the index, and where that does not have it, from the front.
@@ -67,23 +55,20 @@ pub fn find_event_class(
     index: &[u32],
     stream: u64,
     id: u64,
-) -> TablePlace
+) -> Option<usize>
     requires sized { Sized table.now sizes.now }
     requires hints { Hints table.now index.now }
-    ensures { result ≡ found_of (find_event_at table.now (fragments_of table.now) stream id) }
+    ensures { result ≡ find_event_at table.now (fragments_of table.now) stream id }
 {
-    let mut at = home(stream, id);
-    let mut left = PLACES;
-    while 0 < left {
-        let place = wide32(index[at]);
+    let from = home(stream, id);
+    for step in 0..PLACES {
+        let place = wide32(index[(from + step) % PLACES]);
         if place == 0 {
             break;
         }
         if is_event_class(table, place, stream, id) {
-            return TablePlace::At(place);
+            return Some(place);
         }
-        at = (at + 1) % PLACES;
-        left = left - 1;
     }
     search_event_class(table, sizes, stream, id)
 }
@@ -93,10 +78,8 @@ pub fn make_index(table: &[u8], sizes: &[u16], index: &mut [u32])
     requires { (Sized table.now sizes.now) × (length index.old ≡ 4096) }
     ensures { index.new ≡ indexed table.now (fragments_of table.now) index.old }
 {
-    let mut at = PREAMBLE_SIZE;
-    while at < table.len() {
+    for at in fragments(table, sizes) {
         index_one(table, index, at);
-        at = at + size_at(sizes, at);
     }
 }
 
@@ -119,15 +102,12 @@ fn put(index: &mut [u32], from: usize, place: usize)
     requires { (length index.old ≡ 4096) × (from < 4096) × (place < 2 ^ 32) }
     ensures { index.new ≡ put_from 4096 index.old from place }
 {
-    let mut at = from;
-    let mut left = PLACES;
-    while 0 < left {
+    for step in 0..PLACES {
+        let at = (from + step) % PLACES;
         if index[at] == 0 {
             index[at] = place as u32;
             return;
         }
-        at = (at + 1) % PLACES;
-        left = left - 1;
     }
 }
 
@@ -151,18 +131,26 @@ fn mix(stream: u64, id: u64) -> u64
 }
 
 // The event class that has both ids, from the front.
-fn search_event_class(table: &[u8], sizes: &[u16], stream: u64, id: u64) -> TablePlace
+fn search_event_class(table: &[u8], sizes: &[u16], stream: u64, id: u64) -> Option<usize>
     requires { Sized table.now sizes.now }
-    ensures { result ≡ found_of (find_event_at table.now (fragments_of table.now) stream id) }
+    ensures { result ≡ find_event_at table.now (fragments_of table.now) stream id }
 {
-    let mut at = PREAMBLE_SIZE;
-    while at < table.len() {
-        if is_event_class(table, at, stream, id) {
-            return TablePlace::At(at);
+    first_fragment(table, sizes, |at| is_event_class(table, at, stream, id))
+}
+
+// The first fragment that passes a test.
+fn first_fragment<F: Fn(usize) -> bool>(table: &[u8], sizes: &[u16], passes: F) -> Option<usize>
+    requires sized { Sized table.now sizes.now }
+    requires asked { (o : ℕ) → Fragment table.now o → F.pre passes o }
+    ensures { (test : ℕ → Bool) → Tests table.now (F.post passes) test
+        → result ≡ first_of test (fragments_of table.now) }
+{
+    for at in fragments(table, sizes) {
+        if passes(at) {
+            return Some(at);
         }
-        at = at + size_at(sizes, at);
     }
-    TablePlace::Nothing
+    None
 }
 
 fn is_trace_class(table: &[u8], at: usize) -> bool

@@ -6,7 +6,6 @@
 
 ghost use Rattle.std.specs.Prelude.{◌≡◌, ◌+◌, ◌≤◌, ◌<◌, length};
 ghost use Rattle.rules.specs.Record.{u8};
-ghost use Rattle.rules.specs.declared.Checked.TheVariants.{Accepted};
 ghost use Rattle.rules.specs.Place.{byte_length};
 ghost use Rattle.rules.specs.Parse.{checked};
 ghost use Rattle.class_layout.specs.Fragments.{fragments_of, AllFragments};
@@ -18,14 +17,14 @@ use class_layout::words::{with_number, word_of};
 use class_reach::reach_of;
 use numbers::kinds;
 use table_bytes::byte;
-use table_offsets::Body;
 use table_records::bodies::{PREAMBLE_SIZE, body_of};
 
 // Notes the sizes and alignments of an accepted table's classes, the sizes of its fragments, and the numbers of its records. The words of
 // bytes that are neither the number of a class's kind nor a record's first stay as they came. A size fits 16 bits: no class begins at byte
-// 0. So does a number: a record has one byte or more in front of it for each.
+// 0. So does a number: a record has one byte or more in front of it for each. Two lists, and not one of pairs: most lookups go by sizes
+// alone, and memory is fixed, of which pairs would take a third more.
 pub fn prepare(table: &[u8], sizes: &mut [u16], aligns: &mut [u32])
-    requires table_value { checked table.now ≡ Accepted (byte_length (length table.now)) }
+    requires table_value { checked table.now ≡ Ok (byte_length (length table.now)) }
     requires table_in_bounds { (length table.now ≤ length sizes.old) × (length table.now ≤ length aligns.old) }
     ensures { Made table.now (notes sizes.old aligns.old) (notes sizes.new aligns.new) }
 {
@@ -41,6 +40,7 @@ fn note_numbers(table: &[u8], aligns: &mut [u32])
 {
     let mut at = 0;
     let mut number = 0;
+    // by hand: a record's step is its size, and a walk of its own for this one loop would be longer than the loop
     while at < table.len() {
         aligns[at] = with_number(aligns[at], number);
         at = next_record(table, at);
@@ -54,8 +54,8 @@ fn next_record(table: &[u8], at: usize) -> usize
     ensures { (result ≡ next_record table.now at) × (result ≤ at + 18) }
 {
     match body_of(table[at]) {
-        Body::Bytes(n) => at + 1 + n,
-        Body::Unknown => at + 1,
+        Some(n) => at + 1 + n,
+        None => at + 1,
     }
 }
 
@@ -77,6 +77,7 @@ fn note_fragments(table: &[u8], sizes: &mut [u16])
     ensures { sizes.new ≡ note_fragments table.now (fragments_of table.now) sizes.old }
 {
     let mut at = PREAMBLE_SIZE;
+    // by hand: a walk (class_layout) goes by the sizes that are noted here first
     while at < table.len() {
         let next = behind_fragment(table, sizes, at);
         sizes[at] = (next - at) as u16;
@@ -89,9 +90,7 @@ fn note_classes(table: &[u8], sizes: &mut [u16], aligns: &mut [u32])
     requires { (length table.now ≤ length sizes.old) × (length table.now ≤ length aligns.old) × (length table.now ≤ 65536) × (u8 table.now 0 < 16) }
     ensures { notes sizes.new aligns.new ≡ note_below table.now (length table.now) (notes sizes.old aligns.old) }
 {
-    let mut at = table.len();
-    while 0 < at {
-        at = at - 1;
+    for at in (0..table.len()).rev() {
         note_class(table, at, sizes, aligns);
     }
 }

@@ -1,7 +1,7 @@
 // How far a class reaches: where it ends, its alignment, and what it sets, by what is noted of the classes behind its record.
 #![tactic(auto)]
 
-ghost use Rattle.std.specs.Prelude.{◌≡◌, ◌+◌, ◌≤◌, ◌<◌, max, length, get_or};
+ghost use Rattle.std.specs.Prelude.{◌≡◌, ◌+◌, ◌≤◌, ◌<◌, length, get_or};
 ghost use Rattle.rules.specs.Record.{u8};
 ghost use Rattle.class_layout.specs.Notes.{notes, align_noted, sets_noted, Reaches, ReachesMembers, ReachesOptions};
 
@@ -41,24 +41,24 @@ pub fn reach_of(table: &[u8], at: usize, sizes: &[u16], aligns: &[u32]) -> Reach
             );
             Reach {
                 next: members.next,
-                align: larger(wide64(byte(table, at + 2)), members.align),
+                align: wide64(byte(table, at + 2)).max(members.align),
                 sets: members.sets,
             }
         }
         kinds::STATIC_ARRAY => Reach {
             next: end_noted(sizes, at + bodies::STATIC_ARRAY_SIZE),
-            align: larger(
-                wide64(byte(table, at + 3)),
-                align_noted(aligns, at + bodies::STATIC_ARRAY_SIZE),
-            ),
+            align: wide64(byte(table, at + 3)).max(align_noted(
+                aligns,
+                at + bodies::STATIC_ARRAY_SIZE,
+            )),
             sets: sets_noted(aligns, at + bodies::STATIC_ARRAY_SIZE),
         },
         kinds::DYNAMIC_ARRAY => Reach {
             next: end_noted(sizes, at + bodies::DYNAMIC_ARRAY_SIZE),
-            align: larger(
-                wide64(byte(table, at + 2)),
-                align_noted(aligns, at + bodies::DYNAMIC_ARRAY_SIZE),
-            ),
+            align: wide64(byte(table, at + 2)).max(align_noted(
+                aligns,
+                at + bodies::DYNAMIC_ARRAY_SIZE,
+            )),
             sets: sets_noted(aligns, at + bodies::DYNAMIC_ARRAY_SIZE),
         },
         kinds::OPTIONAL => {
@@ -86,12 +86,10 @@ fn reach_members(sizes: &[u16], aligns: &[u32], at: usize, count: usize) -> Reac
     let mut next = at;
     let mut align = 0;
     let mut sets = 0;
-    let mut left = count;
-    while 0 < left {
-        align = larger(align, align_noted(aligns, next));
+    for _ in 0..count {
+        align = align.max(align_noted(aligns, next));
         sets = sets_both(sets, sets_noted(aligns, next));
         next = end_noted(sizes, next);
-        left = left - 1;
     }
     Reach { next, align, sets }
 }
@@ -102,12 +100,10 @@ fn reach_options(table: &[u8], sizes: &[u16], aligns: &[u32], at: usize, count: 
 {
     let mut next = at;
     let mut sets = 0;
-    let mut left = count;
-    while 0 < left {
+    for _ in 0..count {
         let class = next + bodies::OPTION_SIZE + bodies::RANGE_SIZE * wide_byte(table, next + 1);
         sets = sets_both(sets, sets_noted(aligns, class));
         next = end_noted(sizes, class);
-        left = left - 1;
     }
     Reach {
         next,
@@ -128,23 +124,18 @@ fn end_noted(sizes: &[u16], at: usize) -> usize
 fn align_noted(aligns: &[u32], at: usize) -> u64
     ensures { (result ≡ align_noted aligns.now at) × (result < 8) }
 {
-    if at < aligns.len() {
-        return align_of(aligns[at]);
-    }
-    0
+    align_of(word_noted(aligns, at))
 }
 
 fn sets_noted(aligns: &[u32], at: usize) -> usize
     ensures { (result ≡ sets_noted aligns.now at) × (result < 8192) }
 {
-    if at < aligns.len() {
-        return sets_of(aligns[at]);
-    }
-    0
+    sets_of(word_noted(aligns, at))
 }
 
-fn larger(a: u64, b: u64) -> u64
-    ensures { result ≡ max a b }
+// Its word; 0 past the notes.
+fn word_noted(aligns: &[u32], at: usize) -> u32
+    ensures { result ≡ get_or aligns.now at 0 }
 {
-    if a < b { b } else { a }
+    aligns.get(at).copied().unwrap_or(0)
 }

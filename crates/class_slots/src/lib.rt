@@ -38,6 +38,7 @@ pub fn forgotten(table: &[u8], sizes: &[u16], at: usize, given: [Slot; 64]) -> [
     let mut slots = given;
     let end = class_end(sizes, at);
     let mut next = at;
+    // by hand: a record's step is its size, and a walk of its own for this one loop would be longer than the loop
     while next < end {
         let i = slot_named(table, next);
         let is_slot = i <= limits::LAST_SLOT;

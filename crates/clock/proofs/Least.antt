@@ -1,8 +1,9 @@
 -- The new clock is the least value that ends in the stamp's bits, and the standard's. The idea: two values less than a turn apart that
 -- end in the same bits are one.
+use Rattle.std.specs.Prelude.{None, Some}
 use Rattle.std.proofs.Common.{◌≡◌, ℕ, suc, ◌+◌, ◌-◌, ◌*◌, ◌/◌, ◌%◌, ◌^◌, ◌<◌, ◌≤◌, ◌↔◌, sym, ◌∙◌, ⊎_elim}
-use Rattle.std.proofs.Common.{lt_of_le_of_lt, mul-le-mul_right, mod-lt, mod-eq_of_lt, suc-mul, div-add-mod', arith, pow_pos, le-ltb, lt-ltb, le-leb}
-use mathlib.Core.Option.{none, some}
+use Rattle.std.proofs.Common.{lt_of_le_of_lt, mul-le-mul_right, mod-lt, mod-eq_of_lt, suc-mul, div-add-mod', arith}
+use Rattle.std.proofs.Common.{pow_pos, le-ltb, lt-ltb, le-leb}
 use native.Mathlib.Nat.{add-mod-mod}
 use borrow.Author.Tests.{lt-leb}
 use lib.Bits.{bit_and, and_mask, and_high}
@@ -25,11 +26,11 @@ module _ (clock l stamp : ℕ) where
   abbrev pub new : ℕ
   new = clock + advance clock l stamp
 
-  pub new-fits : new < 2 ^ 64 → clock_after clock l stamp ≡ some new
+  pub new-fits : new < 2 ^ 64 → clock_after clock l stamp ≡ Some new
   unfolding clock_after
   new-fits h = rw (lt-ltb new (2 ^ 64) h, clock_after)
 
-  pub new-above : 2 ^ 64 ≤ new → clock_after clock l stamp ≡ none
+  pub new-above : 2 ^ 64 ≤ new → clock_after clock l stamp ≡ None
   unfolding clock_after
   new-above h = rw (le-ltb new (2 ^ 64) h, clock_after)
 
@@ -86,13 +87,16 @@ standard-new clock l stamp hc hs = ⊎_elim turned straight (lt-or-ge stamp (clo
 least-once : {clock l stamp a b : ℕ} → Least clock l stamp a → Least clock l stamp b → a ≡ b
 least-once {a = a} {b = b} p q = omega (arith, p.least b q.not-below q.low_bits, q.least a p.not-below p.low_bits)
 
-given-least : {clock l stamp n : ℕ} → Least clock l stamp n → (clock_after clock l stamp ≡ some n) ↔ (n < 2 ^ 64)
+given-least : {clock l stamp n : ℕ} → Least clock l stamp n → (clock_after clock l stamp ≡ Some n) ↔ (n < 2 ^ 64)
 given-least {clock} {l} {stamp} {n} p =
     let hs : stamp < 2 ^ l = rw (← p.low_bits) (mod-lt n (pow_pos l)) in
     rw (least-once p (new-least clock l stamp hs))
     (⊎_elim
     (λ (h : new clock l stamp < 2 ^ 64). (λ e. h, new-fits clock l stamp))
-    (λ (h : 2 ^ 64 ≤ new clock l stamp). (λ e. let z : ◌≡◌ {A = ℕ} 0 1 = cc (new-above clock l stamp h) in absurd (omega arith), λ k. absurd (omega arith)))
+    (λ (h : 2 ^ 64 ≤ new clock l stamp). (
+      λ e. let z : ◌≡◌ {A = ℕ} 0 1 = cc (new-above clock l stamp h) in absurd (omega arith),
+      λ k. absurd (omega arith),
+    ))
     (lt-or-ge (new clock l stamp) (2 ^ 64)))
 
 pub new-clock : NewClock

@@ -1,11 +1,12 @@
 -- How the code comes to the new clock: w is the stamp less the old clock, wrapped at 64 bits, and is then cut to l bits.
-use Rattle.std.proofs.Common.{◌≡◌, ℕ, ◌+◌, ◌-◌, ◌%◌, ◌^◌, ◌<◌, ◌≤◌, ◌⊎◌, subst, inl, inr, ⊎_elim, lt_of_lt_of_le, mod-lt, mod-eq_of_lt, add_comm, arith, pow_pos, pow_mono}
+use Rattle.std.specs.Prelude.{Some, None}
+use Rattle.std.proofs.Common.{◌≡◌, ℕ, ◌+◌, ◌-◌, ◌%◌, ◌^◌, ◌<◌, ◌≤◌, ◌⊎◌, subst, inl, inr, ⊎_elim, lt_of_lt_of_le}
+use Rattle.std.proofs.Common.{mod-lt, mod-eq_of_lt, add_comm, arith, pow_pos, pow_mono}
 use native.Mathlib.Nat.{add-mod-mod}
 use lib.Pow.{mod-mod-pow}
 use Rattle.facts.proofs.Numbers.{lt-or-ge}
 use Rattle.rules.specs.Clock.{clock_after}
 use Rattle.clock.specs.Ticked.{ticked_of}
-use Rattle.clock.specs.declared.Ticked.TheVariants.{To, TooLarge}
 use Rattle.clock.proofs.Least.{new, new-fits, new-above, new-low-bits, ahead-new}
 
 module _ (clock l stamp w : ℕ) (hc : clock < 2 ^ 64) (hw : w < 2 ^ 64) (hs : stamp < 2 ^ l) (e : (w + clock) % 2 ^ 64 ≡ stamp) where
@@ -44,10 +45,10 @@ module _ (clock l stamp w : ℕ) (hc : clock < 2 ^ 64) (hw : w < 2 ^ 64) (hs : s
   agree : Agree
   agree = ⊎_elim (λ h. inl (short h)) long (lt-or-ge l 64)
 
-  pub ticked-to : clock + w % 2 ^ l < 2 ^ 64 → To (record { value = clock + w % 2 ^ l }) ≡ ticked_of (clock_after clock l stamp)
+  pub ticked-to : clock + w % 2 ^ l < 2 ^ 64 → Some (record { value = clock + w % 2 ^ l }) ≡ ticked_of (clock_after clock l stamp)
   unfolding ticked_of
   ticked-to h = ⊎_elim (λ n. rw (n, new-fits clock l stamp (rw n at h))) (λ n. absurd (omega arith)) agree
 
-  pub ticked-large : 2 ^ 64 ≤ clock + w % 2 ^ l → TooLarge ≡ ticked_of (clock_after clock l stamp)
+  pub ticked-large : 2 ^ 64 ≤ clock + w % 2 ^ l → None ≡ ticked_of (clock_after clock l stamp)
   unfolding ticked_of
   ticked-large h = rw (new-above clock l stamp (⊎_elim (λ n. rw (← n) h) (λ n. n.1) agree))

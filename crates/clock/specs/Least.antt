@@ -1,7 +1,6 @@
 -- What the rules' new clock is in other words: the least value, not below the old one, that ends in the stamp's bits; and the standard's
 -- own procedure.
-use Rattle.std.specs.Prelude.{◌≡◌, ℕ, ◌+◌, ◌-◌, ◌%◌, ◌^◌, ◌<◌, ◌≤◌, true, false, ◌↔◌, bit_and, nat_le}
-use Rattle.std.proofs.Math.Option.{some}
+use Rattle.std.specs.Prelude.{◌≡◌, ℕ, ◌+◌, ◌-◌, ◌%◌, ◌^◌, ◌<◌, ◌≤◌, true, false, ◌↔◌, bit_and, nat_le, Some}
 use Rattle.rules.specs.Clock.{advance, clock_after}
 
 pub record Least (clock l stamp n : ℕ) : Type 0 where
@@ -22,4 +21,4 @@ pub record NewClock : Type 0 where
   pub once : {clock l stamp a b : ℕ} → Least clock l stamp a → Least clock l stamp b → a ≡ b
   pub is-standard : (clock l stamp : ℕ) → clock < 2 ^ 64 → stamp < 2 ^ l → standard clock l stamp ≡ clock + advance clock l stamp
   -- the rules give the least value where it fits 64 bits, and nothing else
-  pub given : {clock l stamp n : ℕ} → Least clock l stamp n → (clock_after clock l stamp ≡ some n) ↔ (n < 2 ^ 64)
+  pub given : {clock l stamp n : ℕ} → Least clock l stamp n → (clock_after clock l stamp ≡ Some n) ↔ (n < 2 ^ 64)

@@ -11,13 +11,6 @@ pub struct Clock {
     pub value: u64,
 }
 
-// What a stamp leads to: the new clock, or one above 64 bits.
-#[derive(Clone, Copy)]
-pub enum Ticked {
-    To(Clock),
-    TooLarge,
-}
-
 impl Clock {
     pub fn start() -> Self
         ensures { result.value ≡ 0 }
@@ -26,18 +19,18 @@ impl Clock {
     }
 
     // The clock after a stamp of so many bits: 1 to 64, or 7 for each byte of a LEB128 number.
-    pub fn after(self, stamp: u64, width: u64) -> Ticked
+    pub fn after(self, stamp: u64, width: u64) -> Option<Clock>
         requires { stamp < 2 ^ width }
         ensures { result ≡ ticked_of (clock_after self.value width stamp) }
     {
         let old = self.value;
-        let advance = cut(std::num::wrapping_sub_u64(stamp, old), width);
+        let advance = cut(stamp.wrapping_sub(old), width);
         if advance <= u64::MAX - old {
-            Ticked::To(Clock {
+            Some(Clock {
                 value: old + advance,
             })
         } else {
-            Ticked::TooLarge
+            None
         }
     }
 }

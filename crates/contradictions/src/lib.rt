@@ -6,27 +6,27 @@ ghost use Rattle.std.specs.Prelude.{◌≡◌, ◌&&◌, ltb};
 ghost use Rattle.rules.specs.Packet.{differs as differsFrom, above as aboveEnding, or_else};
 ghost use Rattle.contradictions.specs.Lengths.{contradicts};
 
-use rules::{BitPlace, Stated};
+use rules::BitPlace;
 
 // Whether a stream class id is another than the first packet's (32).
-pub fn differs(id: u64, first: Stated) -> bool
+pub fn differs(id: u64, first: Option<u64>) -> bool
     ensures { result ≡ differsFrom id first }
 {
     match first {
-        Stated::Missing => false, // it is the first
-        Stated::As(was) => id != was,
+        None => false, // it is the first
+        Some(was) => id != was,
     }
 }
 
 // "If one length is missing it equals the other; if both are, both run to the stream's end."
-pub fn or_else(one: Stated, other: Stated, rest: u64) -> u64
+pub fn or_else(one: Option<u64>, other: Option<u64>, rest: u64) -> u64
     ensures { result ≡ or_else one other rest }
 {
     match one {
-        Stated::As(x) => x,
-        Stated::Missing => match other {
-            Stated::As(y) => y,
-            Stated::Missing => rest,
+        Some(x) => x,
+        None => match other {
+            Some(y) => y,
+            None => rest,
         },
     }
 }
@@ -53,12 +53,12 @@ pub fn contradict(total: u64, content: u64, start: BitPlace, place: BitPlace, en
 }
 
 // "35: start clock above a stated end clock"
-pub fn above(clock: u64, ending: Stated) -> bool
+pub fn above(clock: u64, ending: Option<u64>) -> bool
     ensures { result ≡ aboveEnding clock ending }
 {
     match ending {
-        Stated::Missing => false, // no end is stated
-        Stated::As(end) => end < clock,
+        None => false, // no end is stated
+        Some(end) => end < clock,
     }
 }
 
@@ -66,8 +66,5 @@ pub fn above(clock: u64, ending: Stated) -> bool
 pub fn went_back(timed: bool, clock: u64, last: u64) -> bool
     ensures { result ≡ (timed && ltb clock last) }
 {
-    if timed {
-        return clock < last;
-    }
-    false
+    timed && clock < last
 }

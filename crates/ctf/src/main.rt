@@ -6,10 +6,9 @@
 // In lines: what is printed. In words: the papers' numbers in words. In cut: the third command.
 #![tactic(auto)]
 
-ghost use Rattle.std.specs.Prelude.{◌≡◌, ◌*◌, ◌≤◌, length};
-ghost use Rattle.rules.specs.Limits.{words_per_entry};
+ghost use Rattle.std.specs.Prelude.{◌≡◌, ◌≤◌, length, IfOk};
 
-use lines::{say_checked, say_entries, say_result, tell};
+use lines::{say_checked, say_entries, say_result};
 use numbers::limits::WORDS_PER_ENTRY;
 use std::env::{Env, FillError};
 use std::fs::File;
@@ -20,9 +19,13 @@ mod cut;
 mod lines;
 mod words;
 
+// The argument that names the table, and the one that names the stream, or the first of them.
 const TABLE: usize = 2;
 
 const STREAM: usize = 3;
+
+// One byte more than a table may have, or than there is room for of a stream: so what is longer is seen to be.
+const FILE_ROOM: usize = 65537;
 
 // The bytes of the longest stream that there is room for.
 const STREAM_ROOM: usize = 65536;
@@ -36,7 +39,7 @@ const PATH_ROOM: usize = 4096;
 // The longest of the system's words for an error have 49 bytes.
 const ERROR_ROOM: usize = 128;
 
-// The system's numbers of errors.
+// The system's numbers of errors: std makes an error of no other.
 const EINVAL: i32 = 22;
 
 const ENAMETOOLONG: i32 = 36;
@@ -46,117 +49,90 @@ const EILSEQ: i32 = 84;
 fn main(rt: HostRuntime) {
     let mut command = [0u8; 16];
     let got = rt.arg(1, &mut command).unwrap_or(0);
-    if arg_count(&rt) == 3 && &command[..got] == b"check".as_slice() {
-        check_named(&rt);
-        return;
+    match (&command[..got], arg_count(&rt)) {
+        (b"check", 3) => check_named(&rt),
+        (b"read", 4) => read_named(&rt),
+        (b"cut", count) if STREAM < count => cut_named(&rt, count - STREAM),
+        _ => {
+            let _ = eprintln!(rt;
+                "usage: ctf check TABLE\n       ctf read TABLE STREAM\n       ctf cut TABLE STREAM..."
+            );
+        }
     }
-    if arg_count(&rt) == 4 && &command[..got] == b"read".as_slice() {
-        with_list(&rt, false);
-        return;
-    }
-    if arg_count(&rt) > 3 && &command[..got] == b"cut".as_slice() {
-        with_list(&rt, true);
-        return;
-    }
-    tell(
-        &rt.stderr(),
-        b"usage: ctf check TABLE\n       ctf read TABLE STREAM\n       ctf cut TABLE STREAM...\n",
-    );
 }
 
 // How many words there are, the program's own among them.
 fn arg_count(rt: &impl Env) -> usize {
-    for i in 0..usize::MAX {
-        if let Err(FillError::NotPresent) = rt.arg(i, &mut []) {
-            return i;
-        }
-    }
-    usize::MAX
-}
-
-// Reads, or cuts. Both share one list: two of them would be more than the usual stack.
-fn with_list(rt: &HostRuntime, cuts: bool) {
-    let mut list = list_room();
-    if cuts {
-        cut_named(rt, &mut list);
-    } else {
-        read_named(rt, &mut list);
-    }
+    (0..usize::MAX)
+        .position(|i| matches!(rt.arg(i, &mut []), Err(FillError::NotPresent)))
+        .unwrap_or(usize::MAX)
 }
 
 fn check_named(rt: &HostRuntime) {
-    let mut table = file_room();
-    let filled = load(rt, TABLE, &mut table);
-    if filled.failed {
-        return;
+    let mut table = [0u8; FILE_ROOM];
+    if let Some(table) = load(rt, TABLE, &mut table) {
+        say_checked(rt, check_table::check(table));
     }
-    say_checked(rt, check_table::check(&table[..filled.bytes]));
 }
 
-fn read_named(rt: &HostRuntime, list: &mut [u64]) {
-    let mut table = file_room();
-    let by = load(rt, TABLE, &mut table);
-    if by.failed {
+// By itself, as cutting is: the lists of both in one frame would be more than the usual stack.
+#[inline(never)]
+fn read_named(rt: &HostRuntime) {
+    let mut table = [0u8; FILE_ROOM];
+    let Some(table) = load(rt, TABLE, &mut table) else {
+        return;
+    };
+    let mut stream = [0u8; FILE_ROOM];
+    let Some(stream) = load(rt, STREAM, &mut stream) else {
+        return;
+    };
+    if STREAM_ROOM < stream.len() {
+        let _ = eprintln!(rt; "the stream has more than the 65,536 bytes that there is room for");
         return;
     }
-    let mut stream = file_room();
-    let filled = load(rt, STREAM, &mut stream);
-    if filled.failed {
-        return;
-    }
-    if STREAM_ROOM < filled.bytes {
-        tell(
-            &rt.stderr(),
-            b"the stream has more than the 65,536 bytes that there is room for\n",
-        );
-        return;
-    }
-    read_loaded(rt, &table[..by.bytes], &stream[..filled.bytes], list);
+    let mut list: [u64; LIST_ROOM] = cells(0);
+    say_reading(rt, table, stream, &mut list);
 }
 
-fn read_loaded(rt: &HostRuntime, table: &[u8], stream: &[u8], list: &mut [u64]) {
+fn say_reading(rt: &impl Print, table: &[u8], stream: &[u8], list: &mut [u64]) {
     let r = reader::read(table, stream, list);
-    let entries = r.entries;
-    say_entries(rt, list, entries);
+    say_entries(rt, list, r.entries);
     say_result(rt, r);
 }
 
-fn cut_named(rt: &HostRuntime, list: &mut [u64]) {
-    let mut table = file_room();
-    let by = load(rt, TABLE, &mut table);
-    if by.failed {
+#[inline(never)]
+fn cut_named(rt: &HostRuntime, streams: usize) {
+    let mut table = [0u8; FILE_ROOM];
+    let Some(table) = load(rt, TABLE, &mut table) else {
         return;
-    }
-    let arguments = arg_count(rt);
-    if cut::FIRST_STREAM <= arguments {
-        cut::cut_loaded(rt, &table[..by.bytes], arguments - cut::FIRST_STREAM, list);
-    }
+    };
+    let mut list: [u64; LIST_ROOM] = cells(0);
+    cut::cut_loaded(rt, table, streams, &mut list);
 }
 
-// What a file put into the room that it was lent.
-#[derive(Clone, Copy)]
-struct Filled {
-    bytes: usize,
-    failed: bool,
-}
-
-// Reads the file that an argument names into the room. Where that fails, it has said so.
-fn load(rt: &HostRuntime, argument: usize, room: &mut [u8]) -> Filled
-    ensures { result.bytes ≤ length room.new }
+// So many cells, told by a law: the proof of a caller that made them itself would walk over each.
+fn cells<T: Copy, const N: usize>(cell: T) -> [T; N]
+    ensures { length result ≡ N }
 {
+    [cell; N]
+}
+
+// The file that an argument names, in the room. Where that fails, it has said so.
+fn load<'a>(rt: &HostRuntime, argument: usize, room: &'a mut [u8]) -> Option<&'a [u8]> {
     let mut path = [0u8; PATH_ROOM];
     let got = match rt.arg(argument, &mut path) {
         Ok(got) => got,
         Err(refused) => {
             fail(rt, b"the file's name", name_error(refused));
-            return nothing();
+            return None;
         }
     };
-    match open(rt, &path[..got]) {
-        Ok(mut file) => fill(rt, &path[..got], &mut file, room),
+    let name = &path[..got];
+    match read_file(rt, name, room) {
+        Ok(bytes) => Some(&room[..bytes]),
         Err(error) => {
-            fail(rt, &path[..got], error);
-            nothing()
+            fail(rt, name, error);
+            None
         }
     }
 }
@@ -169,6 +145,24 @@ fn name_error(refused: FillError) -> Error {
     }
 }
 
+// Reads until the room is full or the file ends: how many bytes. A read that fails is no end: a file that is cut short would get a false
+// verdict.
+fn read_file(rt: &HostRuntime, name: &[u8], room: &mut [u8]) -> io::Result<usize>
+    ensures { IfOk result (λ n. n ≤ length room.new) }
+{
+    let mut file = open(rt, name)?;
+    let mut done = 0;
+    // by hand: read_exact does not say how many bytes there were
+    while done < room.len() {
+        let more = file.read(&mut room[done..])?;
+        if more == 0 {
+            break;
+        }
+        done += more;
+    }
+    Ok(done)
+}
+
 // Files have names in UTF-8 for std: another gets the system's error for such bytes.
 fn open(rt: &HostRuntime, name: &[u8]) -> io::Result<File> {
     match str::from_utf8(name) {
@@ -177,47 +171,14 @@ fn open(rt: &HostRuntime, name: &[u8]) -> io::Result<File> {
     }
 }
 
-fn nothing() -> Filled
-    ensures { result.bytes ≡ 0 }
-{
-    Filled {
-        bytes: 0,
-        failed: true,
-    }
-}
-
-// Reads until the room is full or the file ends. A read that fails is no end: a file that is cut short would get a false verdict. It is said.
-fn fill(rt: &HostRuntime, name: &[u8], file: &mut File, room: &mut [u8]) -> Filled
-    ensures { result.bytes ≤ length room.new }
-{
-    let mut done = 0;
-    while done < room.len() {
-        match file.read(&mut room[done..]) {
-            Ok(0) => break,
-            Ok(more) => done += more,
-            Err(error) => {
-                fail(rt, name, error);
-                return Filled {
-                    bytes: done,
-                    failed: true,
-                };
-            }
-        }
-    }
-    Filled {
-        bytes: done,
-        failed: false,
-    }
-}
-
 // A line on standard error: what failed, and why, in the system's words.
 fn fail(rt: &HostRuntime, what: &[u8], error: Error) {
     let mut text = [0u8; ERROR_ROOM];
     let _ = write!(&mut text[..], "{error}");
-    tell(&rt.stderr(), what);
-    tell(&rt.stderr(), b": ");
-    tell(&rt.stderr(), without_number(&text));
-    tell(&rt.stderr(), b"\n");
+    let stderr = rt.stderr();
+    for part in [what, b": ", without_number(&text), b"\n"] {
+        let _ = stderr.write_all(part);
+    }
 }
 
 // An error's text up to its number, which std writes behind the system's words; or else up to the zeros behind it.
@@ -230,17 +191,4 @@ fn without_number(text: &[u8]) -> &[u8] {
         Some((before, _)) => before.as_bytes(),
         None => words,
     }
-}
-
-// One byte more than a table may have, or than there is room for of a stream: so what is longer is seen to be.
-fn file_room() -> [u8; 65537]
-    ensures { 65537 ≡ length result }
-{
-    [0; 65537]
-}
-
-fn list_room() -> [u64; LIST_ROOM]
-    ensures { 131072 * words_per_entry ≡ length result }
-{
-    [0; LIST_ROOM]
 }

@@ -1,8 +1,8 @@
 -- Slots 0 to 15 are an event's as they came, and how an event ends.
+use Rattle.std.specs.Prelude.{Option, None, Some, Ok}
 use mathlib.Core.Path.{◌≡◌, refl, ap, sym, ◌∙◌}
 use mathlib.Core.List.{List}
 use mathlib.Core.Bool.{Bool, true, false}
-use mathlib.Core.Option.{Option, none, some}
 use Prim.Native.Nat.{ℕ, ◌-◌, ◌≤◌}
 use native.Mathlib.Omega.{arith}
 use lib.ListN.{length, take, replicate, length-take, length-append, length-replicate}
@@ -22,7 +22,6 @@ use Rattle.rules.specs.Packet.{mark, with_event, start_event, read_event}
 use Rattle.rules.specs.Entry.{event_class_found}
 use Rattle.facts.proofs.Truth.{clash}
 use Rattle.listing.specs.declared.Progress.{Progress}
-use Rattle.listing.specs.declared.Went.TheVariants.{On}
 use Rattle.listing.specs.Did.{full}
 use Rattle.listing.proofs.Parts.{Part}
 use Rattle.listing.proofs.Marks.{mark_on, change-on}
@@ -71,8 +70,8 @@ mark-keeps : (k n v : ℕ) → Keeps (mark k n v)
 unfolding mark listed
 mark-keeps k n v s es s' e = let p : packet_slots s.slots ≡ packet_slots s'.slots = cc in sym p
 
-module _ (a : Asked) (c : StreamClass) (i : ℕ) (e : Env) (keeps : KeepsSlots a) (found : a.stream i ≡ some c) where
-  roots-keep : (d : EventClass) (j k v : ℕ) → a.event j k ≡ some d
+module _ (a : Asked) (c : StreamClass) (i : ℕ) (e : Env) (keeps : KeepsSlots a) (found : a.stream i ≡ Some c) where
+  roots-keep : (d : EventClass) (j k v : ℕ) → a.event j k ≡ Some d
       → Keeps (mark event_class_found 0 v ⨾ parts_of e c d)
   unfolding parts_of
   roots-keep d j k v q =
@@ -88,8 +87,8 @@ module _ (a : Asked) (c : StreamClass) (i : ℕ) (e : Env) (keeps : KeepsSlots a
           → with_event c.id s.said.event x
           (λ d. mark event_class_found 0 s.said.event ⨾ parts_of e c d) s ≡ go es s'
           → packet_slots s'.slots ≡ packet_slots s.slots
-      by none k q = let z : ◌≡◌ {A = ℕ} 0 1 = cc in absurd (omega arith)
-      by (some d) k q = roots-keep d c.id s.said.event s.said.event k s es s' q
+      by None k q = let z : ◌≡◌ {A = ℕ} 0 1 = cc in absurd (omega arith)
+      by (Some d) k q = roots-keep d c.id s.said.event s.said.event k s es s' q
 
   body-keeps : Keeps (body_of a c e)
   unfolding body_of with_last
@@ -117,10 +116,10 @@ packet-length l n =
     )
 
 -- the place moved, and slots 0 to 15 are as they were
-event-done : (a : Asked) (c : StreamClass) (i : ℕ) (e : Env) → KeepsSlots a → a.stream i ≡ some c → (n : ℕ) (came : Progress) (l₀ : Slots)
+event-done : (a : Asked) (c : StreamClass) (i : ℕ) (e : Env) → KeepsSlots a → a.stream i ≡ Some c → (n : ℕ) (came : Progress) (l₀ : Slots)
     {ws₀ ws : List ℕ} {used : ℕ} {st : Progress} {l : Slots} → words_per_entry ≤ length ws₀ → length l₀ ≡ slot_count
     → Part (read_event a c e n (full came l₀ (length ws₀))) (moved came) ws₀ ws used st l → (st.place.0 ≡ came.place.0 → ⊥)
-    → EventDid (read_event a c e n) came l₀ (record { went = On; used = used; state = st }) ws₀ ws
+    → EventDid (read_event a c e n) came l₀ (record { went = Ok tt; used = used; state = st }) ws₀ ws
 unfolding onto
 event-done a c i e keeps found n came l₀ {ws₀} {ws} {used} {st} {l} h many p k =
     let on = has-moved came st l (length ws₀ - used) k in
@@ -129,7 +128,7 @@ event-done a c i e keeps found n came l₀ {ws₀} {ws} {used} {st} {l} h many p
     on
 
 -- the event's end, whether the place moved or not
-pub event-ended : (a : Asked) (c : StreamClass) (i : ℕ) (e : Env) → KeepsSlots a → a.stream i ≡ some c → (n : ℕ) (came : Progress)
+pub event-ended : (a : Asked) (c : StreamClass) (i : ℕ) (e : Env) → KeepsSlots a → a.stream i ≡ Some c → (n : ℕ) (came : Progress)
     (l₀ : Slots) {ws₀ ws : List ℕ} {used : ℕ} {st : Progress} {l : Slots} → words_per_entry ≤ length ws₀ → length l₀ ≡ slot_count
     → Part (read_event a c e n (full came l₀ (length ws₀))) (moved came) ws₀ ws used st l
     → EventDid (read_event a c e n) came l₀ (ended_ran used st came) ws₀ ws
@@ -140,7 +139,7 @@ event-ended a c i e keeps found n came l₀ {ws₀} {ws} {used} {st} {l} h many 
         → EventDid (read_event a c e n) came l₀
         (elim z [
           | true ↦ stopped_ran (stop_at EventTookNoBits st.place) used came
-          | false ↦ record { went = On; used = used; state = st }
+          | false ↦ record { went = Ok tt; used = used; state = st }
         ]) ws₀ ws
     by true q = left-stops (moved came) (read_event a c e n) came l₀ p _ (not-moved came st l (length ws₀ - used) (eqb-true _ _ q))
     by false q = event-done a c i e keeps found n came l₀ h many p (λ y. clash (sym q ∙ eq-eqb _ _ y))

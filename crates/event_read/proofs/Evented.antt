@@ -1,4 +1,5 @@
 -- One event: its entry, what is left behind it, and 38.
+use Rattle.std.specs.Prelude.{Ok}
 use mathlib.Core.Path.{◌≡◌, refl, ap, sym, ◌∙◌}
 use Prim.Native.Nat.{ℕ, ◌-◌, ◌≤◌, ◌<◌}
 use native.Mathlib.Omega.{arith}
@@ -22,7 +23,6 @@ use Rattle.rules.specs.Packet.{mark, read_root, header_number, with_event, start
 use Rattle.facts.proofs.Steps.{seq-assoc}
 use Rattle.frame.specs.declared.Frame.{Frame}
 use Rattle.listing.specs.declared.Progress.{Progress}
-use Rattle.listing.specs.declared.Went.TheVariants.{On}
 use Rattle.frame.specs.Framed.{Framed, env_of}
 use Rattle.listing.specs.Did.{full, out_of}
 use Rattle.listing.proofs.Checks.{check-stops, check-goes, room-first, no-room-first}
@@ -133,7 +133,7 @@ module _ (m M : Step) (came : Progress) (l₀ : Slots) {ws₀ ws : List ℕ} {us
   }
 
   pub left-goes : packet_slots l ≡ packet_slots l₀ → m (full st l (length ws₀ - used)) ≡ go [] (full st l (length ws₀ - used))
-      → EventDid M came l₀ (record { went = On; used = used; state = st }) ws₀ ws
+      → EventDid M came l₀ (record { went = Ok tt; used = used; state = st }) ws₀ ws
   unfolding onto out_of
   left-goes k e = record {
     slots = l;

@@ -1,5 +1,6 @@
 -- An event's loop: the rounds of a run (field_read's Round), with runs put off, and behind all of them the turns that are left and 38.
 -- In order: what the loop is given and keeps; how it begins; a turn; runs put off; how it ends.
+use Rattle.std.specs.Prelude.{Ok, Err}
 use mathlib.Core.Path.{◌≡◌, refl, sym}
 use mathlib.Core.List.{List}
 use mathlib.Core.Bool.{Bool, true, false}
@@ -19,7 +20,6 @@ use Rattle.class_layout.specs.Sizes.{Sized}
 use Rattle.frame.specs.declared.Frame.{Frame}
 use Rattle.frame.specs.Framed.{env_of}
 use Rattle.listing.specs.declared.Progress.{Progress}
-use Rattle.listing.specs.declared.Went.TheVariants.{On, Stopped}
 use Rattle.listing.specs.Did.{Did, full}
 use Rattle.listing.proofs.Parts.{Part, lent, merged}
 use Rattle.field_runs.specs.declared.Run.{Run}
@@ -174,7 +174,7 @@ begun-round g m l ws ws₁ of noted many p is_state is-slots is-run pile size =
 
 -- What stopped hands on no slots
 pub event-stopped : (m : Step) (came : Progress) (l : Slots) {ws₀ ws : List ℕ} {v : Stop} {n : ℕ}
-    → Did (m (full came l (length ws₀))) came (Stopped v) n came l ws₀ ws → EventDid m came l (stopped_ran v n came) ws₀ ws
+    → Did (m (full came l (length ws₀))) came (Err v) n came l ws₀ ws → EventDid m came l (stopped_ran v n came) ws₀ ws
 event-stopped m came l did = record { slots = l; kept = refl; did = did }
 
 -- A turn
@@ -182,9 +182,9 @@ pub record TurnRound (g : Given) (all : Out) (ws₀ : List ℕ) (class turn : �
     (l : Slots) (r : Turn) (ys : List ℕ) : Type 0 where
   pub room : used + r.used ≤ length ws₀
   pub same : length (merged used ws ys) ≡ length ws₀
-  pub rises : r.went ≡ On → (turn < r.turn) × (r.turn ≤ turns)
-  pub stops : (v : Stop) → r.went ≡ Stopped v → Stops (event_loop g all ws₀ class turn) v (used + r.used) (merged used ws ys)
-  pub goes : r.went ≡ On → EventRound g all ws₀ r.class r.turn r.run pile 0 (merged used ws ys) (used + r.used)
+  pub rises : r.went ≡ Ok tt → (turn < r.turn) × (r.turn ≤ turns)
+  pub stops : (v : Stop) → r.went ≡ Err v → Stops (event_loop g all ws₀ class turn) v (used + r.used) (merged used ws ys)
+  pub goes : r.went ≡ Ok tt → EventRound g all ws₀ r.class r.turn r.run pile 0 (merged used ws ys) (used + r.used)
       (held_to r.last st) l
 
 pub turn-round : {g : Given} {all : Out} {ws₀ : List ℕ} {class turn : ℕ} {run : Run} {pile : List Run} {ws : List ℕ} {used : ℕ}

@@ -1,9 +1,8 @@
 -- An event that starts, whether a field of it is opened, and an event that ends, as the code says it.
-use Rattle.std.specs.Prelude.{Bool, true, false, ℕ, eqb, ltb}
+use Rattle.std.specs.Prelude.{Bool, true, false, ℕ, eqb, ltb, Ok}
 use Rattle.rules.specs.declared.Refusal.TheVariants.{EventTookNoBits}
 use Rattle.rules.specs.Verdict.{stop_at}
 use Rattle.listing.specs.declared.Progress.{Progress}
-use Rattle.listing.specs.declared.Went.TheVariants.{On}
 use Rattle.outcome.specs.declared.Ran.{Ran}
 use Rattle.outcome.specs.Ran.{stopped_ran}
 
@@ -29,5 +28,5 @@ opens_at here off = elim here [ true ↦ true | false ↦ ltb off runs ]
 unfoldable pub ended_ran : ℕ → Progress → Progress → Ran
 ended_ran n st came = elim (eqb st.place.0 came.place.0) [
   | true ↦ stopped_ran (stop_at EventTookNoBits st.place) n came
-  | false ↦ record { went = On; used = n; state = st }
+  | false ↦ record { went = Ok tt; used = n; state = st }
 ]

@@ -1,9 +1,9 @@
 -- An event behind its header: 39 and room, the lookup, and the other roots behind entry 5.
+use Rattle.std.specs.Prelude.{None, Some, Option}
 use mathlib.Core.Path.{◌≡◌, refl, ap, sym, ◌∙◌}
 use Prim.Native.Nat.{ℕ, ◌≤◌, ◌<◌}
 use mathlib.Core.List.{List, []}
 use mathlib.Core.Bool.{Bool, true, false, ◌&&◌}
-use mathlib.Core.Option.{none, some}
 use native.Mathlib.Omega.{arith}
 use lib.Dec.{ltb, eqb}
 use borrow.Author.Tests.{eqb-true, eqb-false}
@@ -21,10 +21,8 @@ use Rattle.rules.specs.Packet.{mark, with_event}
 use Rattle.listing.specs.declared.Progress.{Progress}
 use Rattle.listing.specs.Did.{full}
 use Rattle.listing.proofs.Checks.{room-first}
-use Rattle.class_layout.specs.declared.TablePlace.{TablePlace}
-use Rattle.class_layout.specs.declared.TablePlace.TheVariants.{At, Nothing}
 use Rattle.class_layout.specs.Fragments.{map_option, stream_class_at, event_class_at, find_event_at, fragments_of, is_event, asked_at}
-use Rattle.class_layout.specs.Sizes.{found_of, SizedFragment, Sized}
+use Rattle.class_layout.specs.Sizes.{SizedFragment, Sized}
 use Rattle.class_layout.proofs.Lookups.{found_some, found_none, first_holds}
 use Rattle.event_turns.specs.declared.Asking.{Asking}
 use Rattle.event_turns.specs.declared.LookedUp.{LookedUp}
@@ -63,12 +61,12 @@ module _ (a : Asked) (c : StreamClass) (e : Env) (st : Progress) (l : Slots) (ro
   unfolding body_of with_last
   looked h k = check-on _ ClockWentBack _ (full st l room) h ∙ change-on _ _ (full st l room) ∙ room-first _ (full (settled st) l room) k
 
-  pub body-unknown : Back false → words_per_entry ≤ room → a.event c.id st.said.event ≡ none
+  pub body-unknown : Back false → words_per_entry ≤ room → a.event c.id st.said.event ≡ None
       → body_of a c e (full st l room) ≡ stop [] (stop_at (EventClassUnknown c.id st.said.event) st.place)
   unfolding with_event refuse
   body-unknown h k n = looked h k ∙ rw (n) refl
 
-  pub body-found : (d : EventClass) → Back false → words_per_entry ≤ room → a.event c.id st.said.event ≡ some d
+  pub body-found : (d : EventClass) → Back false → words_per_entry ≤ room → a.event c.id st.said.event ≡ Some d
       → body_of a c e (full st l room)
       ≡ (mark event_class_found 0 st.said.event ⨾ parts_of e c d) (full (settled st) l room)
   unfolding with_event
@@ -76,7 +74,7 @@ module _ (a : Asked) (c : StreamClass) (e : Env) (st : Progress) (l : Slots) (ro
 
 -- What the lookup finds
 
-pub event-stands : (t s : List ℕ) (i j p : ℕ) → Sized t s → At p ≡ found_of (find_event_at t (fragments_of t) i j) → SizedFragment t s p
+pub event-stands : (t s : List ℕ) (i j p : ℕ) → Sized t s → Some p ≡ find_event_at t (fragments_of t) i j → SizedFragment t s p
 event-stands t s i j p sized e = (first_holds (SizedFragment t s) (is_event t i j) (fragments_of t) p (found_some _ p e) sized.each).1
 
 -- where a turn's lookup goes on, an event class stands at its byte
@@ -87,23 +85,23 @@ module _ (t s : List ℕ) (w : Asking) (p : BitPlace) (clock last id room : ℕ)
   refused-stands : (why : Refusal) → Stands (refused_left why)
   refused-stands why on = let z : ◌≡◌ {A = ℕ} 0 1 = cc in absurd (omega arith)
 
-  class-stands : (x : TablePlace) → x ≡ found_of (find_event_at t (fragments_of t) w.id id) → Stands (class_left w p clock id x)
+  class-stands : (x : Option ℕ) → x ≡ find_event_at t (fragments_of t) w.id id → Stands (class_left w p clock id x)
   unfolding class_left
-  class-stands Nothing is = refused-stands (EventClassUnknown w.id id)
-  class-stands (At class) is = λ on. event-stands t s w.id id class sized is
+  class-stands None is = refused-stands (EventClassUnknown w.id id)
+  class-stands (Some class) is = λ on. event-stands t s w.id id class sized is
 
   lookup-stands : Stands (lookup_left t w p clock last id room)
   unfolding lookup_left
   lookup-stands = by (w.timed && ltb clock last) (ltb room words_per_entry)
     where
       class : LookupLeft
-      class = class_left w p clock id (found_of (find_event_at t (fragments_of t) w.id id))
+      class = class_left w p clock id (find_event_at t (fragments_of t) w.id id)
 
       by : (a b : Bool)
           → Stands (elim a [ true ↦ refused_left ClockWentBack | false ↦ elim b [ true ↦ refused_left ListFull | false ↦ class ] ])
       by true b = refused-stands ClockWentBack
       by false true = refused-stands ListFull
-      by false false = class-stands (found_of (find_event_at t (fragments_of t) w.id id)) refl
+      by false false = class-stands (find_event_at t (fragments_of t) w.id id) refl
 
   pub looked-stands : (turn class : ℕ) → Known t s turn class → (o : LookedUp)
       → o ≡ (looked_left t w turn class p clock last id room).result → o.on ≡ true → SizedFragment t s o.class
@@ -123,12 +121,12 @@ module _ (t : List ℕ) (w : Asking) (j : ℕ) (of : OfStream t w) where
   unfolding asked_at
   asked-id = rw (sym of.id) refl
 
-  pub event-unknown : Nothing ≡ found_of (find_event_at t (fragments_of t) w.id j) → (asked_at t).event Class.id j ≡ none
+  pub event-unknown : None ≡ find_event_at t (fragments_of t) w.id j → (asked_at t).event Class.id j ≡ None
   unfolding map_option
   event-unknown e = asked-id ∙ rw (found_none _ e) refl
 
-  pub event-found : (p : ℕ) → At p ≡ found_of (find_event_at t (fragments_of t) w.id j)
-      → (asked_at t).event Class.id j ≡ some (event_class_at t p)
+  pub event-found : (p : ℕ) → Some p ≡ find_event_at t (fragments_of t) w.id j
+      → (asked_at t).event Class.id j ≡ Some (event_class_at t p)
   unfolding map_option
   event-found p e = asked-id ∙ rw (found_some _ p e) refl
 

@@ -1,5 +1,6 @@
 -- A root that is next, in the rules' words. An event's header is the run that it begins with; behind the lookup, what is left of an event
 -- from a turn on is the run of the root that is next, and then what is left from the turn behind it on.
+use Rattle.std.specs.Prelude.{Some, None, Option}
 use mathlib.Core.Path.{◌≡◌, refl, ap, sym, ◌∙◌}
 use mathlib.Core.List.{List}
 use mathlib.Core.Bool.{Bool, true, false}
@@ -11,10 +12,8 @@ use Rattle.rules.specs.Step.{◌⨾◌, pass}
 use Rattle.rules.specs.Field.{Env}
 use Rattle.rules.specs.Packet.{read_root, first_root, common_number, payload_number}
 use Rattle.facts.proofs.Steps.{pass-seq, seq-pass}
-use Rattle.class_layout.specs.declared.TablePlace.{TablePlace}
-use Rattle.class_layout.specs.declared.TablePlace.TheVariants.{At, Nothing}
 use Rattle.class_layout.specs.Fragments.{root_place, stream_class_at, event_class_at}
-use Rattle.class_layout.specs.Sizes.{SizedFragment, found_of}
+use Rattle.class_layout.specs.Sizes.{SizedFragment}
 use Rattle.class_layout.proofs.RootNumbers.{first-number, payload-number}
 use Rattle.field_runs.specs.Run.{members_run}
 use Rattle.field_runs.specs.Ahead.{ahead, WholeRun}
@@ -32,19 +31,19 @@ use Rattle.event_turns.proofs.Looked.{one-member, root-class, root_stands, root-
 -- the run of a root
 
 module _ (t : List ℕ) where
-  pub run-reads : (e : Env) (x : TablePlace) → ahead depth_limit t e (root_run x) ≡ read_root e (number_of t x) (class_of t x)
+  pub run-reads : (e : Env) (x : Option ℕ) → ahead depth_limit t e (root_run x) ≡ read_root e (number_of t x) (class_of t x)
   unfolding root_run number_of class_of read_root
-  run-reads e Nothing = members-reads depth_limit t e 0 0 ∙ no-members depth_limit t e 0 0 (omega arith)
-  run-reads e (At p) = members-reads depth_limit t e p 1 ∙ one-reads depth_limit t e p
+  run-reads e None = members-reads depth_limit t e 0 0 ∙ no-members depth_limit t e 0 0 (omega arith)
+  run-reads e (Some p) = members-reads depth_limit t e p 1 ∙ one-reads depth_limit t e p
 
   -- by the number that it has in its fragment
-  pub run-numbered : (e : Env) (x : TablePlace) (m : ℕ) → Numbered t x m → ahead depth_limit t e (root_run x) ≡ read_root e m (class_of t x)
+  pub run-numbered : (e : Env) (x : Option ℕ) (m : ℕ) → Numbered t x m → ahead depth_limit t e (root_run x) ≡ read_root e m (class_of t x)
   run-numbered e x m h = run-reads e x ∙ numbered-reads t e x m h
 
-  pub run-stands : (x : TablePlace) → RootStands t x → WholeRun depth_limit t (root_run x)
+  pub run-stands : (x : Option ℕ) → RootStands t x → WholeRun depth_limit t (root_run x)
   unfolding root_run
-  run-stands Nothing h = members-stand depth_limit t 0 0 (none-whole depth_limit t 0)
-  run-stands (At p) h = members-stand depth_limit t p 1 (one-member t (At p) p refl h)
+  run-stands None h = members-stand depth_limit t 0 0 (none-whole depth_limit t 0)
+  run-stands (Some p) h = members-stand depth_limit t p 1 (one-member t (Some p) p refl h)
 
 -- what is due from a turn behind the lookup on
 pub record DueAt (t : List ℕ) (w : Asking) (class turn : ℕ) (d : Due) : Type 0 where
@@ -59,8 +58,8 @@ module _ (t s : List ℕ) (w : Asking) (of : OfStream t w) (class : ℕ) (known 
   unfolding root_found
   turn-stands turn = by (eqb turn 2) (eqb turn 3)
     where
-      place : ℕ → TablePlace
-      place i = found_of (root_place t class i)
+      place : ℕ → Option ℕ
+      place i = root_place t class i
 
       by : (a b : Bool) → RootStands t (elim a [ true ↦ w.common | false ↦ elim b [ true ↦ place 0 | false ↦ place 1 ] ])
       by true b = of.common_stands
@@ -68,8 +67,8 @@ module _ (t s : List ℕ) (w : Asking) (of : OfStream t w) (class : ℕ) (known 
       by false false = root_stands t class 1 (place 1) known.stands refl
 
   -- the roots of an event class
-  abbrev found : ℕ → TablePlace
-  found i = found_of (root_place t class i)
+  abbrev found : ℕ → Option ℕ
+  found i = root_place t class i
 
   specific-reads : (e : Env) → ahead depth_limit t e (root_run (found 0)) ≡ read_root e first_root (event_class_at t class).specific
   unfolding event_class_at
@@ -101,14 +100,14 @@ module _ (t s : List ℕ) (w : Asking) (of : OfStream t w) (class : ℕ) (known 
   turn-first (suc (suc (suc (suc zero)))) k h e = rw (payload-reads e) (sym (seq-pass _))
   turn-first (suc (suc (suc (suc (suc n))))) k h e = absurd (omega arith)
 
-  none_reads : (e : Env) → ahead depth_limit t e (root_run Nothing) ≡ pass
-  none_reads e = unfold number_of class_of read_root in run-reads t e Nothing
+  none_reads : (e : Env) → ahead depth_limit t e (root_run None) ≡ pass
+  none_reads e = unfold number_of class_of read_root in run-reads t e None
 
   all_done : (turn : ℕ) → turns ≤ turn → DueAt t w class turn (none_due turn)
   unfolding none_due root_run
   all_done turn h = record {
     reads = λ e. sym (ap (λ m. m ⨾ turns_at t w e class turn) (nothing e) ∙ pass-seq _);
-    stands = run-stands t Nothing (unfold RootStands in tt);
+    stands = run-stands t None (unfold RootStands in tt);
     onward = omega arith;
     rises = λ k. absurd (omega arith);
     bound = λ k. k;
@@ -118,21 +117,21 @@ module _ (t s : List ℕ) (w : Asking) (of : OfStream t w) (class : ℕ) (known 
       nothing e = unfold root_run in none_reads e
 
   module _ (turn : ℕ) (k : 2 ≤ turn) (h : turn < turns) where
-    root-due : (p : ℕ) → At p ≡ root_found t w turn class → DueAt t w class turn (record { turn = turn + 1; run = members_run p 1 })
+    root-due : (p : ℕ) → Some p ≡ root_found t w turn class → DueAt t w class turn (record { turn = turn + 1; run = members_run p 1 })
     unfolding root_run
     root-due p is = record {
       reads = λ e. turn-first turn k h e ∙ ap (λ x. ahead depth_limit t e (root_run x) ⨾ turns_at t w e class (turn + 1)) (sym is);
-      stands = run-stands t (At p) (rw (← is) at (turn-stands turn));
+      stands = run-stands t (Some p) (rw (← is) at (turn-stands turn));
       onward = omega arith;
       rises = λ _. omega arith;
       bound = λ _. omega arith;
     }
 
     -- a turn whose root is not there
-    passed : Nothing ≡ root_found t w turn class → (e : Env) → turns_at t w e class turn ≡ turns_at t w e class (turn + 1)
+    passed : None ≡ root_found t w turn class → (e : Env) → turns_at t w e class turn ≡ turns_at t w e class (turn + 1)
     passed is e = turn-first turn k h e ∙ rw (← is, none_reads e) (pass-seq _)
 
-    behind : (d : Due) → Nothing ≡ root_found t w turn class → DueAt t w class (turn + 1) d → DueAt t w class turn d
+    behind : (d : Due) → None ≡ root_found t w turn class → DueAt t w class (turn + 1) d → DueAt t w class turn d
     behind d is later = record {
       reads = λ e. passed is e ∙ later.reads e;
       stands = later.stands;
@@ -142,10 +141,10 @@ module _ (t s : List ℕ) (w : Asking) (of : OfStream t w) (class : ℕ) (known 
     }
 
     -- what is due behind a turn is due there, if its root is not
-    due-here : DueAt t w class (turn + 1) (next_due t w class (turn + 1)) → (x : TablePlace) → x ≡ root_found t w turn class
+    due-here : DueAt t w class (turn + 1) (next_due t w class (turn + 1)) → (x : Option ℕ) → x ≡ root_found t w turn class
         → DueAt t w class turn (next_due t w class turn)
-    due-here later Nothing is = rw (due-behind t w class turn h is) (behind _ is later)
-    due-here later (At p) is = rw (due-at t w class turn h p is) (root-due p is)
+    due-here later None is = rw (due-behind t w class turn h is) (behind _ is later)
+    due-here later (Some p) is = rw (due-at t w class turn h p is) (root-due p is)
 
   due-next : (n turn : ℕ) → turns - turn ≡ n → 2 ≤ turn → DueAt t w class turn (next_due t w class turn)
   due-next zero turn left k = let h : turns ≤ turn = omega arith in rw (due-end t w class turn h) (all_done turn h)

@@ -1,21 +1,21 @@
 -- What a turn gives, test by test: the branch of the definition that the code took. In order: the root that is next; the lookup; a turn.
+use Rattle.std.specs.Prelude.{Some, None, Option}
 use mathlib.Core.Path.{◌≡◌, refl, ap, sym, ◌∙◌}
-use Prim.Native.Nat.{ℕ, suc, ◌+◌, ◌-◌, ◌≤◌, ◌<◌}
+use Prim.Native.Nat.{ℕ, suc, ◌+◌, ◌-◌, ◌≤◌, ◌<◌, max}
 use native.Mathlib.Omega.{arith}
 use mathlib.Core.List.{List, [], ◌∷◌, ◌++◌}
 use mathlib.Core.Bool.{true, false, ◌&&◌}
+use mathlib.Core.Logic.{◌⊎◌, inl, inr}
 use lib.ListN.{drop}
 use lib.Dec.{ltb}
 use borrow.Author.Tests.{eq-eqb, ne_eqb}
+use Rattle.facts.proofs.Numbers.{lt-or-ge}
 use Rattle.rules.specs.declared.BitPlace.{BitPlace}
 use Rattle.rules.specs.declared.Refusal.{Refusal}
 use Rattle.rules.specs.declared.Refusal.TheVariants.{ClockWentBack, EventClassUnknown, ListFull}
 use Rattle.rules.specs.Limits.{words_per_entry}
 use Rattle.rules.specs.Entry.{entry, words, event_class_found}
-use Rattle.class_layout.specs.declared.TablePlace.{TablePlace}
-use Rattle.class_layout.specs.declared.TablePlace.TheVariants.{At, Nothing}
 use Rattle.class_layout.specs.Fragments.{find_event_at, fragments_of}
-use Rattle.class_layout.specs.Sizes.{found_of}
 use Rattle.field_runs.specs.Run.{members_run}
 use Rattle.event_turns.specs.declared.Asking.{Asking}
 use Rattle.event_turns.specs.declared.Due.{Due}
@@ -36,13 +36,22 @@ module _ (t : List ℕ) (w : Asking) (class turn : ℕ) where
     one-turn : turns - turn ≡ suc (turns - (turn + 1))
     one-turn = omega arith
 
-    pub due-at : (p : ℕ) → At p ≡ root_found t w turn class → next_due t w class turn ≡ record { turn = turn + 1; run = members_run p 1 }
+    pub due-at : (p : ℕ) → Some p ≡ root_found t w turn class → next_due t w class turn ≡ record { turn = turn + 1; run = members_run p 1 }
     unfolding next_due due_in due_of
     due-at p e = rw (one-turn, ← e) refl
 
-    pub due-behind : Nothing ≡ root_found t w turn class → next_due t w class turn ≡ next_due t w class (turn + 1)
+    pub due-behind : None ≡ root_found t w turn class → next_due t w class turn ≡ next_due t w class (turn + 1)
     unfolding next_due due_in due_of
     due-behind e = rw (one-turn, ← e) refl
+
+-- the turns are over: none had a root
+pub due-over : (t : List ℕ) (w : Asking) (class from turn m : ℕ) → turns ≤ turn → (from ≤ turns → turn ≤ turns) → m ≡ max turns from
+    → next_due t w class turn ≡ next_due t w class from → none_due m ≡ next_due t w class from
+due-over t w class from turn m over bound last so_far = by (lt-or-ge from turns)
+  where
+    by : (from < turns) ⊎ (turns ≤ from) → none_due m ≡ next_due t w class from
+    by (inl h) = let e : m ≡ turn = omega (arith, last, bound (omega arith)) in ap none_due e ∙ sym (due-end t w class turn over) ∙ so_far
+    by (inr h) = let e : m ≡ from = omega (arith, last) in ap none_due e ∙ sym (due-end t w class from h)
 
 -- the lookup
 
@@ -57,16 +66,16 @@ module _ (t : List ℕ) (w : Asking) (p : BitPlace) (clock last id room : ℕ) w
     left-full h = rw (lookup_left, b, h) refl
 
     left-looked : ltb room words_per_entry ≡ false
-        → lookup_left t w p clock last id room ≡ class_left w p clock id (found_of (find_event_at t (fragments_of t) w.id id))
+        → lookup_left t w p clock last id room ≡ class_left w p clock id (find_event_at t (fragments_of t) w.id id)
     unfolding lookup_left
     left-looked h = rw (lookup_left, b, h) refl
 
-    module _ (h : ltb room words_per_entry ≡ false) {o : TablePlace} (looked : o ≡ found_of (find_event_at t (fragments_of t) w.id id)) where
-      pub left-unknown : o ≡ Nothing → lookup_left t w p clock last id room ≡ refused_left (EventClassUnknown w.id id)
+    module _ (h : ltb room words_per_entry ≡ false) {o : Option ℕ} (looked : o ≡ find_event_at t (fragments_of t) w.id id) where
+      pub left-unknown : o ≡ None → lookup_left t w p clock last id room ≡ refused_left (EventClassUnknown w.id id)
       unfolding class_left
       left-unknown is = left-looked h ∙ ap (class_left w p clock id) (sym looked ∙ is)
 
-      pub left-found : (class : ℕ) → o ≡ At class → lookup_left t w p clock last id room ≡ class_left w p clock id (At class)
+      pub left-found : (class : ℕ) → o ≡ Some class → lookup_left t w p clock last id room ≡ class_left w p clock id (Some class)
       left-found class is = left-looked h ∙ ap (class_left w p clock id) (sym looked ∙ is)
 
 -- in its turn, and in any other
@@ -97,7 +106,7 @@ unfolding words
 gives-refused o why r ws left e = rw (left) (e, refl)
 
 pub gives_found : (o : LookupLeft) (w : Asking) (p : BitPlace) (clock id class : ℕ) (r : LookedUp) (ws ws' : List ℕ)
-    → o ≡ class_left w p clock id (At class) → r ≡ looked_on class clock 2 words_per_entry
+    → o ≡ class_left w p clock id (Some class) → r ≡ looked_on class clock 2 words_per_entry
     → ws' ≡ words (entry event_class_found p 0 id 0 ∷ []) ++ drop words_per_entry ws → LookupGives o r ws ws'
 unfolding class_left
 gives_found o w p clock id class r ws ws' left e list = rw (left) (e, list)

@@ -1,5 +1,6 @@
 -- What a turn did in the rules' words. Where it goes on: what it listed, and then the run that it leaves and what is left of the event
 -- from the turn behind it on. In order: a turn by itself; an event's beginning; its loop; a turn that was lent the rest of the list.
+use Rattle.std.specs.Prelude.{Some, None, Option, Ok, Err}
 use mathlib.Core.Path.{◌≡◌, refl, ap, sym, ◌∙◌}
 use mathlib.Core.List.{List, [], ◌∷◌, ◌++◌}
 use mathlib.Core.Bool.{Bool, true, false, ◌&&◌}
@@ -22,15 +23,12 @@ use Rattle.rules.specs.Table.{StreamClass}
 use Rattle.rules.specs.Packet.{mark, read_root, header_number}
 use Rattle.facts.proofs.Steps.{after-onto, seq-assoc, pass-seq}
 use Rattle.listing.specs.declared.Progress.{Progress}
-use Rattle.listing.specs.declared.Went.TheVariants.{On, Stopped}
 use Rattle.listing.specs.Did.{Did, full, out_of}
 use Rattle.listing.proofs.Roles.{went-no-further}
 use Rattle.listing.proofs.Marks.{mark_on}
 use Rattle.listing.proofs.Parts.{Part, part-start, part_step, part-stop, part_length, lent-room, lent, merged}
-use Rattle.class_layout.specs.declared.TablePlace.{TablePlace}
-use Rattle.class_layout.specs.declared.TablePlace.TheVariants.{At, Nothing}
 use Rattle.class_layout.specs.Fragments.{stream_class_at, event_class_at, asked_at, find_event_at, fragments_of}
-use Rattle.class_layout.specs.Sizes.{Sized, SizedFragment, found_of}
+use Rattle.class_layout.specs.Sizes.{Sized, SizedFragment}
 use Rattle.field_runs.specs.declared.Run.{Run}
 use Rattle.field_runs.specs.Run.{over}
 use Rattle.field_runs.specs.Ahead.{ahead, WholeRun}
@@ -51,14 +49,14 @@ use Rattle.event_turns.proofs.Dues.{run-numbered, run-stands, due-from}
 -- a turn at a state, by what it gave back and the list before and behind it
 pub record TurnAt (t s : List ℕ) (w : Asking) (e : Env) (turn class : ℕ) (st : Progress) (l : Slots) (r : Turn) (ws ws' : List ℕ)
     : Type 0 where
-  pub known : r.went ≡ On → Known t s r.turn r.class
-  pub stands : r.went ≡ On → WholeRun depth_limit t r.run
-  pub rises : r.went ≡ On → turn < turns → (turn < r.turn) × (r.turn ≤ turns)
-  pub goes : r.went ≡ On
+  pub known : r.went ≡ Ok tt → Known t s r.turn r.class
+  pub stands : r.went ≡ Ok tt → WholeRun depth_limit t r.run
+  pub rises : r.went ≡ Ok tt → turn < turns → (turn < r.turn) × (r.turn ≤ turns)
+  pub goes : r.went ≡ Ok tt
       → Part (turns_at t w e class turn (full st l (length ws))) (ahead depth_limit t e r.run ⨾ turns_at t w e r.class r.turn) ws ws'
       r.used (held_to r.last st) l
-  pub stops : (v : Stop) → r.went ≡ Stopped v
-      → Did (turns_at t w e class turn (full st l (length ws))) st (Stopped v) r.used st l ws ws'
+  pub stops : (v : Stop) → r.went ≡ Err v
+      → Did (turns_at t w e class turn (full st l (length ws))) st (Err v) r.used st l ws ws'
   pub room : r.used ≤ length ws
   pub same : length ws' ≡ length ws
 
@@ -150,27 +148,27 @@ module _ (t s : List ℕ) (w : Asking) (sized : Sized t s) (of : OfStream t w) (
       room : words_per_entry ≤ length ws
       room = ltb-false (length ws) words_per_entry holds
 
-      looked : (x : TablePlace) → x ≡ found_of (find_event_at t (fragments_of t) w.id Id) → Looked
+      looked : (x : Option ℕ) → x ≡ find_event_at t (fragments_of t) w.id Id → Looked
       unfolding class_left turn_behind
-      looked Nothing is =
+      looked None is =
           refused (EventClassUnknown w.id Id)
           (left-unknown t w st.place st.clock.value st.last Id (length ws) on holds is refl)
           (body-unknown (asked_at t) Class e st l (length ws) (told false on) room (event-unknown t w Id of is)
           ∙ ap (λ i. stop [] (stop_at (EventClassUnknown i Id) st.place)) (sym of.id))
-      looked (At p) is = rw g.0
+      looked (Some p) is = rw g.0
           (found-at-state p ws' (event-stands t s w.id Id p sized is) room
           (body-found (asked_at t) Class e st l (length ws) (event_class_at t p) (told false on) room (event-found t w Id of p is))
           g.1)
         where
-          left : Lookup ≡ class_left w st.place st.clock.value Id (At p)
+          left : Lookup ≡ class_left w st.place st.clock.value Id (Some p)
           left = left-found t w st.place st.clock.value st.last Id (length ws) on holds is p refl
 
           g : (r ≡ due_turn (looked_on p st.clock.value 2 words_per_entry) (next_due t w p 2))
               × (ws' ≡ words (entry event_class_found st.place 0 Id 0 ∷ []) ++ drop words_per_entry ws)
-          g = gave-by (class_left w st.place st.clock.value Id (At p)) left
+          g = gave-by (class_left w st.place st.clock.value Id (Some p)) left
 
       with-room : Looked
-      with-room = looked (found_of (find_event_at t (fragments_of t) w.id Id)) refl
+      with-room = looked (find_event_at t (fragments_of t) w.id Id) refl
 
     lookup-did : Looked
     lookup-did = first back refl
@@ -267,7 +265,7 @@ module _ (m m' g : Step) {o : Out} {ws₀ ws : List ℕ} {used : ℕ} {st : Prog
       let room : length ws₀ - used ≡ length (lent used ws) = omega (arith, lent-room used ws, part_length p) in
       ap (λ r. after (m (full st l r)) g) room ∙ ap (λ x. after x g) q.rest ∙ after-onto q.listed _ g
 
-  begins-did : Did (begins (full st l (length (lent used ws)))) st On n st' l' (lent used ws) ys
+  begins-did : Did (begins (full st l (length (lent used ws)))) st (Ok tt) n st' l' (lent used ws) ys
   unfolding out_of begins
   begins-did = record {
     listed = q.listed;
@@ -294,11 +292,11 @@ module _ (t s : List ℕ) (w : Asking) (e : Env) (turn class : ℕ) (g : Step) {
   pub turn-same : length (merged used ws ys) ≡ length ws₀
   turn-same = same_len_mid used (length ws - used) ws ys d.same ∙ part_length p
 
-  pub turn-stops : (v : Stop) → r.went ≡ Stopped v → (came : Progress) (l₀ : Slots)
-      → Did o came (Stopped v) (used + r.used) came l₀ ws₀ (merged used ws ys)
+  pub turn-stops : (v : Stop) → r.went ≡ Err v → (came : Progress) (l₀ : Slots)
+      → Did o came (Err v) (used + r.used) came l₀ ws₀ (merged used ws ys)
   turn-stops v off came l₀ = part-stop (turns_at t w e class turn) g p (d.stops v off) v came l₀ refl
 
-  pub turn-goes : r.went ≡ On
+  pub turn-goes : r.went ≡ Ok tt
       → Part o (ahead depth_limit t e r.run ⨾ (turns_at t w e r.class r.turn ⨾ g)) ws₀ (merged used ws ys) (used + r.used)
       (held_to r.last st) l
   turn-goes on =

@@ -1,6 +1,6 @@
 -- What an event begins with, and what a turn behind its header gives back and lists, by the table's bytes. In order: a root's run; the
 -- root that is next; the lookup; a turn.
-use Rattle.std.specs.Prelude.{ℕ, zero, suc, ◌+◌, ◌-◌, ◌*◌, ◌≡◌, List, [], ◌∷◌, ◌++◌, true, false, ◌&&◌, length, drop, ltb, eqb}
+use Rattle.std.specs.Prelude.{ℕ, zero, suc, ◌+◌, ◌-◌, ◌*◌, ◌≡◌, List, [], ◌∷◌, ◌++◌, true, false, ◌&&◌, length, drop, ltb, eqb, Some, None, Option, Ok, Err}
 use Rattle.rules.specs.declared.BitPlace.{BitPlace}
 use Rattle.rules.specs.declared.Entry.{Entry}
 use Rattle.rules.specs.declared.Refusal.{Refusal}
@@ -8,11 +8,7 @@ use Rattle.rules.specs.declared.Refusal.TheVariants.{ClockWentBack, EventClassUn
 use Rattle.rules.specs.Limits.{words_per_entry}
 use Rattle.rules.specs.Verdict.{stop_at}
 use Rattle.rules.specs.Entry.{entry, words, event_class_found}
-use Rattle.listing.specs.declared.Went.TheVariants.{On, Stopped}
-use Rattle.class_layout.specs.declared.TablePlace.{TablePlace}
-use Rattle.class_layout.specs.declared.TablePlace.TheVariants.{At, Nothing}
 use Rattle.class_layout.specs.Fragments.{root_place, find_event_at, fragments_of}
-use Rattle.class_layout.specs.Sizes.{found_of}
 use Rattle.field_runs.specs.declared.Run.{Run}
 use Rattle.field_runs.specs.Run.{members_run}
 use Rattle.event_turns.specs.declared.Asking.{Asking}
@@ -25,20 +21,20 @@ abbrev pub listed_into : List Entry → List ℕ → List ℕ
 listed_into es ws = words es ++ drop (words_per_entry * length es) ws
 
 -- a root is one member; there is none, where it is not there
-unfoldable pub root_run : TablePlace → Run
-root_run Nothing = members_run 0 0
-root_run (At p) = members_run p 1
+unfoldable pub root_run : Option ℕ → Run
+root_run None = members_run 0 0
+root_run (Some p) = members_run p 1
 
 -- what an event begins with
 unfoldable pub header_run : Asking → Run
 header_run w = root_run w.header
 
 -- behind the lookup come common, specific and payload
-unfoldable pub root_found : List ℕ → Asking → ℕ → ℕ → TablePlace
+unfoldable pub root_found : List ℕ → Asking → ℕ → ℕ → Option ℕ
 root_found t w turn class =
     elim (eqb turn 2) [
       | true ↦ w.common
-      | false ↦ elim (eqb turn 3) [ true ↦ found_of (root_place t class 0) | false ↦ found_of (root_place t class 1) ]
+      | false ↦ elim (eqb turn 3) [ true ↦ root_place t class 0 | false ↦ root_place t class 1 ]
     ]
 
 -- an event has five turns
@@ -50,9 +46,9 @@ unfoldable pub none_due : ℕ → Due
 none_due turn = record { turn = turn; run = members_run 0 0 }
 
 -- a root in its turn, or else what is due behind it
-unfoldable pub due_of : ℕ → Due → TablePlace → Due
-due_of turn behind Nothing = behind
-due_of turn behind (At p) = record { turn = turn + 1; run = members_run p 1 }
+unfoldable pub due_of : ℕ → Due → Option ℕ → Due
+due_of turn behind None = behind
+due_of turn behind (Some p) = record { turn = turn + 1; run = members_run p 1 }
 
 -- the first root from a turn on, of so many turns
 unfoldable pub due_in : List ℕ → Asking → ℕ → ℕ → ℕ → Due
@@ -78,9 +74,9 @@ abbrev pub refused_left : Refusal → LookupLeft
 refused_left why = record { result = not_looked why; listed = [] }
 
 -- the event's clock is the one that the next event's is held to; the common root's turn is next
-unfoldable pub class_left : Asking → BitPlace → ℕ → ℕ → TablePlace → LookupLeft
-class_left w p clock id Nothing = refused_left (EventClassUnknown w.id id)
-class_left w p clock id (At class) =
+unfoldable pub class_left : Asking → BitPlace → ℕ → ℕ → Option ℕ → LookupLeft
+class_left w p clock id None = refused_left (EventClassUnknown w.id id)
+class_left w p clock id (Some class) =
     record { result = looked_on class clock 2 words_per_entry; listed = entry event_class_found p 0 id 0 ∷ [] }
 
 -- 39, room (40), the lookup (37)
@@ -89,7 +85,7 @@ lookup_left t w p clock last id room = elim (w.timed && ltb clock last) [
   | true ↦ refused_left ClockWentBack
   | false ↦ elim (ltb room words_per_entry) [
     | true ↦ refused_left ListFull
-    | false ↦ class_left w p clock id (found_of (find_event_at t (fragments_of t) w.id id))
+    | false ↦ class_left w p clock id (find_event_at t (fragments_of t) w.id id)
   ]
 ]
 
@@ -103,11 +99,11 @@ looked_left t w turn class p clock last id room =
 
 -- what stopped leaves nothing
 abbrev pub stopped_turn : Refusal → BitPlace → Turn
-stopped_turn why p = record { went = Stopped (stop_at why p); used = 0; class = 0; last = 0; turn = 0; run = members_run 0 0 }
+stopped_turn why p = record { went = Err (stop_at why p); used = 0; class = 0; last = 0; turn = 0; run = members_run 0 0 }
 
 -- behind the lookup, the root that is due is left to be read
 abbrev pub due_turn : LookedUp → Due → Turn
-due_turn o d = record { went = On; used = o.used; class = o.class; last = o.last; turn = d.turn; run = d.run }
+due_turn o d = record { went = Ok tt; used = o.used; class = o.class; last = o.last; turn = d.turn; run = d.run }
 
 unfoldable pub turn_behind : List ℕ → Asking → BitPlace → LookedUp → Turn
 turn_behind t w p o = elim o.on [ true ↦ due_turn o (next_due t w o.class o.turn) | false ↦ stopped_turn o.why p ]

@@ -1,6 +1,5 @@
 -- What the steps of a reading rest on: an accepted table with its notes, and what a packet's events ask of their stream class.
-use Rattle.std.specs.Prelude.{ℕ, ◌≡◌, List}
-use Rattle.std.proofs.Math.Option.{some}
+use Rattle.std.specs.Prelude.{ℕ, ◌≡◌, List, Some}
 use Rattle.rules.specs.Packet.{header_number, common_number}
 use Rattle.laws.specs.Kept.{KeepsSlots}
 use Rattle.class_layout.specs.Fragments.{stream_class_at, asked_at}
@@ -15,7 +14,7 @@ pub record Ready (t : List ℕ) (x : Notes) : Type 0 where
 
 -- the stream class that a packet's events belong to
 pub record OfStream (t : List ℕ) (w : Asking) : Type 0 where
-  pub found : (asked_at t).stream w.id ≡ some (stream_class_at t w.class)
+  pub found : (asked_at t).stream w.id ≡ Some (stream_class_at t w.class)
   pub id : w.id ≡ (stream_class_at t w.class).id
   pub timed : w.timed ≡ (stream_class_at t w.class).timed
   pub header : class_of t w.header ≡ (stream_class_at t w.class).header

@@ -1,35 +1,32 @@
 -- Roots that were looked for: which class each is, its record's number, that it stands whole, and an event's roots one behind the other.
-use Rattle.std.specs.Prelude.{◌≡◌, ℕ, List}
-use Rattle.std.proofs.Math.Option.{Option, none, some}
+use Rattle.std.specs.Prelude.{◌≡◌, ℕ, List, Option, None, Some}
 use Rattle.rules.specs.Limits.{depth_limit}
 use Rattle.rules.specs.Class.{Class}
 use Rattle.rules.specs.Step.{Step, ◌⨾◌}
 use Rattle.rules.specs.Field.{Env}
 use Rattle.rules.specs.Table.{StreamClass, EventClass}
 use Rattle.rules.specs.Packet.{read_root, first_root, common_number, payload_number}
-use Rattle.class_layout.specs.declared.TablePlace.{TablePlace}
-use Rattle.class_layout.specs.declared.TablePlace.TheVariants.{At, Nothing}
 use Rattle.class_layout.specs.Numbers.{number_at}
 use Rattle.class_layout.specs.Trees.{class_at, IsWhole}
 
 -- the class
-unfoldable pub class_of : List ℕ → TablePlace → Option Class
-class_of t Nothing = none
-class_of t (At p) = some (class_at depth_limit t p)
+unfoldable pub class_of : List ℕ → Option ℕ → Option Class
+class_of t None = None
+class_of t (Some p) = Some (class_at depth_limit t p)
 
 -- the number of its record, where there is one; and that this is m
-unfoldable pub number_of : List ℕ → TablePlace → ℕ
-number_of t Nothing = 0
-number_of t (At p) = number_at t p
+unfoldable pub number_of : List ℕ → Option ℕ → ℕ
+number_of t None = 0
+number_of t (Some p) = number_at t p
 
-unfoldable pub Numbered : List ℕ → TablePlace → ℕ → Type 0
-Numbered t Nothing m = Unit {0}
-Numbered t (At p) m = number_at t p ≡ m
+unfoldable pub Numbered : List ℕ → Option ℕ → ℕ → Type 0
+Numbered t None m = Unit {0}
+Numbered t (Some p) m = number_at t p ≡ m
 
 -- that it stands whole
-unfoldable pub RootStands : List ℕ → TablePlace → Type 0
-RootStands t Nothing = Unit {0}
-RootStands t (At p) = IsWhole depth_limit t p
+unfoldable pub RootStands : List ℕ → Option ℕ → Type 0
+RootStands t None = Unit {0}
+RootStands t (Some p) = IsWhole depth_limit t p
 
 -- common, specific, payload
 unfoldable pub parts_of : Env → StreamClass → EventClass → Step

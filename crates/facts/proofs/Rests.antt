@@ -4,13 +4,13 @@
 -- Left, Ends                  it holds of the bytes that a parser leaves; of those that a walk leaves
 -- table-left, walk_ends       the parser's, and the walk's
 -- table-short, walk-short     no more bytes than the table has; at the walk's fault, one or more
+use Rattle.std.specs.Prelude.{Option, None, Some}
 use mathlib.Core.Path.{◌≡◌, refl, subst}
 use Prim.Native.Nat.{ℕ, zero, suc, ◌≤◌, ◌<◌}
 use native.Mathlib.Omega.{arith}
 use native.Mathlib.Nat.{le_refl}
 use mathlib.Core.List.{List, [], ◌∷◌, ◌++◌}
 use mathlib.Core.Bool.{Bool, true, false, not, ◌&&◌, ◌||◌}
-use mathlib.Core.Option.{Option, none, some}
 use lib.ListN.{length, length-drop}
 use lib.Dec.{ltb, leb}
 use borrow.Author.Tests.{leb-true}
@@ -89,10 +89,10 @@ module _ (G : List ℕ → Type 0) (on : (x : List ℕ) → G x → G (behind x)
     left-shape q z y elements x g = left-then (f inside x) _ (h inside x g) (λ c w j. j)
     left-shape q z y elements_of x g = left-then (f inside x) _ (h inside x g) (λ c w j. j)
     left-shape q z y option? x g =
-        left-then (parse_ranges q [] y.count none x) _ (left-ranges q [] y.count none x g) (λ p w j.
+        left-then (parse_ranges q [] y.count None x) _ (left-ranges q [] y.count None x g) (λ p w j.
         left-then (f inside w) _ (h inside w j) (λ c v i. i))
     left-shape q z y options x g =
-        left-then (parse_options q f y.count (none, []) x) _ (left-options q y.count (none, []) x g) (λ p w j. j)
+        left-then (parse_options q f y.count (None, []) x) _ (left-options q y.count (None, []) x g) (λ p w j. j)
 
     left_body : (q : Ids) (z : Spot) (r : Record) (x : List ℕ) → G x → Left (parse_body q f z r x)
     unfolding parse_body
@@ -123,8 +123,8 @@ module _ (G : List ℕ → Type 0) (on : (x : List ℕ) → G x → G (behind x)
       this = parse_class q (record { root = n; timed = timed; uuid = u? }) depth_limit top (behind x)
 
       by : (b : Bool) → ((y : List ℕ) → G y → Left (parse_roots q timed u? ns y)) → Left {A = List (Option Class)} (elim b [
-        | true ↦ then this λ c x. then (parse_roots q timed u? ns x) λ cs x. good (some c ∷ cs) x
-        | false ↦ then (parse_roots q timed u? ns x) λ cs x. good (none ∷ cs) x
+        | true ↦ then this λ c x. then (parse_roots q timed u? ns x) λ cs x. good (Some c ∷ cs) x
+        | false ↦ then (parse_roots q timed u? ns x) λ cs x. good (None ∷ cs) x
       ])
       by true rec =
           left-then this _ (left-class q _ depth_limit top (behind x) (on x g)) (λ c y k.

@@ -1,4 +1,5 @@
 -- What an optional or a variant selects, by the tests that lead to it.
+use Rattle.std.specs.Prelude.{Ok, Err}
 use Rattle.std.proofs.Common.{◌≡◌, ℕ, zero, suc, ◌+◌, ◌≤◌, List, length, sym, refl, ap, ◌∙◌, arith}
 use Rattle.rules.specs.declared.Content.{Content}
 use Rattle.rules.specs.declared.Refusal.{Refusal}
@@ -8,7 +9,6 @@ use Rattle.rules.specs.Faults.{sign_of}
 use Rattle.class_layout.specs.Trees.{Stood, ranges_at, sign_at}
 use Rattle.class_layout.specs.Notes.{end_noted}
 use Rattle.field_choice.specs.declared.Choice.TheVariants.{Refused}
-use Rattle.slots.specs.declared.Number.TheVariants.{Of, NotOf}
 use Rattle.slots.specs.Taken.{number_of}
 use Rattle.field_choice.specs.Choice.{by_number, present_at, by_flag, by_ranges, optional_class, optional_at}
 use Rattle.field_choice.specs.Choice.{option_from, variant_in, WholeVariant}
@@ -21,7 +21,8 @@ module _ (t : List ℕ) (at : ℕ) (x : Content) where
   flag-ranges g (suc n) class h = absurd (omega arith)
 
   some-ranges : (g : Sign) (n class : ℕ) → (n ≡ 0 → ⊥)
-      → by_ranges x g (ranges_at t (at + 3) n) class ≡ by_number (number_of g x) (λ v. present_at (any_holds g v (ranges_at t (at + 3) n)) class)
+      → by_ranges x g (ranges_at t (at + 3) n) class
+      ≡ by_number (number_of g x) (λ v. present_at (any_holds g v (ranges_at t (at + 3) n)) class)
   unfolding ranges_at by_ranges
   some-ranges g zero class h = absurd (h refl)
   some-ranges g (suc n) class h = refl
@@ -39,22 +40,22 @@ module _ (t : List ℕ) (at : ℕ) (x : Content) where
   unfolding optional_at
   optional-by-flag h = sym (flag-ranges (sign_at t (at + 3)) (u8 t (at + 2)) (optional_class t at) h)
 
-  pub optional-refused : (r : Refusal) → (u8 t (at + 2) ≡ 0 → ⊥) → number_of (sign_of (u8 t (at + 4))) x ≡ NotOf r
+  pub optional-refused : (r : Refusal) → (u8 t (at + 2) ≡ 0 → ⊥) → number_of (sign_of (u8 t (at + 4))) x ≡ Err r
       → Refused r ≡ optional_at t at x
   unfolding optional_at by_number
   optional-refused r h e = rw (optional-sign) (sym (some-ranges _ (u8 t (at + 2)) (optional_class t at) h ∙ rw (e) refl))
 
-  pub optional-chosen : (n : ℕ) → (u8 t (at + 2) ≡ 0 → ⊥) → number_of (sign_of (u8 t (at + 4))) x ≡ Of n
+  pub optional-chosen : (n : ℕ) → (u8 t (at + 2) ≡ 0 → ⊥) → number_of (sign_of (u8 t (at + 4))) x ≡ Ok n
       → present_at (any_holds (sign_of (u8 t (at + 4))) n (ranges_at t (at + 3) (u8 t (at + 2)))) (optional_class t at) ≡ optional_at t at x
   unfolding optional_at by_number
   optional-chosen n h e = rw (optional-sign) (sym (some-ranges _ (u8 t (at + 2)) (optional_class t at) h ∙ rw (e) refl))
 
   module _ (f : ℕ → Stood) where
-    pub variant-refused : (r : Refusal) → number_of (sign_of (u8 t (at + 6))) x ≡ NotOf r → Refused r ≡ variant_in f t at x
+    pub variant-refused : (r : Refusal) → number_of (sign_of (u8 t (at + 6))) x ≡ Err r → Refused r ≡ variant_in f t at x
     unfolding variant_in by_number
     variant-refused r e = rw (variant-sign, e) refl
 
-    pub variant-chosen : (n : ℕ) → number_of (sign_of (u8 t (at + 6))) x ≡ Of n
+    pub variant-chosen : (n : ℕ) → number_of (sign_of (u8 t (at + 6))) x ≡ Ok n
         → option_from f t (sign_of (u8 t (at + 6))) n 0 (at + 3) (u8 t (at + 2)) ≡ variant_in f t at x
     unfolding variant_in by_number
     variant-chosen n e = rw (variant-sign, e) refl

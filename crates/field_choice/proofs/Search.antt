@@ -26,23 +26,26 @@ module _ (t : List ℕ) (g : Sign) (v : ℕ) where
   no-range at zero l = refl
   no-range at (suc n) l = absurd (omega arith)
 
-  -- of n ranges from `at` on, `more` are left from `here` on
-  pub record RangesLeft (at n here more : ℕ) : Type 0 where
-    pub place : here + 18 * more ≡ at + 18 * n
-    pub same : any_holds g v (ranges_at t at n) ≡ any_holds g v (ranges_at t here more)
+  -- of n ranges from `at` on, i are passed
+  pub record RangesPassed (at n i : ℕ) : Type 0 where
+    pub same : any_holds g v (ranges_at t at n) ≡ any_holds g v (ranges_at t (at + 18 * i) (n - i))
 
-  pub ranges-start : {at n : ℕ} → RangesLeft at n at n
-  ranges-start = record { place = refl; same = refl }
+  pub ranges-start : (at n : ℕ) → RangesPassed at n 0
+  ranges-start at n =
+      let here : at + 18 * 0 ≡ at = omega arith in let all : n - 0 ≡ n = omega arith in record { same = rw (here, all) refl }
 
-  module _ {at n here more : ℕ} (r : RangesLeft at n here more) where
-    pub ranges-hit : 0 < more → holds g v (range_at t here) ≡ true → any_holds g v (ranges_at t at n) ≡ true
-    ranges-hit l h = r.same ∙ range-holds here more l h
+  module _ {at n i : ℕ} (r : RangesPassed at n i) where
+    pub ranges-hit : i < n → holds g v (range_at t (at + 18 * i)) ≡ true → any_holds g v (ranges_at t at n) ≡ true
+    ranges-hit l h = r.same ∙ range-holds (at + 18 * i) (n - i) (omega arith) h
 
-    pub ranges-next : 0 < more → holds g v (range_at t here) ≡ false → RangesLeft at n (here + 18) (more - 1)
-    ranges-next l h = record { place = omega (arith, r.place); same = r.same ∙ range-not here more l h }
+    pub ranges-next : i < n → holds g v (range_at t (at + 18 * i)) ≡ false → RangesPassed at n (i + 1)
+    ranges-next l h =
+        let here : at + 18 * (i + 1) ≡ at + 18 * i + 18 = omega arith in
+        let left : n - (i + 1) ≡ n - i - 1 = omega arith in
+        record { same = rw (here, left) (r.same ∙ range-not (at + 18 * i) (n - i) (omega arith) h) }
 
-    pub ranges-done : more ≤ 0 → any_holds g v (ranges_at t at n) ≡ false
-    ranges-done l = r.same ∙ no-range here more l
+    pub ranges-done : n ≤ i → any_holds g v (ranges_at t at n) ≡ false
+    ranges-done l = r.same ∙ no-range (at + 18 * i) (n - i) (omega arith)
 
 -- the option at a byte: its ranges and its class are there
 pub record OptionHere (t : List ℕ) (at : ℕ) : Type 0 where
@@ -78,30 +81,29 @@ module _ (f : ℕ → Stood) (t : List ℕ) where
     no-option k at zero l = refl
     no-option k at (suc n) l = absurd (omega arith)
 
-    -- of n options from `at` on, `todo` are left from `next` on, the first of them the kth
-    pub record OptionsLeft (at n next todo k : ℕ) : Type 0 where
-      pub whole : WholeOptions (InTable t) f t next todo
-      pub same : option_from f t g v 0 at n ≡ option_from f t g v k next todo
-      pub number : k + todo ≡ n
+    -- of n options from `at` on, k are passed, and `next` is where they end
+    pub record OptionsPassed (at n next k : ℕ) : Type 0 where
+      pub whole : WholeOptions (InTable t) f t next (n - k)
+      pub same : option_from f t g v 0 at n ≡ option_from f t g v k next (n - k)
 
-    pub options-start : {at n : ℕ} → WholeOptions (InTable t) f t at n → OptionsLeft at n at n 0
-    options-start w = record { whole = w; same = refl; number = omega arith }
+    pub options-start : {at n : ℕ} → WholeOptions (InTable t) f t at n → OptionsPassed at n at 0
+    options-start {at} {n} w = let all : n - 0 ≡ n = omega arith in record { whole = rw all w; same = rw all refl }
 
-    module _ {at n next todo k : ℕ} (o : OptionsLeft at n next todo k) where
-      pub options-here : 0 < todo → OptionHere t next
-      options-here l = option-here next todo l o.whole
+    module _ {at n next k : ℕ} (o : OptionsPassed at n next k) where
+      pub options-there : k < n → option_class t next < length t
+      options-there l = (option-here next (n - k) (omega arith) o.whole).there
 
-      pub options-hit : 0 < todo → any_holds g v (ranges_at t (next + 2) (u8 t (next + 1))) ≡ true
+      pub options-hit : k < n → any_holds g v (ranges_at t (next + 2) (u8 t (next + 1))) ≡ true
           → Class (option_class t next) k ≡ option_from f t g v 0 at n
-      options-hit l h = sym (o.same ∙ option-holds k next todo l h)
+      options-hit l h = sym (o.same ∙ option-holds k next (n - k) (omega arith) h)
 
-      pub options-next : 0 < todo → any_holds g v (ranges_at t (next + 2) (u8 t (next + 1))) ≡ false
-          → OptionsLeft at n (f (option_class t next)).next (todo - 1) (k + 1)
-      options-next l h = record {
-        whole = whole-rest next todo l o.whole;
-        same = o.same ∙ option-not k next todo l h;
-        number = omega (arith, o.number);
-      }
+      pub options-next : k < n → any_holds g v (ranges_at t (next + 2) (u8 t (next + 1))) ≡ false
+          → OptionsPassed at n (f (option_class t next)).next (k + 1)
+      options-next l h =
+          let left : n - (k + 1) ≡ n - k - 1 = omega arith in record {
+            whole = rw left (whole-rest next (n - k) (omega arith) o.whole);
+            same = rw left (o.same ∙ option-not k next (n - k) (omega arith) h);
+          }
 
-      pub options-done : todo ≤ 0 → Nothing ≡ option_from f t g v 0 at n
-      options-done l = sym (o.same ∙ no-option k next todo l)
+      pub options-done : n ≤ k → Nothing ≡ option_from f t g v 0 at n
+      options-done l = sym (o.same ∙ no-option k next (n - k) (omega arith))

@@ -1,5 +1,6 @@
 -- What an optional or a variant selects, by the table's bytes.
-use Rattle.std.specs.Prelude.{ℕ, zero, suc, ◌+◌, ◌*◌, ◌<◌, ◌≤◌, Bool, true, false, List, [], ◌∷◌, length}
+use Rattle.rules.specs.declared.Refusal.{Refusal}
+use Rattle.std.specs.Prelude.{ℕ, zero, suc, ◌+◌, ◌*◌, ◌<◌, ◌≤◌, Bool, true, false, List, [], ◌∷◌, length, Ok, Err, Result}
 use Rattle.rules.specs.declared.Content.{Content}
 use Rattle.rules.specs.declared.Content.TheVariants.{Unset, Flag, Unsigned, Signed}
 use Rattle.rules.specs.declared.Refusal.TheVariants.{SlotUnset, SlotOfWrongSort}
@@ -11,12 +12,10 @@ use Rattle.class_layout.specs.Notes.{end_noted}
 use Rattle.slots.specs.Taken.{number_of}
 use Rattle.field_choice.specs.declared.Choice.{Choice}
 use Rattle.field_choice.specs.declared.Choice.TheVariants.{Class, Nothing, Refused}
-use Rattle.slots.specs.declared.Number.{Number}
-use Rattle.slots.specs.declared.Number.TheVariants.{Of, NotOf}
 
-unfoldable pub by_number : Number → (ℕ → Choice) → Choice
-by_number (Of n) m = m n
-by_number (NotOf r) m = Refused r
+unfoldable pub by_number : Result ℕ Refusal → (ℕ → Choice) → Choice
+by_number (Ok n) m = m n
+by_number (Err r) m = Refused r
 
 -- the range at a byte
 abbrev pub range_at : List ℕ → ℕ → Range

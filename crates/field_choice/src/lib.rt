@@ -7,15 +7,17 @@ ghost use Rattle.rules.specs.Class.{key, holds, any_holds};
 ghost use Rattle.rules.specs.Faults.{sign_of};
 ghost use Rattle.class_layout.specs.Trees.{ranges_at, WholeOptions};
 ghost use Rattle.class_layout.specs.Notes.{end_noted};
-ghost use Rattle.field_choice.specs.Choice.{range_at, present_at, by_flag, optional_at, option_from, variant_at, InTable, WholeOptional, WholeVariant};
+ghost use Rattle.field_choice.specs.Choice.{range_at, present_at, by_flag, optional_at, option_from, variant_at};
+ghost use Rattle.field_choice.specs.Choice.{InTable, WholeOptional, WholeVariant};
 
 use numbers::signs;
 use rules::{Content, Refusal};
-use slots::{Number, number_of};
+use slots::number_of;
 use table_bytes::{count_at, size_at, u64_at};
 use table_records::bodies::{OPTION_SIZE, OPTIONAL_SIZE, RANGE_SIZE, VARIANT_SIZE};
 
-// What is selected: the class at a byte, as the ith option; nothing; or why it cannot be told.
+// What is selected: the class at a byte, as the ith option; nothing; or why it cannot be told. Three ends, of which an optional refuses one
+// and a variant two: an Option in a Result would be taken apart twice.
 #[derive(Clone, Copy)]
 pub enum Choice {
     Class { at: usize, option: u64 },
@@ -32,7 +34,7 @@ fn key(sign: u8, word: u64) -> u64
     if sign == signs::UNSIGNED {
         return word;
     }
-    std::num::wrapping_add_u64(word, SIGN_BIT)
+    word.wrapping_add(SIGN_BIT)
 }
 
 // Whether the range at a byte holds a number, both ends among it.
@@ -52,14 +54,10 @@ fn any_holds(table: &[u8], at: usize, count: usize, sign: u8, number: u64) -> bo
     requires { (at + 18 * count ≤ length table.now) × (length table.now ≤ 65536) }
     ensures { result ≡ any_holds (sign_of sign) number (ranges_at table.now at count) }
 {
-    let mut here = at;
-    let mut todo = count;
-    while 0 < todo {
-        if holds(table, here, sign, number) {
+    for i in 0..count {
+        if holds(table, at + RANGE_SIZE * i, sign, number) {
             return true;
         }
-        here = here + RANGE_SIZE;
-        todo = todo - 1;
     }
     false
 }
@@ -76,8 +74,8 @@ pub fn choose_optional(table: &[u8], at: usize, content: Content) -> Choice
     }
     let sign = table[at + 4];
     match number_of(content, sign) {
-        Number::NotOf(why) => Choice::Refused(why),
-        Number::Of(n) => present(any_holds(table, at + OPTIONAL_SIZE, count, sign, n), class),
+        Err(why) => Choice::Refused(why),
+        Ok(n) => present(any_holds(table, at + OPTIONAL_SIZE, count, sign, n), class),
     }
 }
 
@@ -112,8 +110,8 @@ pub fn choose_option(table: &[u8], sizes: &[u16], at: usize, content: Content) -
 {
     let sign = table[at + 6];
     match number_of(content, sign) {
-        Number::NotOf(why) => Choice::Refused(why),
-        Number::Of(n) => first_option(
+        Err(why) => Choice::Refused(why),
+        Ok(n) => first_option(
             table,
             sizes,
             at + VARIANT_SIZE,
@@ -124,7 +122,7 @@ pub fn choose_option(table: &[u8], sizes: &[u16], at: usize, content: Content) -
     }
 }
 
-// The first option from a byte on that holds a number: both loops are left at the first range that does.
+// The first option from a byte on that holds a number.
 fn first_option(
     table: &[u8],
     sizes: &[u16],
@@ -138,25 +136,16 @@ fn first_option(
     ensures { result ≡ option_from (end_noted sizes.now) table.now (sign_of sign) number 0 at count }
 {
     let mut next = at;
-    let mut todo = count;
-    let mut option: u64 = 0;
-    let mut found = Choice::Nothing;
-    'search: while 0 < todo {
+    for option in 0..count {
         let ranges = count_at(table, next + 1);
         let class = next + OPTION_SIZE + RANGE_SIZE * ranges;
-        let mut here = next + OPTION_SIZE;
-        let mut more = ranges;
-        while 0 < more {
-            if holds(table, here, sign, number) {
-                found = Choice::Class { at: class, option };
-                break 'search;
-            }
-            here = here + RANGE_SIZE;
-            more = more - 1;
+        if any_holds(table, next + OPTION_SIZE, ranges, sign, number) {
+            return Choice::Class {
+                at: class,
+                option: option as u64,
+            };
         }
         next = class + size_at(sizes, class);
-        option = option + 1;
-        todo = todo - 1;
     }
-    found
+    Choice::Nothing
 }

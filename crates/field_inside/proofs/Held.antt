@@ -1,4 +1,5 @@
 -- What is told of a field can be read on: the classes that it holds stand whole, and its place lies in the packet.
+use Rattle.std.specs.Prelude.{Ok, Err, Result}
 use mathlib.Core.Path.{◌≡◌, refl}
 use Prim.Native.Nat.{ℕ, zero, suc, ◌+◌, ◌^◌, ◌≤◌, ◌<◌}
 use native.Mathlib.Omega.{arith}
@@ -26,8 +27,6 @@ use Rattle.class_layout.specs.Notes.{Notes, Prepared}
 use Rattle.class_layout.proofs.InPlace.{structure-in-place, optional-in-place}
 use Rattle.field_choice.specs.declared.Choice.{Choice}
 use Rattle.field_choice.specs.declared.Choice.TheVariants.{Class, Nothing, Refused as NotTold}
-use Rattle.slots.specs.declared.Number.{Number}
-use Rattle.slots.specs.declared.Number.TheVariants.{Of as Told, NotOf as NoNumber}
 use Rattle.field_inside.specs.declared.look.Inside.{Inside}
 use Rattle.field_inside.specs.declared.look.Inside.TheVariants.{Members, Elements, Refused}
 use Rattle.field_choice.specs.Choice.{by_number, present_at, by_flag, by_ranges, optional_class, optional_at, option_from, variant_in}
@@ -85,11 +84,11 @@ module _ (P : Inside → Type 0) (refused : (v : Stop) → P (Refused v)) where
       by true q = rw (q, length_of) (refused _)
       by false q = rw (q, length_of) (h n (ltb-false _ _ q))
 
-  number-has : (inside : Choice → Inside) → ((r : Refusal) → P (inside (NotTold r))) → (n : Number) (m : ℕ → Choice)
+  number-has : (inside : Choice → Inside) → ((r : Refusal) → P (inside (NotTold r))) → (n : Result ℕ Refusal) (m : ℕ → Choice)
       → ((v : ℕ) → P (inside (m v))) → P (inside (by_number n m))
   unfolding by_number
-  number-has inside none (Told v) m h = h v
-  number-has inside none (NoNumber r) m h = none r
+  number-has inside none (Ok v) m h = h v
+  number-has inside none (Err r) m h = none r
 
   module _ (p : BitPlace) (at class : ℕ) (there : P (Members p 1 class 1)) (none : P (Members p 0 at 0)) where
     present-has : (c : Bool) → P (optional_inside p at (present_at c class))

@@ -1,4 +1,5 @@
 -- The five kinds that hold others, each by its number: what its record says, and what is told of it.
+use Rattle.std.specs.Prelude.{Ok, Err}
 use mathlib.Core.Path.{◌≡◌, refl}
 use Prim.Native.Nat.{ℕ, ◌+◌, ◌-◌, ◌≤◌}
 use native.Mathlib.Omega.{arith}
@@ -12,7 +13,6 @@ use Rattle.rules.specs.Verdict.{stop_at}
 use Rattle.rules.specs.Record.{u8, u16}
 use Rattle.facts.proofs.Cases.{below, ◌▷◌}
 use Rattle.frame.specs.declared.Frame.{Frame}
-use Rattle.slots.specs.declared.Length.TheVariants.{Of, NotOf}
 use Rattle.slots.specs.Taken.{length_of}
 use Rattle.class_layout.specs.Trees.{shape_of, shapes, record_size, WholeIn}
 use Rattle.class_layout.specs.Notes.{Notes, end_noted}
@@ -36,11 +36,11 @@ module _ (t : List ℕ) (x : Notes) (at : ℕ) (f : Frame) (p : BitPlace) (c : C
   unfolding inside_of inside_in shape_of shapes
   inside-array e = rw (e) refl
 
-  pub inside-no-length : (r : Refusal) → u8 t at ≡ 30 → length_of c ≡ NotOf r → Refused (stop_at r p) ≡ inside_of t x at f p c
+  pub inside-no-length : (r : Refusal) → u8 t at ≡ 30 → length_of c ≡ Err r → Refused (stop_at r p) ≡ inside_of t x at f p c
   unfolding inside_of inside_in shape_of shapes by_length
   inside-no-length r e h = rw (e, h) refl
 
-  pub inside-dynamic : (n : ℕ) → u8 t at ≡ 30 → length_of c ≡ Of n
+  pub inside-dynamic : (n : ℕ) → u8 t at ≡ 30 → length_of c ≡ Ok n
       → standing f (bits_noted x at) p (elements_from n (at + 3)) ≡ inside_of t x at f p c
   unfolding inside_of inside_in shape_of shapes by_length
   inside-dynamic n e h = rw (e, h) refl

@@ -1,5 +1,6 @@
 -- The rules' reading of a field of kinds 28 to 32 is what is told of it, and then what is done with that.
 -- In order: a place and an entry; alignment; a length; a number; each kind; all five.
+use Rattle.std.specs.Prelude.{Ok, Err, Result}
 use mathlib.Core.Path.{◌≡◌, refl, sym, ap, ◌∙◌}
 use Prim.Native.Nat.{ℕ, zero, suc, ◌+◌, ◌≤◌}
 use native.Mathlib.Nat.{add-zero}
@@ -38,8 +39,6 @@ use Rattle.class_layout.proofs.Numbered.{options-rest}
 use Rattle.class_layout.proofs.NumberedReads.{structure-reads, option-reads}
 use Rattle.field_choice.specs.declared.Choice.{Choice}
 use Rattle.field_choice.specs.declared.Choice.TheVariants.{Refused as NotTold}
-use Rattle.slots.specs.declared.Number.{Number}
-use Rattle.slots.specs.declared.Number.TheVariants.{Of, NotOf}
 use Rattle.field_inside.specs.declared.look.Inside.{Inside}
 use Rattle.field_inside.specs.declared.look.Inside.TheVariants.{Members, Refused}
 use Rattle.field_choice.specs.Choice.{InTable, by_number, present_at, by_flag, by_ranges, optional_class, optional_at, option_from}
@@ -240,10 +239,10 @@ module _ (b uuid : List ℕ) (f : Frame) (s : State) (d : ℕ) (t : List ℕ) (j
 
 -- All five
 
-number_same : (n : Number) (m m' : ℕ → Choice) → ((v : ℕ) → m v ≡ m' v) → by_number n m ≡ by_number n m'
+number_same : (n : Result ℕ Refusal) (m m' : ℕ → Choice) → ((v : ℕ) → m v ≡ m' v) → by_number n m ≡ by_number n m'
 unfolding by_number
-number_same (Of v) m m' h = h v
-number_same (NotOf r) m m' h = refl
+number_same (Ok v) m m' h = h v
+number_same (Err r) m m' h = refl
 
 -- the notes find the option that the tree has
 pub variant-noted : (d : ℕ) (t : List ℕ) (x : Notes) (at : ℕ) (c : Content) → Prepared t x

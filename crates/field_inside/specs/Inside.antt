@@ -1,6 +1,7 @@
 -- What a field of kinds 28 to 32 holds and where it stands, by the table's bytes and what is noted of its classes: "slot checks 26, 27, 28,
 -- alignment"; "29 after the slot checks" (Reading).
-use Rattle.std.specs.Prelude.{ℕ, ◌+◌, ◌^◌, ◌≤◌, List, true, false, length, get_or, ltb}
+use Rattle.rules.specs.declared.Refusal.{Refusal}
+use Rattle.std.specs.Prelude.{ℕ, ◌+◌, ◌^◌, ◌≤◌, List, true, false, length, get_or, ltb, Ok, Err, Result}
 use Rattle.rules.specs.declared.BitPlace.{BitPlace}
 use Rattle.rules.specs.declared.Content.{Content}
 use Rattle.rules.specs.declared.Refusal.TheVariants.{PastBound, SelectorInNoOption}
@@ -12,8 +13,6 @@ use Rattle.rules.specs.Step.{Step, ◌⨾◌, refuse_at, listed}
 use Rattle.rules.specs.Class.{Class as FieldClass}
 use Rattle.rules.specs.Field.{Env, times, forget, read, read_members}
 use Rattle.frame.specs.declared.Frame.{Frame}
-use Rattle.slots.specs.declared.Length.{Length}
-use Rattle.slots.specs.declared.Length.TheVariants.{Of, NotOf}
 use Rattle.frame.specs.Framed.{aligned_at}
 use Rattle.slots.specs.Taken.{length_of}
 use Rattle.class_layout.specs.Numbers.{number_at}
@@ -59,9 +58,9 @@ members_from n from p = Members p n from n
 abbrev pub elements_from : ℕ → ℕ → BitPlace → Inside
 elements_from n from p = Elements p n from n
 
-unfoldable pub by_length : BitPlace → Length → (ℕ → Inside) → Inside
-by_length p (Of n) m = m n
-by_length p (NotOf r) m = Refused (stop_at r p)
+unfoldable pub by_length : BitPlace → Result ℕ Refusal → (ℕ → Inside) → Inside
+by_length p (Ok n) m = m n
+by_length p (Err r) m = Refused (stop_at r p)
 
 -- "optionals bits 0 and 1 or 0"; one that is not there holds no class, at the byte behind it
 unfoldable pub optional_inside : BitPlace → ℕ → Choice → Inside

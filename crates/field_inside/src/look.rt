@@ -10,12 +10,12 @@ use field_choice::{Choice, choose_option, choose_optional};
 use frame::Frame;
 use numbers::{kinds, limits};
 use rules::{BitPlace, Content, Refusal, Stop};
-use slots::{Length, length_of};
+use slots::length_of;
 use table_bytes::{count_at, size_at, u16_at};
 use table_records::bodies;
 
 // Members: the field's place and value, and `count` classes one behind the other from the byte `from` on. Elements: the same, and the class
-// at `from`, `count` times.
+// at `from`, `count` times. Three ends, each taken in its own way: a Result would put two into one.
 #[derive(Clone, Copy)]
 pub enum Inside {
     Members {
@@ -75,8 +75,8 @@ pub fn look(
             place,
         ),
         kinds::DYNAMIC_ARRAY => match length_of(content) {
-            Length::NotOf(why) => Inside::Refused(Stop { why, place }),
-            Length::Of(n) => elements(
+            Err(why) => Inside::Refused(Stop { why, place }),
+            Ok(n) => elements(
                 n,
                 at + bodies::DYNAMIC_ARRAY_SIZE,
                 align_of(aligns[at]),

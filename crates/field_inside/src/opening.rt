@@ -50,19 +50,15 @@ pub fn open_field(
     let kind = table[at];
     let number = number_of(aligns[at]);
     match look(table, sizes, aligns, at, frame, place, content) {
-        Inside::Refused(stop) => {
-            let why = stop.why;
-            let place = stop.place;
-            Opened {
-                on: false,
-                why,
-                place,
-                from: 0,
-                count: 0,
-                elements: false,
-                forgets: 0,
-            }
-        }
+        Inside::Refused(stop) => Opened {
+            on: false,
+            why: stop.why,
+            place: stop.place,
+            from: 0,
+            count: 0,
+            elements: false,
+            forgets: 0,
+        },
         Inside::Members {
             place: there,
             value,

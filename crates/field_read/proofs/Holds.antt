@@ -1,4 +1,5 @@
 -- A field that holds others: its own entry stands in front, and what is inside is lent the rest of the list.
+use Rattle.std.specs.Prelude.{Ok, Err, Result, ⊤}
 use mathlib.Core.Path.{◌≡◌, refl, ap, sym, subst, ◌∙◌}
 use mathlib.Core.List.{List, [], ◌∷◌}
 use mathlib.Core.Bool.{true, false}
@@ -33,8 +34,6 @@ use Rattle.field_runs.specs.Ahead.{Forgets}
 use Rattle.frame.specs.declared.Frame.{Frame}
 use Rattle.frame.specs.Framed.{Framed, env_of}
 use Rattle.listing.specs.declared.Progress.{Progress}
-use Rattle.listing.specs.declared.Went.{Went}
-use Rattle.listing.specs.declared.Went.TheVariants.{On, Stopped}
 use Rattle.listing.specs.Did.{full, at_place}
 use Rattle.listing.proofs.Roles.{went-no-further}
 use Rattle.listing.proofs.Parts.{Part, part-last-on, part-last-stopped, part_length, back-room, lent, merged}
@@ -60,8 +59,8 @@ pub record Holder (b u : List ℕ) (f : Frame) (t : List ℕ) (x : Notes) (d at 
 pub record Closed (w : Call) (ws : List ℕ) (r : Field) : Type 0 where
   pub fits : words_per_entry + r.used < 2 ^ 60
   pub same : length ws ≡ length w.list
-  pub stops : (v : Stop) → r.went ≡ Stopped v → CallReads w (stopped_call w v (words_per_entry + r.used)) ws
-  pub goes : r.went ≡ On → CallReads w (record { went = On; used = words_per_entry + r.used; state = r.state; slots = r.slots }) ws
+  pub stops : (v : Stop) → r.went ≡ Err v → CallReads w (stopped_call w v (words_per_entry + r.used)) ws
+  pub goes : r.went ≡ Ok tt → CallReads w (record { went = Ok tt; used = words_per_entry + r.used; state = r.state; slots = r.slots }) ws
 
 -- the class of an opened array's elements, and what is forgotten around each
 pub record ElementsStand (d : ℕ) (t : List ℕ) (o : Opened) : Type 0 where
@@ -77,9 +76,9 @@ pub closed-reads : {w : Call} {ws : List ℕ} {r : Field} → Closed w ws r → 
 unfolding gone
 closed-reads {w} {ws} {r} k = by r.went refl
   where
-    by : (g : Went) → r.went ≡ g → CallReads w (gone g (words_per_entry + r.used) r.state r.slots w.came w.given) ws
-    by On on = k.goes on
-    by (Stopped v) off = k.stops v off
+    by : (g : Result ⊤ Stop) → r.went ≡ g → CallReads w (gone g (words_per_entry + r.used) r.state r.slots w.came w.given) ws
+    by (Ok u) on = k.goes on
+    by (Err v) off = k.stops v off
 
 module _ {b u : List ℕ} {f : Frame} {t : List ℕ} {x : Notes} {d at : ℕ} {c : Content} {st : Progress} {l : Slots} {ws : List ℕ}
     (h : Holder b u f t x d at c st l ws) where

@@ -1,8 +1,8 @@
 -- A role moves neither the place nor the order of the last field.
+use Rattle.std.specs.Prelude.{Option, None, Some}
 use mathlib.Core.Path.{◌≡◌, refl}
 use mathlib.Core.List.{[]}
 use mathlib.Core.Bool.{Bool, true, false, not}
-use mathlib.Core.Option.{Option, none, some}
 use Prim.Native.Nat.{ℕ}
 use lib.Dec.{eqb, ltb}
 use Rattle.rules.specs.declared.Refusal.TheVariants.{ListFull, WrongMagic}
@@ -20,8 +20,8 @@ Stays s (go es z) = (z.place ≡ s.place) × (z.order ≡ s.order)
 
 clock-stays : (l : ℕ) (c : Option ℕ) (s : State) → Stays s (onto [] (new_clock l c s))
 unfolding Stays new_clock refuse onto ◌⨾◌ after listed change with_clock
-clock-stays l none s = tt
-clock-stays l (some c) s = (refl, refl)
+clock-stays l None s = tt
+clock-stays l (Some c) s = (refl, refl)
 
 pub role-stays : (r : Role) (l v : ℕ) (s : State) → Stays s (role r l v s)
 unfolding Stays role pass check due say change with_said refuse ◌⨾◌ after

@@ -1,6 +1,8 @@
 -- Rounds of a loop over a run of fields, whichever loop it is: what was listed, and then what is ahead of the run, and then what comes
 -- behind it, is the whole outcome. In order: what a loop keeps; what falls; entries put into the list; the run's end and no room; leaves,
 -- and what is due of the last; fields that are opened; a field that is read by itself.
+use Rattle.std.specs.Prelude.{Option, Ok, Err, Result, ⊤}
+use Rattle.rules.specs.declared.Order.{Order}
 use mathlib.Core.Path.{◌≡◌, refl, ap, sym, subst, ◌∙◌}
 use mathlib.Core.List.{List, [], ◌∷◌, ◌++◌, append-nil}
 use mathlib.Core.Bool.{Bool, true, false}
@@ -9,7 +11,6 @@ use native.Mathlib.Omega.{arith}
 use borrow.Rule.Slice.PartMut.{same_len_mid}
 use lib.ListN.{length, take, drop, length-set, take-append-drop}
 use Rattle.rules.specs.declared.BitPlace.{BitPlace}
-use Rattle.rules.specs.declared.LastOrder.{LastOrder}
 use Rattle.rules.specs.declared.Entry.{Entry}
 use Rattle.rules.specs.declared.Stop.{Stop}
 use Rattle.rules.specs.declared.Content.{Content}
@@ -42,8 +43,6 @@ use Rattle.leaf_after.specs.declared.Seen.TheVariants.{Field as Sees, OtherUuid,
 use Rattle.leaf_after.specs.declared.Due.{Due}
 use Rattle.leaf_after.specs.declared.Leaves.{Leaves}
 use Rattle.listing.specs.declared.Progress.{Progress}
-use Rattle.listing.specs.declared.Went.{Went}
-use Rattle.listing.specs.declared.Went.TheVariants.{On, Stopped}
 use Rattle.listing.specs.declared.role.Roled.{Roled}
 use Rattle.listing.specs.declared.role.Advanced.{Advanced}
 use Rattle.listing.specs.Roled.{Stamp, with_event, ticked_state, advanced_by, list_advanced}
@@ -113,7 +112,7 @@ Round w r = Kept w (left w r) r
 
 -- the loop stopped, with so many words listed
 abbrev pub Stops : Loop → Stop → ℕ → List ℕ → Type 0
-Stops w v n ws = (came : Progress) (l : Slots) → Did w.all came (Stopped v) n came l w.list ws
+Stops w v n ws = (came : Progress) (l : Slots) → Did w.all came (Err v) n came l w.list ws
 
 -- What falls: the room that is left, which a round that lists takes of, and the steps that a loop has to do without listing: turns that are
 -- left, and runs that were put off. A walk has none of these
@@ -135,7 +134,7 @@ module _ {o : Out} {m : Step} {ws₀ ws : List ℕ} {used : ℕ} {st : Progress}
     (es : List Entry) (n : ℕ) {ys : List ℕ} (counted : n ≡ words_per_entry * length es) (room : n ≤ length (lent used ws))
     (list : ys ≡ words es ++ drop n (lent used ws)) where
   -- by a step that goes on at a place and an order
-  module _ (p : BitPlace) (order : LastOrder) (g : Step)
+  module _ (p : BitPlace) (order : Option Order) (g : Step)
       (reads : m (full st l (length ws₀ - used)) ≡ onto es (g (full (state_at p order st) l (length ws₀ - used - n)))) where
     put : Step
     put s = go es (record {
@@ -158,7 +157,7 @@ module _ {o : Out} {m : Step} {ws₀ ws : List ℕ} {used : ℕ} {st : Progress}
       rest = part.rest ∙ ap (onto part.listed) reads;
     }
 
-    put-did : Did (put (full st l (length (lent used ws)))) st On n (state_at p order st) l (lent used ws) ys
+    put-did : Did (put (full st l (length (lent used ws)))) st (Ok tt) n (state_at p order st) l (lent used ws) ys
     unfolding out_of put
     put-did = record {
       listed = es;
@@ -187,11 +186,11 @@ module _ {o : Out} {m : Step} {ws₀ ws : List ℕ} {used : ℕ} {st : Progress}
       rest = part.rest ∙ ap (onto part.listed) reads;
     }
 
-    halt-did : Did (halt (full st l (length (lent used ws)))) st (Stopped v) n st l (lent used ws) ys
+    halt-did : Did (halt (full st l (length (lent used ws)))) st (Err v) n st l (lent used ws) ys
     unfolding out_of halt
     halt-did = record { listed = es; out = refl; counted = counted; list = list; room = room; kept = λ w h. refl }
 
-    pub part-halt : (came : Progress) (l' : Slots) → Did o came (Stopped v) (used + n) came l' ws₀ (merged used ws ys)
+    pub part-halt : (came : Progress) (l' : Slots) → Did o came (Err v) (used + n) came l' ws₀ (merged used ws ys)
     part-halt came l' = part-stop halt pass halt-part halt-did v came l' refl
 
   pub put-length : length (merged used ws ys) ≡ length ws₀
@@ -235,7 +234,7 @@ read-full e m (variant i g os) s h = no-room-first _ s h
 
 -- a first step that stops with nothing listed
 first_stops : (m g : Step) {o : Out} {ws₀ ws : List ℕ} {used : ℕ} {st : Progress} {l : Slots} (p : Part o (m ⨾ g) ws₀ ws used st l)
-    (v : Stop) → m (full st l (length ws₀ - used)) ≡ stop [] v → (came : Progress) (l' : Slots) → Did o came (Stopped v) used came l' ws₀ ws
+    (v : Stop) → m (full st l (length ws₀ - used)) ≡ stop [] v → (came : Progress) (l' : Slots) → Did o came (Err v) used came l' ws₀ ws
 unfolding ◌⨾◌ after onto out_of
 first_stops m g p v e came l' = record {
   listed = p.listed;
@@ -248,7 +247,7 @@ first_stops m g p v e came l' = record {
 
 -- a field that went on ends within the bound
 still-framed : (b u : List ℕ) (f : Frame) (m : ℕ) (c : Class) (l : Slots) {st st' : Progress} {l' : Slots} {n : ℕ} {ws ys : List ℕ}
-    {went : Went} → Framed b f st.place → went ≡ On → Did (read (env_of b u f) m c (full st l (length ws))) st went n st' l' ws ys
+    {went : Result ⊤ Stop} → Framed b f st.place → went ≡ Ok tt → Did (read (env_of b u f) m c (full st l (length ws))) st went n st' l' ws ys
     → Framed b f st'.place
 unfolding out_of
 still-framed b u f m c l {st} {st'} {l'} {n} {ws} h on did =
@@ -306,7 +305,7 @@ module _ {w : Loop} {r : Run} {ws : List ℕ} {used : ℕ} {st : Progress} {l : 
 -- Leaves, and what is due of the last
 
 -- of one class again and again, the last leaf's is that class
-then_at : (y : Seen) (at n : ℕ) (o : LastOrder) (ends : Due → Bool) (rest : Due → LeavesListed)
+then_at : (y : Seen) (at n : ℕ) (o : Option Order) (ends : Due → Bool) (rest : Due → LeavesListed)
     → ((q : Due) → (rest q).leaves.at ≡ at) → (leaf_then y at n o ends rest).leaves.at ≡ at
 unfolding leaf_then stops_at stopped_leaves last_leaf behind_entries
 then_at (SeesStop v) at n o ends rest h = refl
@@ -319,7 +318,7 @@ then_at (Sees q) at n o ends rest h = by (ends q)
     by true = refl
     by false = h q
 
-again-at : (t b u : List ℕ) (f : Frame) (x : Content) (at n : ℕ) (p : BitPlace) (o : LastOrder) (room : ℕ)
+again-at : (t b u : List ℕ) (f : Frame) (x : Content) (at n : ℕ) (p : BitPlace) (o : Option Order) (room : ℕ)
     → (leaves_read true t b u f x at n p o room).leaves.at ≡ at
 unfolding leaves_read stops_at stopped_leaves onward
 again-at t b u f x at zero p o room = refl
@@ -522,7 +521,7 @@ event-role {w} {m} {r} {ws} {used} {st} {l} k n v e h =
       };
     }
 
-same_full : (p : BitPlace) (o : LastOrder) (q : Progress) (l : Slots) (n : ℕ) → q.place ≡ p → q.order ≡ o
+same_full : (p : BitPlace) (o : Option Order) (q : Progress) (l : Slots) (n : ℕ) → q.place ≡ p → q.order ≡ o
     → full q l n ≡ full (state_at p o q) l n
 same_full p o q l n a b = rw (a, b) refl
 
@@ -531,8 +530,8 @@ pub record RoleRound (w : Loop) (m : Step) (r : Run) (ws : List ℕ) (used : ℕ
     : Type 0 where
   pub room : used + q.used ≤ length w.list
   pub same : length (merged used ws ys) ≡ length w.list
-  pub stops : (v : Stop) → q.went ≡ Stopped v → Stops w v (used + q.used) (merged used ws ys)
-  pub goes : q.went ≡ On → Kept w m r (merged used ws ys) (used + q.used) (state_at st.place st.order q.state) l
+  pub stops : (v : Stop) → q.went ≡ Err v → Stops w v (used + q.used) (merged used ws ys)
+  pub goes : q.went ≡ Ok tt → Kept w m r (merged used ws ys) (used + q.used) (state_at st.place st.order q.state) l
 
 pub role-round : {w : Loop} {m : Step} {r : Run} {ws : List ℕ} {used : ℕ} {st : Progress} {l : Slots} {q : Roled} {ys : List ℕ} (k n v : ℕ)
     → Kept w (role (role_of k) n v ⨾ m) r ws used st l → RoleDid (role (role_of k) n v) st q (lent used ws) ys
@@ -915,9 +914,9 @@ enter-round {w} {r} {ws} {used} {st} {l} {c} h k {o} {ys} e f = by o.on refl
 pub record FieldRound (w : Loop) (r : Run) (ws : List ℕ) (used : ℕ) (q : Field) (ys : List ℕ) : Type 0 where
   pub room : used + q.used ≤ length w.list
   pub same : length (merged used ws ys) ≡ length w.list
-  pub some : q.went ≡ On → words_per_entry ≤ q.used
-  pub stops : (v : Stop) → q.went ≡ Stopped v → Stops w v (used + q.used) (merged used ws ys)
-  pub goes : q.went ≡ On
+  pub some : q.went ≡ Ok tt → words_per_entry ≤ q.used
+  pub stops : (v : Stop) → q.went ≡ Err v → Stops w v (used + q.used) (merged used ws ys)
+  pub goes : q.went ≡ Ok tt
       → Round w (behind_run r w.notes.sizes r.next (r.todo - 1)) (merged used ws ys) (used + q.used) q.state q.slots
 
 module _ {w : Loop} {r : Run} {ws : List ℕ} {used : ℕ} {st : Progress} {l : Slots} {c : Content} (h : Holder w r ws used st l c) where
@@ -932,7 +931,7 @@ module _ {w : Loop} {r : Run} {ws : List ℕ} {used : ℕ} {st : Progress} {l : 
       let class = class_at w.depths w.table r.next in
       let n = length (lent used ws) - q.used in
       let room : length (lent used ws) ≡ length w.list - used = lent-room used ws ∙ ap (λ (n : ℕ). n - used) (part_length p) in
-      let lists : q.went ≡ On → 1 ≤ length d.listed = λ on.
+      let lists : q.went ≡ Ok tt → 1 ≤ length d.listed = λ on.
       opened-lists (env w) m (u8 w.table r.next) w.depths w.table (inside_here h) _ (sym (class-reads h)
       ∙ ap (λ (z : ℕ). read (env w) m class (full st l z)) (sym room) ∙ d.out
       ∙ ap (λ g. out_of d.listed g q.state q.slots n) on) in

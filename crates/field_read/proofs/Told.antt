@@ -1,5 +1,6 @@
 -- What the code of a loop says of its run, of the run's first field and of what it did, at numbers of its own: each is a round as Round and
 -- Apart have it. In order: the run, and its first field; the leaves at its front, and what is due of the last; a field that holds others.
+use Rattle.std.specs.Prelude.{Ok}
 use mathlib.Core.Path.{◌≡◌, refl, sym, ◌∙◌}
 use mathlib.Core.List.{List, []}
 use mathlib.Core.Bool.{Bool, true, false, not}
@@ -31,7 +32,6 @@ use Rattle.leaf_after.specs.declared.Leaves.{Leaves}
 use Rattle.leaf_read.specs.Reads.{leaf_slot}
 use Rattle.leaf_read.specs.Leaves.{content_of, LeavesListed, list_behind, leaves_read, Standing as InRow}
 use Rattle.listing.specs.declared.Progress.{Progress}
-use Rattle.listing.specs.declared.Went.TheVariants.{On}
 use Rattle.listing.specs.declared.role.Roled.{Roled}
 use Rattle.listing.specs.Did.{RoleDid}
 use Rattle.listing.proofs.Parts.{lent, merged}
@@ -236,6 +236,6 @@ module _ {w : Loop} {r : Run} {ws : List ℕ} {used : ℕ} {st : Progress} {l : 
   field-did e did = field-round h (rw first.1 (rw e at did))
 
   pub field-run : {q : Field} {ys : List ℕ} {rest : Run} → FieldRound w r ws used q ys
-      → rest ≡ behind_run r w.notes.sizes n (r.todo - 1) → (on : q.went ≡ On)
+      → rest ≡ behind_run r w.notes.sizes n (r.todo - 1) → (on : q.went ≡ Ok tt)
       → Round w rest (merged used ws ys) (used + q.used) q.state q.slots
   field-run d e on = rw (e, sym first.1) (d.goes on)

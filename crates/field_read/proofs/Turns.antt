@@ -1,4 +1,5 @@
 -- A call of the cycle: what it reads, from where on, and what it hands back.
+use Rattle.std.specs.Prelude.{Result, ⊤}
 use mathlib.Core.Path.{◌≡◌, refl}
 use mathlib.Core.List.{List}
 use Prim.Native.Nat.{ℕ}
@@ -13,7 +14,6 @@ use Rattle.field_inside.specs.Inside.{element_of}
 use Rattle.frame.specs.declared.Frame.{Frame}
 use Rattle.frame.specs.Framed.{env_of}
 use Rattle.listing.specs.declared.Progress.{Progress}
-use Rattle.listing.specs.declared.Went.{Went}
 use Rattle.listing.specs.Did.{Did, full}
 use Rattle.listing.proofs.Parts.{part_length}
 use Rattle.field_read.specs.declared.Field.{Field}
@@ -52,7 +52,7 @@ abbrev pub elements_read : ℕ → List ℕ → ℕ → ℕ → Env → Step
 elements_read d t at n e = times n (element_of e (number_at t at) (class_at d t at))
 
 -- a list keeps its length
-pub did-length : {o : Out} {came st : Progress} {went : Went} {n : ℕ} {l : Slots} {ws ys : List ℕ} → Did o came went n st l ws ys
+pub did-length : {o : Out} {came st : Progress} {went : Result ⊤ Stop} {n : ℕ} {l : Slots} {ws ys : List ℕ} → Did o came went n st l ws ys
     → length ys ≡ length ws
 did-length {st = st} {l = l} did = part_length {m = pass} {st = st} {l = l}
     record { listed = did.listed; list = did.list; counted = did.counted; room = did.room; rest = refl }

@@ -1,4 +1,5 @@
 -- A walk is a loop over a run with nothing behind it: how it starts, and how it ends.
+use Rattle.std.specs.Prelude.{Ok, Err}
 use mathlib.Core.Path.{◌≡◌, refl, sym, ap, subst, ◌∙◌}
 use mathlib.Core.List.{List}
 use mathlib.Core.Bool.{true}
@@ -18,7 +19,6 @@ use Rattle.class_layout.specs.Notes.{Notes, Prepared}
 use Rattle.frame.specs.declared.Frame.{Frame}
 use Rattle.frame.specs.Framed.{Framed, env_of}
 use Rattle.listing.specs.declared.Progress.{Progress}
-use Rattle.listing.specs.declared.Went.TheVariants.{On, Stopped}
 use Rattle.listing.specs.Did.{Did, full}
 use Rattle.listing.proofs.Parts.{Part, part-start, part_end}
 use Rattle.field_runs.specs.declared.Run.{Run}
@@ -58,7 +58,7 @@ module _ (b u : List ℕ) (f : Frame) (d : ℕ) (t : List ℕ) (x : Notes) (begu
   }
 
   pub walk_end : {r : Run} {ws : List ℕ} {used : ℕ} {st' : Progress} {l : Slots} → Round walk_loop r ws used st' l → over r ≡ true
-      → FieldReads walk_read st given (record { went = On; used = used; state = st'; slots = l }) ws₀ ws
+      → FieldReads walk_read st given (record { went = Ok tt; used = used; state = st'; slots = l }) ws₀ ws
   unfolding pass
   walk_end h e = record {
     did = part_end (round-over h e) st (λ s. refl);
@@ -68,7 +68,7 @@ module _ (b u : List ℕ) (f : Frame) (d : ℕ) (t : List ℕ) (x : Notes) (begu
 
 pub walk-stopped : (b u : List ℕ) (f : Frame) (d : ℕ) (t : List ℕ) (begun : Run) (st : Progress) (given : Slots) (ws₀ : List ℕ)
     {v : Stop} {n : ℕ} {ws : List ℕ} → length given ≡ slot_count
-    → ((came : Progress) (l : Slots) → Did (ahead d t (env_of b u f) begun (full st given (length ws₀))) came (Stopped v) n came l ws₀ ws)
+    → ((came : Progress) (l : Slots) → Did (ahead d t (env_of b u f) begun (full st given (length ws₀))) came (Err v) n came l ws₀ ws)
     → FieldReads (ahead d t (env_of b u f) begun) st given (stopped_field v n st given) ws₀ ws
 walk-stopped b u f d t begun st given ws₀ many stops = record { did = stops st given; kept = λ v h. refl; many = many }
 

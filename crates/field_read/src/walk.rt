@@ -28,7 +28,7 @@ use field_runs::{
 use frame::Frame;
 use leaf_read::{content_of, leaf_slot, read_leaves};
 use listing::entry::is_full;
-use listing::{Progress, Went, at_place, role};
+use listing::{Progress, at_place, role};
 use numbers::kinds;
 use numbers::limits::WORDS_PER_ENTRY;
 use rules::{BitPlace, Content, Refusal, Slot, Stop};
@@ -62,13 +62,11 @@ pub fn read_field(
     let mut content = Content::Unset;
     let i = slot_read(table, at);
     if i < 64 {
-        let slot = slots[i];
-        content = slot.content;
+        content = slots[i].content;
     }
     let o = open_field(table, sizes, aligns, frame, at, st.place, content, list);
     if !o.on {
-        let why = o.why;
-        return refused(why, o.place, 0, st, slots);
+        return refused(o.why, o.place, 0, st, slots);
     }
     let next = at_place(o.place, st);
     let r = if o.elements {
@@ -111,19 +109,12 @@ fn behind_entry(inside: Field, st: Progress, slots: [Slot; 64]) -> Field
     requires { words_per_entry + inside.used < 2 ^ 64 }
     ensures { result ≡ entered inside st slots }
 {
-    let went = inside.went;
-    match went {
-        Went::Stopped(stop) => stopped(stop, WORDS_PER_ENTRY + inside.used, st, slots),
-        Went::On => {
-            let state = inside.state;
-            let changed = inside.slots;
-            Field {
-                went: Went::On,
-                used: WORDS_PER_ENTRY + inside.used,
-                state,
-                slots: changed,
-            }
-        }
+    match inside.went {
+        Err(stop) => stopped(stop, WORDS_PER_ENTRY + inside.used, st, slots),
+        Ok(()) => Field {
+            used: WORDS_PER_ENTRY + inside.used,
+            ..inside
+        },
     }
 }
 
@@ -240,8 +231,9 @@ fn walk(
         if is_border(run) {
             if run.forgets <= ONE_SLOT {
                 let only = run.forgets - 1;
-                let unset = Content::Unset;
-                slots[only] = Slot { content: unset };
+                slots[only] = Slot {
+                    content: Content::Unset,
+                };
             } else {
                 slots = forgotten(table, sizes, run.again, slots);
             }
@@ -249,7 +241,7 @@ fn walk(
         run = forward(run);
         if is_over(run) {
             return Field {
-                went: Went::On,
+                went: Ok(()),
                 used,
                 state: at(place, order, state),
                 slots,
@@ -264,8 +256,7 @@ fn walk(
             let mut content = Content::Unset;
             let i = leaf_slot(table, next);
             if i < 64 {
-                let slot = slots[i];
-                content = slot.content;
+                content = slots[i].content;
             }
             let r = read_leaves(
                 table,
@@ -286,8 +277,7 @@ fn walk(
             place = r.place;
             order = r.order;
             if !r.on {
-                let why = r.why;
-                return refused(why, place, used, st, given);
+                return refused(r.why, place, used, st, given);
             }
             let last = r.at;
             run = behind(run, sizes, last, r.todo);
@@ -306,12 +296,8 @@ fn walk(
                     &mut list[used..],
                 );
                 used = used + said.used;
-                let went = said.went;
-                match went {
-                    Went::Stopped(stop) => {
-                        return stopped(stop, used, st, given);
-                    }
-                    Went::On => {}
+                if let Err(stop) = said.went {
+                    return stopped(stop, used, st, given);
                 }
                 state = said.state;
             }
@@ -331,8 +317,7 @@ fn walk(
         let mut content = Content::Unset;
         let i = slot_read(table, next);
         if i < 64 {
-            let slot = slots[i];
-            content = slot.content;
+            content = slots[i].content;
         }
         if is_open(kind, run) {
             let o = open_field(
@@ -347,8 +332,7 @@ fn walk(
             );
             place = o.place;
             if !o.on {
-                let why = o.why;
-                return refused(why, place, used, st, given);
+                return refused(o.why, place, used, st, given);
             }
             run = into(kind, run, sizes, o.from, o.count, o.elements, o.forgets);
             used = used + WORDS_PER_ENTRY;
@@ -368,12 +352,8 @@ fn walk(
             &mut list[used..],
         );
         used = used + r.used;
-        let went = r.went;
-        match went {
-            Went::Stopped(stop) => {
-                return stopped(stop, used, st, given); // not `state`
-            }
-            Went::On => {}
+        if let Err(stop) = r.went {
+            return stopped(stop, used, st, given); // not `state`
         }
         state = r.state;
         place = state.place;
@@ -395,7 +375,7 @@ fn stopped(stop: Stop, used: usize, st: Progress, slots: [Slot; 64]) -> Field
     ensures { result ≡ stopped_field stop used st slots }
 {
     Field {
-        went: Went::Stopped(stop),
+        went: Err(stop),
         used,
         state: st,
         slots,

@@ -10,7 +10,7 @@ use lib.Dec.{eqb}
 use borrow.Author.Tests.{eqb-true, eqb-false}
 use Rattle.rules.specs.Class.{sets}
 use Rattle.rules.specs.Step.{State, Step, ◌⨾◌, pass}
-use Rattle.rules.specs.Field.{Env, read, read_members, times}
+use Rattle.rules.specs.Field.{Env, read_members, times}
 use Rattle.facts.proofs.Truth.{clash, and_left, and_right}
 use Rattle.facts.proofs.Steps.{seq-assoc, pass-seq, seq-pass}
 use Rattle.class_layout.specs.Numbers.{number_at}

@@ -163,24 +163,12 @@ pub fn behind(run: Run, sizes: &[u16], last: usize, left: usize) -> Run
     ensures { result ≡ behind_run run sizes.now last left }
 {
     if run.todo == 0 {
-        return Run {
-            next: run.next,
-            todo: 0,
-            again: run.again,
-            more: left,
-            later: run.later,
-            rest: run.rest,
-            forgets: run.forgets,
-        };
+        return Run { more: left, ..run };
     }
     Run {
         next: last + size_at(sizes, last),
         todo: left,
-        again: run.again,
-        more: run.more,
-        later: run.later,
-        rest: run.rest,
-        forgets: run.forgets,
+        ..run
     }
 }
 
@@ -195,11 +183,8 @@ pub fn taken(run: Run) -> Run
     Run {
         next: run.again,
         todo: 1,
-        again: run.again,
         more: run.more - 1,
-        later: run.later,
-        rest: run.rest,
-        forgets: run.forgets,
+        ..run
     }
 }
 
@@ -211,11 +196,7 @@ pub fn opened(run: Run, from: usize, parts: usize) -> Run
     Run {
         next: from,
         todo: run.todo - 1 + parts,
-        again: run.again,
-        more: run.more,
-        later: run.later,
-        rest: run.rest,
-        forgets: run.forgets,
+        ..run
     }
 }
 
@@ -224,13 +205,12 @@ pub fn put_off(run: Run, sizes: &[u16], at: usize, times: usize, forgets: usize)
     requires { (0 < run.todo) × (run.next < length sizes.now) × (run.next < 2 ^ 63) }
     ensures { result ≡ put_off_run run sizes.now at times forgets }
 {
-    let next = run.next;
     Run {
         next: at,
         todo: 0,
         again: at,
         more: times,
-        later: next + size_at(sizes, next),
+        later: run.next + size_at(sizes, run.next),
         rest: run.todo - 1,
         forgets,
     }

@@ -1,11 +1,11 @@
 -- What an accepted table's classes are: lengths of 1 to 64 bits, slots that their roots may set, and numbers that their bytes can say.
 -- It goes along the parse: what sound records tell holds of the classes that are made of them.
+use Rattle.std.specs.Prelude.{Option, None, Some}
 use mathlib.Core.Path.{◌≡◌, refl, subst}
 use Prim.Native.Nat.{ℕ, zero, suc, ◌+◌, ◌-◌, ◌≤◌, ◌<◌}
 use native.Mathlib.Omega.{arith}
 use mathlib.Core.List.{List, [], ◌∷◌, ◌++◌}
 use mathlib.Core.Bool.{Bool, true, false, not, ◌&&◌, ◌||◌}
-use mathlib.Core.Option.{Option, none, some}
 use mathlib.Core.Logic.{◌⊎◌, inl, inr}
 use lib.ListN.{length, get_or}
 use lib.Dec.{ltb, leb, eqb}
@@ -53,9 +53,9 @@ class-slot u z deep y h =
 -- a table whose classes fit; S is asked of the slots that a root's fields set, by the root
 pub record Fitting (N : ℕ → Type 0) (S : ℕ → ℕ → Type 0) (W : ℕ → Type 0) (t : Asked) : Type 0 where
   pub header : FitRoot N (S 0) W t.header
-  pub context : (i : ℕ) (c : StreamClass) → t.stream i ≡ some c → FitRoot N (S 1) W c.context
-  pub events : (i : ℕ) (c : StreamClass) → t.stream i ≡ some c → FitRoot N (S 2) W c.header × FitRoot N (S 3) W c.common
-  pub event : (i j : ℕ) (d : EventClass) → t.event i j ≡ some d → FitRoot N (S 4) W d.specific × FitRoot N (S 5) W d.payload
+  pub context : (i : ℕ) (c : StreamClass) → t.stream i ≡ Some c → FitRoot N (S 1) W c.context
+  pub events : (i : ℕ) (c : StreamClass) → t.stream i ≡ Some c → FitRoot N (S 2) W c.header × FitRoot N (S 3) W c.common
+  pub event : (i j : ℕ) (d : EventClass) → t.event i j ≡ Some d → FitRoot N (S 4) W d.specific × FitRoot N (S 5) W d.payload
 
 -- what sound records tell of their numbers, where G is known of the bytes
 pub record Tells (N : ℕ → Type 0) (S : ℕ → ℕ → Type 0) (W : ℕ → Type 0) (G : List ℕ → Type 0) : Type 0 where
@@ -135,9 +135,9 @@ module _ {N : ℕ → Type 0} {S : ℕ → ℕ → Type 0} {W : ℕ → Type 0} 
     unfolding selected
     selected-fits i p c g = by p.0
       where
-        by : (o : Option Sign) → Fits N (S r) W (elim o [ none ↦ flagged i c | some s ↦ optional i s p.1 c ])
-        by none = g
-        by (some s) = g
+        by : (o : Option Sign) → Fits N (S r) W (elim o [ None ↦ flagged i c | Some s ↦ optional i s p.1 c ])
+        by None = g
+        by (Some s) = g
 
     yields-shape : (q : Ids) (z : Spot) (y : Says) (s : Shape) (x : List ℕ) → N y.length → S r y.sets
         → ((k : ℕ) → k ≤ y.count → W k) → G x → Yields (Fits N (S r) W) (parse_shape q f z y s x)
@@ -158,11 +158,11 @@ module _ {N : ℕ → Type 0} {S : ℕ → ℕ → Type 0} {W : ℕ → Type 0} 
         yields-then (Fits N (S r) W) _ (f inside x) _ (h inside x g) (λ c x p g. ((w y.count (omega arith), p), g))
     yields-shape q z y elements_of x n i w g = yields-then (Fits N (S r) W) _ (f inside x) _ (h inside x g) (λ c x p g. (p, g))
     yields-shape q z y option? x n i w g =
-        yields-then AnyRanges _ (parse_ranges q [] y.count none x) _ (yields-ranges q [] y.count none x g) (λ rs x u g.
+        yields-then AnyRanges _ (parse_ranges q [] y.count None x) _ (yields-ranges q [] y.count None x g) (λ rs x u g.
         yields-then (Fits N (S r) W) _ (f inside x) _ (h inside x g) (λ c x p g. (selected-fits y.reads rs c p, g)))
     yields-shape q z y options x n i w g =
-        let all = yields-options q y.count 0 (none, []) x (λ j l. w j (omega arith)) g in
-        yields-then (OptionsFrom 0) _ (parse_options q f y.count (none, []) x) _ all (λ os x p g. (p, g))
+        let all = yields-options q y.count 0 (None, []) x (λ j l. w j (omega arith)) g in
+        yields-then (OptionsFrom 0) _ (parse_options q f y.count (None, []) x) _ all (λ os x p g. (p, g))
 
   yields-class : (q : Ids) (u : Under) (left : ℕ) (z : Spot) (x : List ℕ) → G x → Yields (Fits N (S u.root) W) (parse_class q u left z x)
   unfolding parse_class
@@ -204,8 +204,8 @@ module _ {N : ℕ → Type 0} {S : ℕ → ℕ → Type 0} {W : ℕ → Type 0} 
       this = parse_class q (record { root = n; timed = timed; uuid = u? }) 8 top (behind x)
 
       by : (b : Bool) → ((y : List ℕ) → G y → Yields (FitRoots ns) (parse_roots q timed u? ns y)) → Yields (FitRoots (n ∷ ns)) (elim b [
-        | true ↦ then this λ c x. then (parse_roots q timed u? ns x) λ cs x. good (some c ∷ cs) x
-        | false ↦ then (parse_roots q timed u? ns x) λ cs x. good (none ∷ cs) x
+        | true ↦ then this λ c x. then (parse_roots q timed u? ns x) λ cs x. good (Some c ∷ cs) x
+        | false ↦ then (parse_roots q timed u? ns x) λ cs x. good (None ∷ cs) x
       ])
       by true rec =
           yields-then (Fits N (S n) W) _ this _ (yields-class q _ 8 top (behind x) (tells.on x g)) (λ c y p k.
@@ -302,22 +302,22 @@ module _ {N : ℕ → Type 0} {S : ℕ → ℕ → Type 0} {W : ℕ → Type 0} 
       by true = tt
       by false = first (first_fault (ltb (length x) (size x)) (record_of x))
 
-  stream-fits : (cs : List StreamClass) (i : ℕ) (c : StreamClass) → FitStreams cs → find_stream cs i ≡ some c → FitStream c
+  stream-fits : (cs : List StreamClass) (i : ℕ) (c : StreamClass) → FitStreams cs → find_stream cs i ≡ Some c → FitStream c
   unfolding find_stream
   stream-fits [] i c h p = let z : ◌≡◌ {A = ℕ} 0 1 = cc in absurd (omega arith)
   stream-fits (d ∷ cs) i c h p = by (eqb d.id i) p (λ q. stream-fits cs i c h.1 q)
     where
-      by : (b : Bool) → elim b [ true ↦ some d | false ↦ find_stream cs i ] ≡ some c → (find_stream cs i ≡ some c → FitStream c)
+      by : (b : Bool) → elim b [ true ↦ Some d | false ↦ find_stream cs i ] ≡ Some c → (find_stream cs i ≡ Some c → FitStream c)
           → FitStream c
       by true p r = let q : d ≡ c = cc in subst FitStream q h.0
       by false p r = r p
 
-  event-fits : (cs : List EventClass) (i j : ℕ) (c : EventClass) → FitEvents cs → find_event cs i j ≡ some c → FitEvent c
+  event-fits : (cs : List EventClass) (i j : ℕ) (c : EventClass) → FitEvents cs → find_event cs i j ≡ Some c → FitEvent c
   unfolding find_event
   event-fits [] i j c h p = let z : ◌≡◌ {A = ℕ} 0 1 = cc in absurd (omega arith)
   event-fits (d ∷ cs) i j c h p = by (eqb d.stream i && eqb d.id j) p (λ q. event-fits cs i j c h.1 q)
     where
-      by : (b : Bool) → elim b [ true ↦ some d | false ↦ find_event cs i j ] ≡ some c → (find_event cs i j ≡ some c → FitEvent c)
+      by : (b : Bool) → elim b [ true ↦ Some d | false ↦ find_event cs i j ] ≡ Some c → (find_event cs i j ≡ Some c → FitEvent c)
           → FitEvent c
       by true p r = let q : d ≡ c = cc in subst FitEvent q h.0
       by false p r = r p

@@ -1,6 +1,7 @@
 -- A reading of fields never leaves the packet: the place does not go back, and stays between the packet's start and the bound.
 -- One law says it together with any fact of the place, and of what the roles said, that outlasts moves. Where it stops lies between them
 -- too: at the state's place, at the bound (22), or at a number's tenth byte (24).
+use Rattle.std.specs.Prelude.{Option, None, Some}
 use mathlib.Core.Path.{◌≡◌, refl, subst}
 use Prim.Native.Nat.{ℕ, ◌+◌, ◌*◌, ◌^◌, ◌≤◌, ◌<◌}
 use native.Mathlib.Omega.{arith}
@@ -8,20 +9,15 @@ use native.Mathlib.Nat.{le_refl}
 use lib.Pow.{pow_pos}
 use mathlib.Core.List.{List}
 use mathlib.Core.Bool.{Bool}
-use mathlib.Core.Option.{Option, none, some}
 use lib.ListN.{length}
 use borrow.Author.Tests.{ltb-false}
 use Rattle.rules.specs.declared.ByteLength.{ByteLength}
 use Rattle.rules.specs.declared.Order.{Order}
-use Rattle.rules.specs.declared.LastOrder.{LastOrder}
-use Rattle.rules.specs.declared.LastOrder.TheVariants.{Was}
 use Rattle.rules.specs.declared.Content.{Content}
 use Rattle.rules.specs.declared.Content.TheVariants.{Unset, Unsigned, Signed}
 use Rattle.rules.specs.declared.Said.{Said}
 use Rattle.rules.specs.declared.Leb.{Leb}
 use Rattle.rules.specs.declared.Leb.TheVariants.{Value, Past, Large}
-use Rattle.rules.specs.declared.Ended.{Ended}
-use Rattle.rules.specs.declared.Ended.TheVariants.{After, Never}
 use Rattle.rules.specs.declared.Entry.{Entry}
 use Rattle.rules.specs.declared.Refusal.{Refusal}
 use Rattle.rules.specs.declared.Refusal.TheVariants.{PastBound, OrderChanged, NoZeroByte, SlotUnset, SlotOfWrongSort}
@@ -138,7 +134,7 @@ module _ (e : Env) where
     }
 
     -- what leaves place and said alone
-    set-order : (n : ℕ) (o : LastOrder) → Fine (Behind n) (change (with_order o)) (Behind n)
+    set-order : (n : ℕ) (o : Option Order) → Fine (Behind n) (change (with_order o)) (Behind n)
     unfolding with_order
     set-order n o = changing In At NoMore _ (λ s h. (record { from = h.0.from; to = h.0.to; kept = h.0.kept }, h.1))
 
@@ -158,8 +154,8 @@ module _ (e : Env) where
 
     held-clock : (l : ℕ) (o : Option ℕ) → Holding J (new_clock l o)
     unfolding new_clock
-    held-clock l none = refusing In At NoMore stops ClockTooLarge tt
-    held-clock l (some c) =
+    held-clock l None = refusing In At NoMore stops ClockTooLarge tt
+    held-clock l (Some c) =
         by ⨾ᵇ changing In At NoMore (with_clock c) (λ s h. unfold with_clock in record { from = h.from; to = h.to; kept = h.kept })
       where
         by : Holding J (λ s. listed (entry clock_advanced s.place l c 0) s.place s)
@@ -210,7 +206,7 @@ module _ (e : Env) where
         dued In At NoMore stops tt (plain-fit a 0 (untested In At NoMore stops _ OrderChanged tt (fitting a n (record {
           at = λ s x.
               (let v : ℕ = bits o e.bytes (aligned e a s).0 n in
-              put-field m (kind_of k) a n (value_of k n v) h ⨾ᵇ set-order n (Was o) ⨾ᵇ set-slot n i (slot_of k n v)
+              put-field m (kind_of k) a n (value_of k n v) h ⨾ᵇ set-order n (Some o) ⨾ᵇ set-slot n i (slot_of k n v)
               ⨾ᵇ held-role n w r n (value_of k n v)).at s x;
         }))))
 
@@ -225,12 +221,12 @@ module _ (e : Env) where
         (put-field m k 8 (8 * n.0) v (omega arith) ⨾ᵇ set-slot (8 * n.0) i (sl v) ⨾ᵇ held-role (8 * n.0) w r (7 * n.0) v).at s
         (h, ahead-fits e (aligned e 8 s) n.0 b y.inside)
 
-    held-zero : (m : ℕ) (x : Ended) (s : State) → Holds s → (aligned e 8 s).0 ≤ e.bound.0
-        → ((n : ByteLength) → x ≡ After n → n.0 < length (ahead e (aligned e 8 s)))
+    held-zero : (m : ℕ) (x : Option ByteLength) (s : State) → Holds s → (aligned e 8 s).0 ≤ e.bound.0
+        → ((n : ByteLength) → x ≡ Some n → n.0 < length (ahead e (aligned e 8 s)))
         → Ok In At NoMore Holds (read_zero e m x s)
     unfolding read_zero ◌⨾◌
-    held-zero m Never s h b g = (refusing In At NoMore stops NoZeroByte tt).at s h
-    held-zero m (After n) s h b g =
+    held-zero m None s h b g = (refusing In At NoMore stops NoZeroByte tt).at s h
+    held-zero m (Some n) s h b g =
         let l : n.0 < length (ahead e (aligned e 8 s)) = g n refl in
         let x = bytes_at e (aligned e 8 s) n.0 in
         (text-field x m 23 (8 * (n.0 + 1)) n.0).at s (h, ahead-fits e (aligned e 8 s) (n.0 + 1) b (omega arith))

@@ -1,10 +1,10 @@
 -- What the slots that a root's fields set cannot change, the root keeps: an accepted table's event roots the packet's slots, and its packet
 -- roots that slots 16 to 63 are unset (11 refuses others). No other step sets a slot.
+use Rattle.std.specs.Prelude.{Option}
 use mathlib.Core.Path.{◌≡◌, refl, ◌∙◌, subst}
 use Prim.Native.Nat.{ℕ, ◌≤◌, ◌<◌}
 use native.Mathlib.Omega.{arith}
 use mathlib.Core.List.{List}
-use mathlib.Core.Option.{Option}
 use Rattle.rules.specs.declared.Content.{Content}
 use Rattle.rules.specs.declared.Entry.{Entry}
 use Rattle.rules.specs.declared.Refusal.{Refusal}

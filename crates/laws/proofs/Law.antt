@@ -18,12 +18,12 @@
 -- law-times                      it holds of a step that is done n times
 -- law-forget                     it holds where a class's slots are forgotten
 -- Any, any-slot, law-any         a law that asks nothing of the numbers
+use Rattle.std.specs.Prelude.{Option, None, Some}
 use Prim.Native.Nat.{ℕ, zero, suc, ◌+◌, ◌^◌, ◌≤◌, max}
 use native.Mathlib.Omega.{arith}
 use lib.Pow.{pow_pos}
 use mathlib.Core.List.{List, [], ◌∷◌, ◌++◌}
 use mathlib.Core.Bool.{Bool, true, false}
-use mathlib.Core.Option.{Option, none, some}
 use lib.ListN.{length}
 use lib.Dec.{ltb, eqb}
 use Rattle.rules.specs.declared.Order.{Order}
@@ -75,8 +75,8 @@ module _ (N S W : ℕ → Type 0) where
     FitOptions (option rs c os) k = W k × Fits c × FitOptions os (k + 1)
 
   abbrev pub FitRoot : Option Class → Type 0
-  FitRoot none = Unit {0}
-  FitRoot (some c) = Fits c
+  FitRoot None = Unit {0}
+  FitRoot (Some c) = Fits c
 
   -- where every number will do, every class does
   module _ (n : (x : ℕ) → N x) (s : (x : ℕ) → S x) (v : (x : ℕ) → W x) where
@@ -106,8 +106,8 @@ module _ (N S W : ℕ → Type 0) where
       fit_options (option rs c os) k = (v k, fits c, fit_options os (k + 1))
 
     pub fit_root : (c : Option Class) → FitRoot c
-    fit_root none = tt
-    fit_root (some c) = fits c
+    fit_root None = tt
+    fit_root (Some c) = fits c
 
 -- what may be asked of each class's record: M of its number, where the class's own is m, and of its kind
 module _ (M : ℕ → ℕ → Type 0) where
@@ -137,8 +137,8 @@ module _ (M : ℕ → ℕ → Type 0) where
     NumberedOptions j (option rs c os) = Numbered (j + 1 + length rs) c × NumberedOptions (j + 1 + length rs + records c) os
 
   abbrev pub NumberedRoot : ℕ → Option Class → Type 0
-  NumberedRoot m none = Unit {0}
-  NumberedRoot m (some c) = Numbered m c
+  NumberedRoot m None = Unit {0}
+  NumberedRoot m (Some c) = Numbered m c
 
 -- where every record will do
 abbrev pub AnyRecord : ℕ → ℕ → Type 0
@@ -170,8 +170,8 @@ mutual
   any-options j (option rs c os) = (any-numbers (j + 1 + length rs) c, any-options (j + 1 + length rs + records c) os)
 
 pub any-root : (m : ℕ) (c : Option Class) → NumberedRoot AnyRecord m c
-any-root m none = tt
-any-root m (some c) = any-numbers m c
+any-root m None = tt
+any-root m (Some c) = any-numbers m c
 
 -- what is asked of each slot of a list
 abbrev pub Each : (ℕ → Type 0) → List ℕ → Type 0
@@ -350,8 +350,8 @@ module _ (e : Env) {M : ℕ → ℕ → Type 0} {N S W : ℕ → Type 0} {L R : 
 
   pub numbered-root : (m : ℕ) (c : Option Class) → FitRoot N S W c → NumberedRoot M m c → L (read_root e m c)
   unfolding read_root
-  numbered-root m none w z = h.passes
-  numbered-root m (some c) w z = numbered-read m c w z
+  numbered-root m None w z = h.passes
+  numbered-root m (Some c) w z = numbered-read m c w z
 
 -- a law that asks nothing of the records
 module _ (e : Env) {N S W : ℕ → Type 0} {L R : Step → Type 0} (h : Law e AnyRecord N S W L R) where

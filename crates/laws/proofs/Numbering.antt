@@ -6,12 +6,12 @@
 -- Walks                   what is known of the bytes, from a fragment's first record on: G of the mth, H of any
 -- Numbering               a table's roots, whose classes' records are numbered from the fragment's first on
 -- accepted-numbering      an accepted table's
+use Rattle.std.specs.Prelude.{Option, None, Some}
 use mathlib.Core.Path.{◌≡◌, refl, sym, ap, subst}
 use Prim.Native.Nat.{ℕ, zero, suc, ◌+◌, ◌≤◌, ◌<◌}
 use native.Mathlib.Omega.{arith}
 use mathlib.Core.List.{List, [], ◌∷◌, ◌++◌}
 use mathlib.Core.Bool.{Bool, true, false, not, ◌&&◌, ◌||◌}
-use mathlib.Core.Option.{Option, none, some}
 use mathlib.Core.Logic.{⊎_elim}
 use lib.ListN.{length, get_or, take, drop, get_or-eq_default}
 use lib.Dec.{ltb, leb, eqb}
@@ -93,12 +93,12 @@ pub record-kind : (x : List ℕ) → KindIs (u8 x 0) (record_of x)
 unfolding record_of layout_of
 record-kind x = ⊎_elim
     (λ (l : u8 x 0 < 35). below RowIs 35 rows (u8 x 0) l _)
-    (λ (l : 35 ≤ u8 x 0). let e : get_or layouts (u8 x 0) no ≡ no = unfold layouts in get_or-eq_default layouts no l in none e)
+    (λ (l : 35 ≤ u8 x 0). let e : get_or layouts (u8 x 0) no ≡ no = unfold layouts in get_or-eq_default layouts no l in None e)
     (lt-or-ge (u8 x 0) 35)
   where
-    none : get_or layouts (u8 x 0) no ≡ no
+    None : get_or layouts (u8 x 0) no ≡ no
         → KindIs (u8 x 0) ((get_or layouts (u8 x 0) no).1 (take (get_or layouts (u8 x 0) no).0 (drop 1 x)))
-    none e = rw e (unfold no in tt)
+    None e = rw e (unfold no in tt)
 
 -- What is known of the bytes from a record on: G of the mth of an owner's, H of any
 pub record Walks (M : Owner → ℕ → ℕ → Type 0) (G : Owner → ℕ → List ℕ → Type 0) (H : List ℕ → Type 0) : Type 0 where
@@ -111,11 +111,11 @@ pub record Walks (M : Owner → ℕ → ℕ → Type 0) (G : Owner → ℕ → L
 -- a table's roots
 pub record Numbering (M : Owner → ℕ → ℕ → Type 0) (t : Asked) : Type 0 where
   pub packet : NumberedRoot (M of_trace) first_root t.header
-  pub context : (i : ℕ) (c : StreamClass) → t.stream i ≡ some c → NumberedRoot (M (of_stream i)) first_root c.context
-  pub header : (i : ℕ) (c : StreamClass) → t.stream i ≡ some c → NumberedRoot (M (of_stream i)) (header_number c) c.header
-  pub common : (i : ℕ) (c : StreamClass) → t.stream i ≡ some c → NumberedRoot (M (of_stream i)) (common_number c) c.common
-  pub specific : (i j : ℕ) (d : EventClass) → t.event i j ≡ some d → NumberedRoot (M (of_event i j)) first_root d.specific
-  pub payload : (i j : ℕ) (d : EventClass) → t.event i j ≡ some d → NumberedRoot (M (of_event i j)) (payload_number d) d.payload
+  pub context : (i : ℕ) (c : StreamClass) → t.stream i ≡ Some c → NumberedRoot (M (of_stream i)) first_root c.context
+  pub header : (i : ℕ) (c : StreamClass) → t.stream i ≡ Some c → NumberedRoot (M (of_stream i)) (header_number c) c.header
+  pub common : (i : ℕ) (c : StreamClass) → t.stream i ≡ Some c → NumberedRoot (M (of_stream i)) (common_number c) c.common
+  pub specific : (i j : ℕ) (d : EventClass) → t.event i j ≡ Some d → NumberedRoot (M (of_event i j)) first_root d.specific
+  pub payload : (i j : ℕ) (d : EventClass) → t.event i j ≡ Some d → NumberedRoot (M (of_event i j)) (payload_number d) d.payload
 
 -- What a parser yields: P of what it reads and of the bytes behind it
 
@@ -166,7 +166,7 @@ module _ {M : Owner → ℕ → ℕ → Type 0} {G : Owner → ℕ → List ℕ 
 
     -- ranges, one record each; none has no sign
     abbrev SomeRanges : ℕ → Option Sign → Ranges → List ℕ → Type 0
-    SomeRanges m s p y = G o (m + length p.1) y × (p.0 ≡ none → (s ≡ none) × (length p.1 ≡ 0))
+    SomeRanges m s p y = G o (m + length p.1) y × (p.0 ≡ None → (s ≡ None) × (length p.1 ≡ 0))
 
     yields-ranges : (q : Ids) (earlier : List Range) (n : ℕ) (s : Option Sign) (m : ℕ) (x : List ℕ) → G o m x
         → Yields (SomeRanges m s) (parse_ranges q earlier n s x)
@@ -238,18 +238,18 @@ module _ {M : Owner → ℕ → ℕ → Type 0} {G : Owner → ℕ → List ℕ 
                     t.1,
               ))))
 
-      selected-counted : (m i : ℕ) (p : Ranges) (c : Class) (y : List ℕ) → M o m 31 → (p.0 ≡ none → length p.1 ≡ 0)
+      selected-counted : (m i : ℕ) (p : Ranges) (c : Class) (y : List ℕ) → M o m 31 → (p.0 ≡ None → length p.1 ≡ 0)
           → Counted (m + 1 + length p.1) c y → Counted m (selected i p c) y
       unfolding selected records
       selected-counted m i p c y k e g = by p.0 refl
         where
-          by : (s : Option Sign) → p.0 ≡ s → Counted m (elim s [ none ↦ flagged i c | some s ↦ optional i s p.1 c ]) y
-          by none q =
+          by : (s : Option Sign) → p.0 ≡ s → Counted m (elim s [ None ↦ flagged i c | Some s ↦ optional i s p.1 c ]) y
+          by None q =
               let z : m + 1 + length p.1 ≡ m + 1 = omega (arith, e q) in (
                 (k, subst (λ n. Numbered (M o) n c) z g.0),
                 at (m + 1 + length p.1 + records c) (m + (1 + records c)) y (omega (arith, e q)) g.1,
               )
-          by (some s) q =
+          by (Some s) q =
               ((k, g.0), at (m + 1 + length p.1 + records c) (m + (1 + length p.1 + records c)) y (omega arith) g.1)
 
       -- behind the record of its own
@@ -275,13 +275,13 @@ module _ {M : Owner → ℕ → ℕ → Type 0} {G : Owner → ℕ → List ℕ 
           yields-then (Counted (m + 1)) _ (f inside x) _ (h inside (m + 1) x g) (λ c v p.
           ((n, p.0), at (m + 1 + records c) (m + (1 + records c)) v (omega arith) p.1))
       yields-shape q z y option? m x n g =
-          yields-then (SomeRanges (m + 1) none) _ (parse_ranges q [] y.count none x) _ (yields-ranges q [] y.count none (m + 1) x g)
+          yields-then (SomeRanges (m + 1) None) _ (parse_ranges q [] y.count None x) _ (yields-ranges q [] y.count None (m + 1) x g)
           (λ rs v u.
           yields-then (Counted (m + 1 + length rs.1)) _ (f inside v) _ (h inside (m + 1 + length rs.1) v u.0) (λ c v' p.
           selected-counted m y.reads rs c v' n (λ e. (u.1 e).1) p))
       yields-shape q z y options m x n g =
-          yields-then (OptionsFrom (m + 1)) _ (parse_options q f y.count (none, []) x) _
-          (yields-options q y.count (none, []) (m + 1) x g)
+          yields-then (OptionsFrom (m + 1)) _ (parse_options q f y.count (None, []) x) _
+          (yields-options q y.count (None, []) (m + 1) x g)
           (λ os v p. ((n, p.0), at (m + 1 + option_records os.1) (m + (1 + option_records os.1)) v (omega arith) p.1))
 
     yields-class : (q : Ids) (u : Under) (left : ℕ) (z : Spot) (m : ℕ) (x : List ℕ) → G o m x → Yields (Counted m) (parse_class q u left z x)
@@ -324,8 +324,8 @@ module _ {M : Owner → ℕ → ℕ → Type 0} {G : Owner → ℕ → List ℕ 
 
         by : (b : Bool) → leb (size x) (length x) && is_root n (record_of x) ≡ b
             → ((m : ℕ) (y : List ℕ) → G o m y → Yields (RootsFrom m) (parse_roots q timed u? ns y)) → Yields (RootsFrom m) (elim b [
-              | true ↦ then this λ c x. then (parse_roots q timed u? ns x) λ cs x. good (some c ∷ cs) x
-              | false ↦ then (parse_roots q timed u? ns x) λ cs x. good (none ∷ cs) x
+              | true ↦ then this λ c x. then (parse_roots q timed u? ns x) λ cs x. good (Some c ∷ cs) x
+              | false ↦ then (parse_roots q timed u? ns x) λ cs x. good (None ∷ cs) x
             ])
         by true e rec =
             let i = root_in n (record_of x) (and_right (leb (size x) (length x)) (is_root n (record_of x)) e) in
@@ -461,24 +461,24 @@ module _ {M : Owner → ℕ → ℕ → Type 0} {G : Owner → ℕ → List ℕ 
       by true = tt
       by false = by-fault (first_fault (ltb (length x) (size x)) (record_of x)) refl
 
-  found-stream : (cs : List StreamClass) (i : ℕ) (c : StreamClass) → OfStreams cs → find_stream cs i ≡ some c → OfStream c × (c.id ≡ i)
+  found-stream : (cs : List StreamClass) (i : ℕ) (c : StreamClass) → OfStreams cs → find_stream cs i ≡ Some c → OfStream c × (c.id ≡ i)
   unfolding find_stream
   found-stream [] i c h p = let z : ◌≡◌ {A = ℕ} 0 1 = cc in absurd (omega arith)
   found-stream (d ∷ cs) i c h p = by (eqb d.id i) refl p (λ q. found-stream cs i c h.1 q)
     where
-      by : (b : Bool) → eqb d.id i ≡ b → elim b [ true ↦ some d | false ↦ find_stream cs i ] ≡ some c
-          → (find_stream cs i ≡ some c → OfStream c × (c.id ≡ i)) → OfStream c × (c.id ≡ i)
+      by : (b : Bool) → eqb d.id i ≡ b → elim b [ true ↦ Some d | false ↦ find_stream cs i ] ≡ Some c
+          → (find_stream cs i ≡ Some c → OfStream c × (c.id ≡ i)) → OfStream c × (c.id ≡ i)
       by true e p r = let q : d ≡ c = cc in (subst OfStream q h.0, subst (λ z. z.id ≡ i) q (eqb-true d.id i e))
       by false e p r = r p
 
-  found-event : (cs : List EventClass) (i j : ℕ) (c : EventClass) → OfEvents cs → find_event cs i j ≡ some c
+  found-event : (cs : List EventClass) (i j : ℕ) (c : EventClass) → OfEvents cs → find_event cs i j ≡ Some c
       → OfEvent c × (c.stream ≡ i) × (c.id ≡ j)
   unfolding find_event
   found-event [] i j c h p = let z : ◌≡◌ {A = ℕ} 0 1 = cc in absurd (omega arith)
   found-event (d ∷ cs) i j c h p = by (eqb d.stream i && eqb d.id j) refl p (λ q. found-event cs i j c h.1 q)
     where
-      by : (b : Bool) → eqb d.stream i && eqb d.id j ≡ b → elim b [ true ↦ some d | false ↦ find_event cs i j ] ≡ some c
-          → (find_event cs i j ≡ some c → OfEvent c × (c.stream ≡ i) × (c.id ≡ j)) → OfEvent c × (c.stream ≡ i) × (c.id ≡ j)
+      by : (b : Bool) → eqb d.stream i && eqb d.id j ≡ b → elim b [ true ↦ Some d | false ↦ find_event cs i j ] ≡ Some c
+          → (find_event cs i j ≡ Some c → OfEvent c × (c.stream ≡ i) × (c.id ≡ j)) → OfEvent c × (c.stream ≡ i) × (c.id ≡ j)
       by true e p r =
           let q : d ≡ c = cc in (
             subst OfEvent q h.0,

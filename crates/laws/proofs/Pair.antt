@@ -1,4 +1,5 @@
 -- Two readings of the same classes over bytes that agree: each step of the one beside that of the other, closed under composition.
+use Rattle.std.specs.Prelude.{Option, None, Some}
 use mathlib.Core.Path.{◌≡◌, refl, sym, ap, ◌∙◌, subst}
 use mathlib.Core.Logic.{◌⊎◌, inl, inr, ⊎_elim}
 use Prim.Native.Nat.{ℕ, ◌+◌, ◌-◌, ◌*◌, ◌/◌, ◌%◌, ◌^◌, ◌≤◌, ◌<◌}
@@ -6,21 +7,16 @@ use native.Mathlib.Omega.{arith}
 use native.Mathlib.Nat.{le_refl}
 use mathlib.Core.List.{List, [], ◌++◌, append-nil}
 use mathlib.Core.Bool.{Bool, true, false, not, ◌&&◌}
-use mathlib.Core.Option.{Option, none, some}
 use lib.ListN.{length, take, drop, length-take, length-drop}
 use lib.Seq.{take-add}
 use lib.Dec.{ltb, eqb}
 use Rattle.rules.specs.declared.ByteLength.{ByteLength}
 use Rattle.rules.specs.declared.Order.{Order}
-use Rattle.rules.specs.declared.LastOrder.{LastOrder}
-use Rattle.rules.specs.declared.LastOrder.TheVariants.{Was}
 use Rattle.rules.specs.declared.Content.{Content}
 use Rattle.rules.specs.declared.Content.TheVariants.{Unset, Unsigned, Signed}
 use Rattle.rules.specs.declared.Said.{Said}
 use Rattle.rules.specs.declared.Leb.{Leb}
 use Rattle.rules.specs.declared.Leb.TheVariants.{Value, Past, Large}
-use Rattle.rules.specs.declared.Ended.{Ended}
-use Rattle.rules.specs.declared.Ended.TheVariants.{After, Never}
 use Rattle.rules.specs.declared.Entry.{Entry}
 use Rattle.rules.specs.declared.Refusal.{Refusal}
 use Rattle.rules.specs.declared.Refusal.TheVariants.{PastBound, OrderChanged, NoZeroByte, SlotUnset, SlotOfWrongSort, NotText}
@@ -88,8 +84,8 @@ onward-tick l c q = record { at = λ s a. ((tt, tt), a) }
 
 onward-clock : (l : ℕ) (o : Option ℕ) → Onward (new_clock l o)
 unfolding new_clock
-onward-clock l none q = refusing Whatever Wherever Why (λ r i s a. tt) ClockTooLarge tt
-onward-clock l (some c) q = onward-seq (onward-tick l c) (onward-change (with_clock c) (λ s. unfold with_clock in refl)) q
+onward-clock l None q = refusing Whatever Wherever Why (λ r i s a. tt) ClockTooLarge tt
+onward-clock l (Some c) q = onward-seq (onward-tick l c) (onward-change (with_clock c) (λ s. unfold with_clock in refl)) q
 
 onward-role : (r : Role) (l v : ℕ) → Onward (role r l v)
 unfolding role say with_said
@@ -107,7 +103,7 @@ onward-role discarded l v = onward-pass
 onward-role sequence l v = onward-pass
 onward-role event_class_id l v = onward-change _ (λ s. refl)
 
-onward-order : (o : LastOrder) → Onward (change (with_order o))
+onward-order : (o : Option Order) → Onward (change (with_order o))
 unfolding with_order
 onward-order o = onward-change (with_order o) (λ s. refl)
 
@@ -249,8 +245,8 @@ module _ (e e' : Env) (y : Like e e') where
 
   exact-clock : (w : ℕ) (o : Option ℕ) → Exact e e' (new_clock w o) (new_clock w o)
   unfolding new_clock
-  exact-clock w none = exact-refuse e e' ClockTooLarge
-  exact-clock w (some c) = exact-seq e e' here (exact-change (with_clock c) (λ l s. unfold with_clock far in refl))
+  exact-clock w None = exact-refuse e e' ClockTooLarge
+  exact-clock w (Some c) = exact-seq e e' here (exact-change (with_clock c) (λ l s. unfold with_clock far in refl))
     where
       here : Exact e e' (λ s. listed (entry clock_advanced s.place w c 0) s.place s)
           (λ s. listed (entry clock_advanced s.place w c 0) s.place s)
@@ -298,7 +294,7 @@ module _ (e e' : Env) (y : Like e e') where
   unfolding store
   exact-store i x = exact-change _ (λ l s. unfold with_slots far in refl)
 
-  exact-order : (o : LastOrder) → Exact e e' (change (with_order o)) (change (with_order o))
+  exact-order : (o : Option Order) → Exact e e' (change (with_order o)) (change (with_order o))
   exact-order o = exact-change _ (λ l s. unfold with_order far in refl)
 
   -- Fields
@@ -340,17 +336,17 @@ module _ (e e' : Env) (y : Like e e') where
   -- kinds 16 to 20
   module _ (m : ℕ) (k : Sort) (n : ℕ) (o : Order) (a i : ℕ) (r : Role) where
     abbrev body : Env → ℕ → Step
-    body x v = field x m (kind_of k) a n (value_of k n v) ⨾ change (with_order (Was o)) ⨾ store i (slot_of k n v) ⨾ role r n (value_of k n v)
+    body x v = field x m (kind_of k) a n (value_of k n v) ⨾ change (with_order (Some o)) ⨾ store i (slot_of k n v) ⨾ role r n (value_of k n v)
 
     body-exact : (v : ℕ) → Exact e e' (body e v) (body e' v)
     body-exact v =
         exact-seq e e' (exact-field e e' m (kind_of k) a n (value_of k n v))
-        (exact-seq e e' (exact-order (Was o)) (exact-seq e e' (exact-store i (slot_of k n v)) (exact-role r n (value_of k n v))))
+        (exact-seq e e' (exact-order (Some o)) (exact-seq e e' (exact-store i (slot_of k n v)) (exact-role r n (value_of k n v))))
 
     body-reach : (v : ℕ) (s : State) (fs : List Entry) (t : State) → body e' v s ≡ go fs t → (aligned e' a s).0 + n ≤ t.place.0
     body-reach v s fs t q =
         reach-field e' m (kind_of k) a n (value_of k n v) _
-        (onward-seq (onward-order (Was o)) (onward-seq (onward-store i (slot_of k n v)) (onward-role r n (value_of k n v)))) s fs t q
+        (onward-seq (onward-order (Some o)) (onward-seq (onward-store i (slot_of k n v)) (onward-role r n (value_of k n v)))) s fs t q
 
     abbrev value : Env → State → ℕ
     value x s = bits o x.bytes (aligned x a s).0 n
@@ -516,20 +512,20 @@ module _ (e e' : Env) (y : Like e e') where
   reach-text x m k n v s fs t q = reach-only e' m k 8 n v s fs t (through _ NotText _ s fs t q)
 
   -- kind 23
-  zero_same : (m : ℕ) (x : Ended) (l : ℕ → ℕ) (s : State) → ((n : ByteLength) → x ≡ After n → (aligned e 8 s).0 + 8 * n.0 ≤ e.bound.0)
+  zero_same : (m : ℕ) (x : Option ByteLength) (l : ℕ → ℕ) (s : State) → ((n : ByteLength) → x ≡ Some n → (aligned e 8 s).0 + 8 * n.0 ≤ e.bound.0)
       → read_zero e' m x (there l s) ≡ far_out e e' l (read_zero e m x s)
   unfolding read_zero ◌⨾◌
-  zero_same m (After n) l s f =
+  zero_same m (Some n) l s f =
       ap (λ b. (as_text b ⨾ field e' m 23 8 (8 * (n.0 + 1)) n.0) (there l s)) (bytes-there n.0 l s (f n refl))
       ∙ (exact-text (bytes_at e (aligned e 8 s) n.0) m 23 (8 * (n.0 + 1)) n.0).at l s
-  zero_same m Never l s f = (exact-refuse e e' NoZeroByte).at l s
+  zero_same m None l s f = (exact-refuse e e' NoZeroByte).at l s
 
-  zero-reach : (m : ℕ) (x : Ended) (s : State) (fs : List Entry) (t : State) → read_zero e' m x s ≡ go fs t
-      → (n : ByteLength) × (x ≡ After n) × ((aligned e' 8 s).0 + 8 * (n.0 + 1) ≤ t.place.0)
+  zero-reach : (m : ℕ) (x : Option ByteLength) (s : State) (fs : List Entry) (t : State) → read_zero e' m x s ≡ go fs t
+      → (n : ByteLength) × (x ≡ Some n) × ((aligned e' 8 s).0 + 8 * (n.0 + 1) ≤ t.place.0)
   unfolding read_zero ◌⨾◌
-  zero-reach m (After n) s fs t q =
+  zero-reach m (Some n) s fs t q =
       (n, refl, reach-text (bytes_at e' (aligned e' 8 s) n.0) m 23 (8 * (n.0 + 1)) n.0 s fs t q)
-  zero-reach m Never s fs t q = unfold refuse in let z : ◌≡◌ {A = ℕ} 0 1 = cc in absurd (omega arith)
+  zero-reach m None s fs t q = unfold refuse in let z : ◌≡◌ {A = ℕ} 0 1 = cc in absurd (omega arith)
 
   rel-zero : (m : ℕ) (l : ℕ → ℕ) (s : State) → Beside l ((fit e 8 0 ⨾ λ u. read_zero e m (zero_at (ahead e (aligned e 8 u))) u) s)
       ((fit e' 8 0 ⨾ λ u. read_zero e' m (zero_at (ahead e' (aligned e' 8 u))) u) (there l s))
@@ -549,7 +545,7 @@ module _ (e e' : Env) (y : Like e e') where
           (λ n q. omega (arith, (zero-found (ahead e (aligned e 8 s)) n q).0, ahead-length s f)))
 
       cut : (aligned e 8 s).0 ≤ e.bound.0 → e.bound.0 - e.start.0 < e'.bound.0 - e'.start.0
-          → (x x' : Ended) → x ≡ Never → ((n : ByteLength) → x' ≡ After n → (e.bound.0 - (aligned e 8 s).0) / 8 ≤ n.0)
+          → (x x' : Option ByteLength) → x ≡ None → ((n : ByteLength) → x' ≡ Some n → (e.bound.0 - (aligned e 8 s).0) / 8 ≤ n.0)
           → Cut e e' (read_zero e m x s) (read_zero e' m x' (there l s))
       cut f w x x' p h = record {
         es = [];
@@ -569,8 +565,8 @@ module _ (e e' : Env) (y : Like e e') where
 
       further : (aligned e 8 s).0 ≤ e.bound.0 → e.bound.0 - e.start.0 < e'.bound.0 - e'.start.0
           → (zero_at (ahead e (aligned e 8 s) ++ more l s) ≡ zero_at (ahead e (aligned e 8 s)))
-          ⊎ ((zero_at (ahead e (aligned e 8 s)) ≡ Never)
-          × ((n : ByteLength) → zero_at (ahead e (aligned e 8 s) ++ more l s) ≡ After n → length (ahead e (aligned e 8 s)) ≤ n.0))
+          ⊎ ((zero_at (ahead e (aligned e 8 s)) ≡ None)
+          × ((n : ByteLength) → zero_at (ahead e (aligned e 8 s) ++ more l s) ≡ Some n → length (ahead e (aligned e 8 s)) ≤ n.0))
           → Beside l (read_zero e m (zero_at (ahead e (aligned e 8 s))) s)
           (read_zero e' m (zero_at (ahead e' (aligned e' 8 (there l s)))) (there l s))
       further f w (inl p) = same f (ap zero_at (ahead-there l s f) ∙ p)

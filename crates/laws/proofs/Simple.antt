@@ -1,6 +1,8 @@
 -- Laws that ask nothing of a field's bits or values, of the slots that it sets only S, and of its record only M: what holds of the
 -- primitive steps, and under their composition, holds of every root. L is a law of steps, and R the same of steps that come where there is
 -- room for an entry.
+use Rattle.std.specs.Prelude.{Option, None, Some}
+use Rattle.rules.specs.declared.ByteLength.{ByteLength}
 use mathlib.Core.Path.{◌≡◌}
 use Prim.Native.Nat.{ℕ, ◌+◌, ◌-◌, ◌*◌, ◌%◌, ◌^◌, ◌≤◌}
 use native.Mathlib.Omega.{arith}
@@ -8,19 +10,14 @@ use native.Mathlib.Nat.{le_refl}
 use lib.Pow.{pow_pos}
 use mathlib.Core.List.{List}
 use mathlib.Core.Bool.{Bool, not, ◌&&◌}
-use mathlib.Core.Option.{Option, none, some}
 use lib.Dec.{ltb, eqb}
 use Rattle.rules.specs.declared.BitPlace.{BitPlace}
 use Rattle.rules.specs.declared.Order.{Order}
-use Rattle.rules.specs.declared.LastOrder.{LastOrder}
-use Rattle.rules.specs.declared.LastOrder.TheVariants.{Was}
 use Rattle.rules.specs.declared.Content.{Content}
 use Rattle.rules.specs.declared.Content.TheVariants.{Unset, Unsigned, Signed}
 use Rattle.rules.specs.declared.Said.{Said}
 use Rattle.rules.specs.declared.Leb.{Leb}
 use Rattle.rules.specs.declared.Leb.TheVariants.{Value, Past, Large}
-use Rattle.rules.specs.declared.Ended.{Ended}
-use Rattle.rules.specs.declared.Ended.TheVariants.{After, Never}
 use Rattle.rules.specs.declared.Refusal.{Refusal}
 use Rattle.rules.specs.declared.Refusal.TheVariants.{PastBound, OrderChanged, LebTooLarge, NoZeroByte, SlotUnset, SlotOfWrongSort}
 use Rattle.rules.specs.declared.Refusal.TheVariants.{LengthTooLarge, SelectorInNoOption, WrongMagic, WrongUuid, ClockTooLarge, NotText}
@@ -46,7 +43,7 @@ use Rattle.laws.proofs.Places.{tenth_byte}
 -- what a step may look at beside the slots and the room
 pub record View : Type 0 where
   pub place : BitPlace
-  pub order : LastOrder
+  pub order : Option Order
   pub clock : ℕ
   pub last : ℕ
   pub said : Said
@@ -79,7 +76,7 @@ pub record Simple (e : Env) (M : ℕ → ℕ → Type 0) (S : ℕ → Type 0) (L
   pub fields : (m k a n v : ℕ) → FieldKind k → M m k → 1 ≤ a → R (field e m k a n v)
   pub clocked : (l c : ℕ) → R (λ s. listed (entry clock_advanced s.place l c 0) s.place s)
   pub stores : (i : ℕ) (x : Content) → S i → L (store i x)
-  pub orders : (o : LastOrder) → L (change (with_order o))
+  pub orders : (o : Option Order) → L (change (with_order o))
   pub clocks : (c : ℕ) → L (change (with_clock c))
   pub says : (f : Said → Said) → L (say f)
 
@@ -106,8 +103,8 @@ module _ (e : Env) {M : ℕ → ℕ → Type 0} {S : ℕ → Type 0} {L R : Step
 
   simple-new_clock : (l : ℕ) (o : Option ℕ) → R (new_clock l o)
   unfolding new_clock refusal_number
-  simple-new_clock l none = h.refuses ClockTooLarge (λ z. omega arith)
-  simple-new_clock l (some c) = h.seqʳ (h.clocked l c) (h.clocks c)
+  simple-new_clock l None = h.refuses ClockTooLarge (λ z. omega arith)
+  simple-new_clock l (Some c) = h.seqʳ (h.clocked l c) (h.clocks c)
 
   simple-role : (r : Role) (l v : ℕ) → L (role r l v)
   unfolding role refusal_number
@@ -145,9 +142,9 @@ module _ (e : Env) {M : ℕ → ℕ → Type 0} {S : ℕ → Type 0} {L R : Step
   simple-fixed m k n o a i r z w g =
       h.dueʳ (fitting a 0 (turning a o (fitting a n (h.looksʳ
       (λ x. let v = bits o e.bytes (align_from e.start.0 a x.place.0) n in
-      field e m (kind_of k) a n (value_of k n v) ⨾ change (with_order (Was o)) ⨾ store i (slot_of k n v) ⨾ role r n (value_of k n v))
+      field e m (kind_of k) a n (value_of k n v) ⨾ change (with_order (Some o)) ⨾ store i (slot_of k n v) ⨾ role r n (value_of k n v))
       (λ x. h.seqʳ (h.fields m (kind_of k) a n _ (kind-fields k) z g)
-      (h.seq (h.orders (Was o)) (h.seq (h.stores i _ w) (simple-role r n _))))))))
+      (h.seq (h.orders (Some o)) (h.seq (h.stores i _ w) (simple-role r n _))))))))
 
   simple-leb : (m k : ℕ) (c : ℕ → Content) (i : ℕ) (r : Role) (x : Leb) → M m k → S i → FieldKind k → R (read_leb e m k c i r x)
   unfolding read_leb
@@ -161,11 +158,11 @@ module _ (e : Env) {M : ℕ → ℕ → Type 0} {S : ℕ → Type 0} {L R : Step
   unfolding as_text check refusal_number
   texted m k n v x g z = h.checksʳ (λ u. not (is_text (x u))) NotText (λ z. omega arith) (h.fields m k 8 n v g z (omega arith))
 
-  simple-zero : (m : ℕ) (x : Ended) → M m 23 → R (read_zero e m x)
+  simple-zero : (m : ℕ) (x : Option ByteLength) → M m 23 → R (read_zero e m x)
   unfolding read_zero aligned refusal_number
-  simple-zero m (After n) z =
+  simple-zero m (Some n) z =
       texted m 23 (8 * (n.0 + 1)) n.0 (λ x. bytes_at e (bit_place (align_from e.start.0 8 x.place.0)) n.0) (omega arith) z
-  simple-zero m Never z = h.refuses NoZeroByte (λ z. omega arith)
+  simple-zero m None z = h.refuses NoZeroByte (λ z. omega arith)
 
   -- a step behind the alignment to whole bytes, which looks at the place
   bytewise : (f : BitPlace → Step) → ((p : BitPlace) → R (f p)) → R (fit e 8 0 ⨾ λ s. f (aligned e 8 s) s)

@@ -1,6 +1,5 @@
 -- Places within a packet: at or behind its start, and at or before the bound; and whether the place has moved where a length is stated.
-use Rattle.std.specs.Prelude.{◌≡◌, ◌⊎◌, ℕ, ◌≤◌, ◌<◌}
-use Rattle.rules.specs.declared.Stated.TheVariants.{Missing}
+use Rattle.std.specs.Prelude.{◌≡◌, ◌⊎◌, ℕ, ◌≤◌, ◌<◌, None}
 use Rattle.rules.specs.declared.Said.{Said}
 use Rattle.rules.specs.Field.{Env}
 
@@ -9,4 +8,4 @@ Between e p = (e.start.0 ≤ p) × (p ≤ e.bound.0)
 
 -- no length is stated, or the place is behind the packet's start
 abbrev pub Moved : Env → ℕ → Said → Type 0
-Moved e p d = ((d.total ≡ Missing) × (d.content ≡ Missing)) ⊎ (e.start.0 < p)
+Moved e p d = ((d.total ≡ None) × (d.content ≡ None)) ⊎ (e.start.0 < p)

@@ -1,7 +1,6 @@
 -- "Slots 0 to 15 are set by packet roots (0, 1), 16 to 63 by event roots" (The class table): an event's roots keep the packet's slots, and
 -- a packet's roots leave slots 16 to 63 unset.
-use Rattle.std.specs.Prelude.{◌≡◌, ℕ, List}
-use Rattle.std.proofs.Math.Option.{Option, some}
+use Rattle.std.specs.Prelude.{◌≡◌, ℕ, List, Option, Some}
 use Rattle.rules.specs.declared.Entry.{Entry}
 use Rattle.rules.specs.Slots.{packet_slots}
 use Rattle.rules.specs.Step.{State, go}
@@ -23,8 +22,8 @@ LeavesUnset c =
 -- the packet's header and context; and an event's roots
 pub record KeepsSlots (a : Asked) : Type 0 where
   pub packet : LeavesUnset a.header
-  pub context : (i : ℕ) (c : StreamClass) → a.stream i ≡ some c → LeavesUnset c.context
-  pub header : (i : ℕ) (c : StreamClass) → a.stream i ≡ some c → RootKeeps c.header
-  pub common : (i : ℕ) (c : StreamClass) → a.stream i ≡ some c → RootKeeps c.common
-  pub specific : (i j : ℕ) (d : EventClass) → a.event i j ≡ some d → RootKeeps d.specific
-  pub payload : (i j : ℕ) (d : EventClass) → a.event i j ≡ some d → RootKeeps d.payload
+  pub context : (i : ℕ) (c : StreamClass) → a.stream i ≡ Some c → LeavesUnset c.context
+  pub header : (i : ℕ) (c : StreamClass) → a.stream i ≡ Some c → RootKeeps c.header
+  pub common : (i : ℕ) (c : StreamClass) → a.stream i ≡ Some c → RootKeeps c.common
+  pub specific : (i j : ℕ) (d : EventClass) → a.event i j ≡ Some d → RootKeeps d.specific
+  pub payload : (i j : ℕ) (d : EventClass) → a.event i j ≡ Some d → RootKeeps d.payload

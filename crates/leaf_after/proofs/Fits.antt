@@ -1,4 +1,6 @@
 -- What is seen of a leaf in a frame fits what is done with it.
+use Rattle.std.specs.Prelude.{Ok, Option, Result}
+use Rattle.rules.specs.declared.Refusal.{Refusal}
 use mathlib.Core.Path.{◌≡◌, refl}
 use mathlib.Core.List.{List}
 use mathlib.Core.Bool.{Bool, true, false}
@@ -9,7 +11,6 @@ use lib.ListN.{take, drop}
 use borrow.Author.Tests.{ltb-false}
 use Rattle.rules.specs.declared.BitPlace.{BitPlace}
 use Rattle.rules.specs.declared.Order.{Order}
-use Rattle.rules.specs.declared.LastOrder.{LastOrder}
 use Rattle.rules.specs.declared.Content.{Content}
 use Rattle.rules.specs.declared.Content.TheVariants.{Unset, Flag, Unsigned, Signed}
 use Rattle.rules.specs.Limits.{length_limit}
@@ -25,8 +26,6 @@ use Rattle.leaf_find_number.proofs.Lies.{bits-lie, unsigned-lies, signed-lies}
 use Rattle.leaf_find_bytes.specs.Found.{Ends}
 use Rattle.leaf_find_bytes.proofs.Lies.{ends_at}
 use Rattle.slots.specs.Taken.{length_of}
-use Rattle.slots.specs.declared.Length.{Length}
-use Rattle.slots.specs.declared.Length.TheVariants.{Of}
 use Rattle.leaf_after.specs.Seeing.{Told, Fits, seen, fixed_seen, leb_seen, plain_seen, uuid_seen, blob_seen}
 
 seen-fits : (x : Found) (m : Told) → ((p : BitPlace) (n v : ℕ) → x ≡ At n p v → Fits (m p n v)) → Fits (seen x m)
@@ -41,30 +40,30 @@ no-stamp e = absurd (omega arith)
 -- m is the number of the leaf's record
 module _ {b : List ℕ} {f : Frame} {from : BitPlace} (framed : Framed b f from) (m : ℕ) where
   -- only a number that is listed as it was found has a role
-  pub fixed-fits : (last : LastOrder) (n : ℕ) (o : Order) (a : ℕ) (k : Sort) (i r : ℕ) → (r ≡ 7 → (w v : ℕ) → value_of k w v ≡ v)
+  pub fixed-fits : (last : Option Order) (n : ℕ) (o : Order) (a : ℕ) (k : Sort) (i r : ℕ) → (r ≡ 7 → (w v : ℕ) → value_of k w v ≡ v)
       → Fits (seen (found_bits b f from last n o a) (fixed_seen m k o i r))
   unfolding Fits fixed_seen
   fixed-fits last n o a k i r same = seen-fits _ _ (λ p w v at.
       let lies = bits-lie framed at last n o a refl in
       (lies.0, λ e. rw (same e w v) lies.1))
 
-  pub unsigned-fits : Bytes b → (o : LastOrder) (i r : ℕ) → Fits (seen (found_unsigned b f from) (leb_seen m 21 Unsigned o i r))
+  pub unsigned-fits : Bytes b → (o : Option Order) (i r : ℕ) → Fits (seen (found_unsigned b f from) (leb_seen m 21 Unsigned o i r))
   unfolding Fits leb_seen
   unsigned-fits h o i r = seen-fits _ _ (λ p w v at. let lies = unsigned-lies framed at h refl in (lies.0, λ e. lies.1))
 
-  pub signed-fits : (o : LastOrder) (i : ℕ) → Fits (seen (found_signed b f from) (leb_seen m 22 Signed o i 0))
+  pub signed-fits : (o : Option Order) (i : ℕ) → Fits (seen (found_signed b f from) (leb_seen m 22 Signed o i 0))
   unfolding Fits leb_seen
   signed-fits o i = seen-fits _ _ (λ p w v at. (signed-lies framed at refl, λ e. no-stamp e))
 
-module _ (m k : ℕ) (o : LastOrder) (p : BitPlace) (n v : ℕ) (h : p.0 + n < 2 ^ 64) where
+module _ (m k : ℕ) (o : Option Order) (p : BitPlace) (n v : ℕ) (h : p.0 + n < 2 ^ 64) where
   plain_at : Fits (plain_seen m k o p n v)
   unfolding Fits plain_seen
   plain_at = (h, λ e. no-stamp e)
 
-pub plain_fits : (m k : ℕ) (o : LastOrder) (x : Found) → Ends x → Fits (seen x (plain_seen m k o))
+pub plain_fits : (m k : ℕ) (o : Option Order) (x : Found) → Ends x → Fits (seen x (plain_seen m k o))
 plain_fits m k o x h = seen-fits x _ (λ p n v at. plain_at m k o p n v (ends_at at h))
 
-module _ (m : ℕ) (b u : List ℕ) (o : LastOrder) where
+module _ (m : ℕ) (b u : List ℕ) (o : Option Order) where
   uuid-at : (p : BitPlace) (n v : ℕ) → p.0 + n < 2 ^ 64 → Fits (uuid_seen m b u o p n v)
   unfolding Fits uuid_seen
   uuid-at p n v l = by (same_bytes (take v (drop (p.0 / 8) b)) u) refl
@@ -86,7 +85,7 @@ module _ (m : ℕ) (b u : List ℕ) (o : LastOrder) where
 
 -- A length that a slot gives, or none
 
-pub length-small : (c : Content) {x : Length} {n : ℕ} → x ≡ length_of c → x ≡ Of n → n ≤ length_limit
+pub length-small : (c : Content) {x : Result ℕ Refusal} {n : ℕ} → x ≡ length_of c → x ≡ Ok n → n ≤ length_limit
 unfolding length_of
 length-small Unset is e = let z : ◌≡◌ {A = ℕ} 0 1 = cc in absurd (omega arith)
 length-small (Flag t) is e = let z : ◌≡◌ {A = ℕ} 0 1 = cc in absurd (omega arith)

@@ -1,5 +1,7 @@
 -- The rules' reading of a leaf is what is seen of it, and then what is done with that. In order: tests; a BLOB's roles; numbers; what has
 -- neither slot nor role; static BLOBs; lengths that a slot gives.
+use Rattle.std.specs.Prelude.{Some, None, Option}
+use Rattle.rules.specs.declared.ByteLength.{ByteLength}
 use Prim.Native.Nat.{ℕ, ◌-◌, ◌*◌, ◌/◌, ◌<◌, ◌≤◌}
 use native.Mathlib.Omega.{arith}
 use lib.Dec.{ltb, eqb}
@@ -14,8 +16,6 @@ use Rattle.rules.specs.declared.Content.{Content}
 use Rattle.rules.specs.declared.Content.TheVariants.{Unset, Flag, Unsigned, Signed}
 use Rattle.rules.specs.declared.Leb.{Leb}
 use Rattle.rules.specs.declared.Leb.TheVariants.{Value, Past, Large}
-use Rattle.rules.specs.declared.Ended.{Ended}
-use Rattle.rules.specs.declared.Ended.TheVariants.{After, Never}
 use Rattle.rules.specs.declared.Order.{Order}
 use Rattle.rules.specs.declared.Refusal.{Refusal}
 use Rattle.rules.specs.declared.Refusal.TheVariants.{LengthTooLarge, WrongUuid}
@@ -147,11 +147,11 @@ module _ (b uuid : List ℕ) (f : Frame) (m : ℕ) (s : State) (h : words_per_en
     unfolding done done_due plain_seen ◌⨾◌ after onto listed change with_order store with_slots role role_of roles pass
     plain-listed k p n v = rw (no-slot s.slots no_slot Unset long (omega arith)) refl
 
-    zero-read : (x : Ended) → read_zero env m x s
+    zero-read : (x : Option ByteLength) → read_zero env m x s
         ≡ done (seen (found_zero b s.place (aligned_at f 8 s.place) x) (plain_seen m 23 s.order)) s
     unfolding read_zero ◌⨾◌ refuse refuse_at bytes_at field aligned found_zero aligned_at seen done
-    zero-read (After n) = text-seen _ _ s (At _ _ _) (plain_seen m 23 s.order) (plain-listed 23 _ _ _)
-    zero-read Never = refl
+    zero-read (Some n) = text-seen _ _ s (At _ _ _) (plain_seen m 23 s.order) (plain-listed 23 _ _ _)
+    zero-read None = refl
 
     pub string-read : read env m string s ≡ done (seen (found_string b f s.place) (plain_seen m 23 s.order)) s
     unfolding read fit aligned ahead found_string bytes_ahead within aligned_at

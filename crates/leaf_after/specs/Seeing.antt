@@ -1,9 +1,8 @@
 -- A reading of a leaf in two parts: what is seen of it, by what was found, and what is done with that.
-use Rattle.std.specs.Prelude.{ℕ, ◌+◌, ◌*◌, ◌/◌, ◌^◌, ◌<◌, true, false, List, take, drop, eqb}
+use Rattle.rules.specs.declared.Refusal.{Refusal}
+use Rattle.std.specs.Prelude.{ℕ, ◌+◌, ◌*◌, ◌/◌, ◌^◌, ◌<◌, true, false, List, take, drop, eqb, Some, Ok, Err, Option, Result}
 use Rattle.rules.specs.declared.BitPlace.{BitPlace}
 use Rattle.rules.specs.declared.Entry.{Entry}
-use Rattle.rules.specs.declared.LastOrder.{LastOrder}
-use Rattle.rules.specs.declared.LastOrder.TheVariants.{Was}
 use Rattle.rules.specs.declared.Order.{Order}
 use Rattle.rules.specs.declared.Content.{Content}
 use Rattle.rules.specs.declared.Content.TheVariants.{Unset}
@@ -16,8 +15,6 @@ use Rattle.rules.specs.Entry.{entry}
 use Rattle.rules.specs.Verdict.{stop_at}
 use Rattle.rules.specs.Step.{Step, ◌⨾◌, refuse, refuse_at, listed, change, with_order}
 use Rattle.rules.specs.Field.{same_bytes, store, role, value_of, slot_of}
-use Rattle.slots.specs.declared.Length.{Length}
-use Rattle.slots.specs.declared.Length.TheVariants.{Of, NotOf}
 use Rattle.leaf_find_number.specs.declared.Found.{Found}
 use Rattle.leaf_find_number.specs.declared.Found.TheVariants.{At, Refused}
 use Rattle.listing.specs.Roled.{Stamp}
@@ -63,35 +60,35 @@ unfoldable pub seen : Found → Told → Seen
 seen (At n p v) f = f p n v
 seen (Refused p r) f = Stops (stop_at r p)
 
-abbrev field_seen : Entry → LastOrder → ℕ → Content → ℕ → ℕ → Seen
+abbrev field_seen : Entry → Option Order → ℕ → Content → ℕ → ℕ → Seen
 field_seen x o i c r w = Field (record { entry = x; order = o; slot = i; content = c; role = r; width = w })
 
 -- kinds 16 to 20, which leave their order as the packet's last
 unfoldable pub fixed_seen : ℕ → Sort → Order → ℕ → ℕ → Told
-fixed_seen m k o i r p n v = field_seen (entry (kind_of k) p n (value_of k n v) m) (Was o) i (slot_of k n v) r n
+fixed_seen m k o i r p n v = field_seen (entry (kind_of k) p n (value_of k n v) m) (Some o) i (slot_of k n v) r n
 
 -- kinds 16 and 20, which have neither slot nor role: "their bits as unsigned" (The list)
 unfoldable pub bits_seen : ℕ → ℕ → Order → Told
-bits_seen m k o p n v = field_seen (entry k p n v m) (Was o) no_slot Unset 0 n
+bits_seen m k o p n v = field_seen (entry k p n v m) (Some o) no_slot Unset 0 n
 
 -- the others leave the packet's last order as it was. "L the field's bits (7 times its bytes for LEB128)"
-unfoldable pub leb_seen : ℕ → ℕ → (ℕ → Content) → LastOrder → ℕ → ℕ → Told
+unfoldable pub leb_seen : ℕ → ℕ → (ℕ → Content) → Option Order → ℕ → ℕ → Told
 leb_seen m k c o i r p n v = field_seen (entry k p n v m) o i (c v) r (7 * (n / 8))
 
 -- neither slot nor role
-unfoldable pub plain_seen : ℕ → ℕ → LastOrder → Told
+unfoldable pub plain_seen : ℕ → ℕ → Option Order → Told
 plain_seen m k o p n v = field_seen (entry k p n v m) o no_slot Unset 0 0
 
 -- a BLOB of a stream whose bytes must be a UUID's
-unfoldable pub uuid_seen : ℕ → List ℕ → List ℕ → LastOrder → Told
+unfoldable pub uuid_seen : ℕ → List ℕ → List ℕ → Option Order → Told
 uuid_seen m b u o p n v =
     elim (same_bytes (take v (drop (p.0 / 8) b)) u) [ true ↦ plain_seen m 25 o p n v | false ↦ OtherUuid (entry 25 p n v m) ]
 
 -- a static BLOB, which may have the UUID's role
-unfoldable pub blob_seen : ℕ → List ℕ → List ℕ → ℕ → LastOrder → Told
+unfoldable pub blob_seen : ℕ → List ℕ → List ℕ → ℕ → Option Order → Told
 blob_seen m b u r o p n v = elim (eqb r 4) [ true ↦ uuid_seen m b u o p n v | false ↦ plain_seen m 25 o p n v ]
 
 -- a length that a slot gives; or none, for a leaf from a place on
-unfoldable pub for_length : BitPlace → Length → (ℕ → Seen) → Seen
-for_length p (Of n) f = f n
-for_length p (NotOf r) f = Stops (stop_at r p)
+unfoldable pub for_length : BitPlace → Result ℕ Refusal → (ℕ → Seen) → Seen
+for_length p (Ok n) f = f n
+for_length p (Err r) f = Stops (stop_at r p)

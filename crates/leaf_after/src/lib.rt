@@ -3,14 +3,14 @@
 // leaf_see_bytes, 23 to 27; and leaf_read does it, of leaves one after another.
 #![tactic(auto)]
 
-use rules::{BitPlace, Content, Entry, LastOrder, Refusal, Stop};
+use rules::{BitPlace, Content, Entry, Order, Refusal, Stop};
 
 // What is due of a leaf: its entry; the order that is the packet's last behind it; which slot becomes what, 255 is none; and the role of
 // its value, which has `width` bits as a timestamp.
 #[derive(Clone, Copy)]
 pub struct Due {
     pub entry: Entry,
-    pub order: LastOrder,
+    pub order: Option<Order>,
     pub slot: u8,
     pub content: Content,
     pub role: u8,
@@ -18,7 +18,7 @@ pub struct Due {
 }
 
 // What is seen of a leaf before anything of it is listed: what is due; a BLOB with other bytes than the UUID that it must be; or why it is
-// refused, and at which place.
+// refused, and at which place. Three ends: a BLOB that is not the UUID is listed and then refused, so that it is neither of the others.
 #[derive(Clone, Copy)]
 pub enum Seen {
     Field(Due),
@@ -37,7 +37,7 @@ pub struct Leaves {
     pub at: usize,
     pub todo: usize,
     pub place: BitPlace,
-    pub order: LastOrder,
+    pub order: Option<Order>,
     pub used: usize,
     pub slot: u8,
     pub role: u8,

@@ -1,12 +1,12 @@
 -- What was found in whole bytes lies before the bound. In order: each kind; what the code rests on.
+use Rattle.std.specs.Prelude.{Some, None, Option}
+use Rattle.rules.specs.declared.ByteLength.{ByteLength}
 use mathlib.Core.Path.{◌≡◌, refl, sym, ◌∙◌}
 use mathlib.Core.List.{List}
 use Prim.Native.Nat.{ℕ, ◌+◌, ◌-◌, ◌*◌, ◌/◌, ◌^◌, ◌<◌, ◌≤◌}
 use native.Mathlib.Omega.{arith}
 use lib.ListN.{length}
 use Rattle.rules.specs.declared.BitPlace.{BitPlace}
-use Rattle.rules.specs.declared.Ended.{Ended}
-use Rattle.rules.specs.declared.Ended.TheVariants.{After, Never}
 use Rattle.rules.specs.Text.{zero_at}
 use Rattle.text.proofs.Laws.{zero-found}
 use Rattle.frame.specs.declared.Frame.{Frame}
@@ -18,15 +18,15 @@ use Rattle.leaf_find_number.proofs.Lies.{unless-found, within-found, ahead-lengt
 use Rattle.leaf_find_bytes.specs.Found.{Ends, of_text, found_zero, found_string, found_blob, found_text}
 
 module _ (f : Frame) (p : BitPlace) (m v : ℕ) where
-  zero-lies : (b bs : List ℕ) (from q : BitPlace) (x : Ended) → x ≡ zero_at bs → length bs ≤ (f.bound.0 - q.0) / 8 → q.0 ≤ f.bound.0
+  zero-lies : (b bs : List ℕ) (from q : BitPlace) (x : Option ByteLength) → x ≡ zero_at bs → length bs ≤ (f.bound.0 - q.0) / 8 → q.0 ≤ f.bound.0
       → found_zero b from q x ≡ At m p v → p.0 + m ≤ f.bound.0
   unfolding found_zero of_text
-  zero-lies b bs from q (After n) is h l e =
+  zero-lies b bs from q (Some n) is h l e =
       let same = unless-found f p m v _ _ _ _ e in
       let place : q ≡ p = cc in
       let width : 8 * (n.0 + 1) ≡ m = cc in
       rw (← place, ← width) (omega (arith, (zero-found bs n (sym is)).0))
-  zero-lies b bs from q Never is h l e = let z : ◌≡◌ {A = ℕ} 0 1 = cc in absurd (omega arith)
+  zero-lies b bs from q None is h l e = let z : ◌≡◌ {A = ℕ} 0 1 = cc in absurd (omega arith)
 
   -- so many bytes from a place on, whatever they say
   bytes-lie : (q : BitPlace) (n w : ℕ) → q.0 + 8 * n ≤ f.bound.0 → At (8 * n) q w ≡ At m p v

@@ -1,9 +1,8 @@
 -- Where a leaf counted in whole bytes stands and what it says, or why it is refused, as numbers.
-use Rattle.std.specs.Prelude.{ℕ, ◌+◌, ◌*◌, ◌/◌, ◌^◌, ◌<◌, List, not, take, drop}
+use Rattle.rules.specs.declared.ByteLength.{ByteLength}
+use Rattle.std.specs.Prelude.{ℕ, ◌+◌, ◌*◌, ◌/◌, ◌^◌, ◌<◌, List, not, take, drop, Some, None, Option}
 use Rattle.rules.specs.declared.BitPlace.{BitPlace}
 use Rattle.rules.specs.declared.Refusal.TheVariants.{NoZeroByte, NotText}
-use Rattle.rules.specs.declared.Ended.{Ended}
-use Rattle.rules.specs.declared.Ended.TheVariants.{After, Never}
 use Rattle.rules.specs.Text.{text_length, zero_at, is_text}
 use Rattle.frame.specs.declared.Frame.{Frame}
 use Rattle.leaf_find_number.specs.declared.Found.{Found}
@@ -21,9 +20,9 @@ unfoldable pub of_text : List ℕ → BitPlace → Found → Found
 of_text x from y = unless (not (is_text x)) NotText from y
 
 -- from a place on, at the aligned one, in the stream b: "string 23 counts without its zero (bits include it)"
-unfoldable pub found_zero : List ℕ → BitPlace → BitPlace → Ended → Found
-found_zero b from p (After n) = of_text (take n.0 (drop (p.0 / 8) b)) from (At (8 * (n.0 + 1)) p n.0)
-found_zero b from p Never = Refused from NoZeroByte
+unfoldable pub found_zero : List ℕ → BitPlace → BitPlace → Option ByteLength → Found
+found_zero b from p (Some n) = of_text (take n.0 (drop (p.0 / 8) b)) from (At (8 * (n.0 + 1)) p n.0)
+found_zero b from p None = Refused from NoZeroByte
 
 unfoldable pub found_string : List ℕ → Frame → BitPlace → Found
 found_string b f from = let p = aligned_at f 8 from in within f p 0 (found_zero b from p (zero_at (bytes_ahead b f p)))

@@ -1,4 +1,5 @@
 -- Each way that a leaf is found or refused, by the tests that lead to it.
+use Rattle.std.specs.Prelude.{Option}
 use Prim.Native.Nat.{ℕ, ◌+◌, ◌-◌, ◌/◌, ◌%◌, ◌<◌, ◌≤◌}
 use native.Mathlib.Omega.{arith}
 use mathlib.Core.Path.{◌≡◌, refl, sym, ◌∙◌}
@@ -12,7 +13,6 @@ use Rattle.rules.specs.declared.ByteLength.{ByteLength}
 use Rattle.rules.specs.declared.Leb.{Leb}
 use Rattle.rules.specs.declared.Leb.TheVariants.{Value, Past, Large}
 use Rattle.rules.specs.declared.Order.{Order}
-use Rattle.rules.specs.declared.LastOrder.{LastOrder}
 use Rattle.rules.specs.declared.Refusal.TheVariants.{OrderChanged}
 use Rattle.rules.specs.Place.{bit_place, align_from}
 use Rattle.rules.specs.Bits.{bits}
@@ -24,7 +24,8 @@ use Rattle.frame.specs.declared.Frame.{Frame}
 use Rattle.leaf_find_number.specs.declared.Found.{Found}
 use Rattle.leaf_find_number.specs.declared.Found.TheVariants.{At, Refused}
 use Rattle.frame.specs.Framed.{aligned_at}
-use Rattle.leaf_find_number.specs.Found.{unless, within, past_bound_of, bytes_ahead, found_bits, found_unsigned, found_signed, found_leb}
+use Rattle.leaf_find_number.specs.Found.{unless, within, past_bound_of, bytes_ahead, found_bits, found_unsigned}
+use Rattle.leaf_find_number.specs.Found.{found_signed, found_number, found_leb}
 use Rattle.leaf_find_number.specs.Found.{Short}
 
 pub within-past : (f : Frame) (p : BitPlace) (n : ℕ) (x : Found) → f.bound.0 < p.0 + n → within f p n x ≡ past_bound_of f
@@ -56,7 +57,7 @@ module _ (f : Frame) (from p : BitPlace) (e : p ≡ aligned_at f 8 from) where
 
 -- a field that stands at p once it is aligned
 module _ (b : List ℕ) (f : Frame) (from p : BitPlace) where
-  module _ (last : LastOrder) (n : ℕ) (o : Order) (a : ℕ) (e : p ≡ aligned_at f a from) where
+  module _ (last : Option Order) (n : ℕ) (o : Order) (a : ℕ) (e : p ≡ aligned_at f a from) where
     pub bits-past : f.bound.0 < p.0 → past_bound_of f ≡ found_bits b f from last n o a
     unfolding found_bits
     bits-past past = rw (← e) (sym (within-past f p 0 _ (omega arith)))
@@ -91,21 +92,36 @@ module _ (b : List ℕ) (f : Frame) (from p : BitPlace) where
         let same : f.bound.0 / 8 - p.0 / 8 ≡ (f.bound.0 - p.0) / 8 = omega arith in
         rw (same) refl
 
-    pub unsigned-past : f.bound.0 < p.0 → past_bound_of f ≡ found_unsigned b f from
+    unsigned-past : f.bound.0 < p.0 → past_bound_of f ≡ found_unsigned b f from
     unfolding found_unsigned
     unsigned-past past = rw (← e) (sym (within-past f p 0 _ (omega arith)))
 
-    pub unsigned-at : f.start.0 % 8 ≡ 0 → p.0 ≤ f.bound.0 → found_leb f p (leb_unsigned read) ≡ found_unsigned b f from
+    unsigned-at : f.start.0 % 8 ≡ 0 → p.0 ≤ f.bound.0 → found_leb f p (leb_unsigned read) ≡ found_unsigned b f from
     unfolding found_unsigned
     unsigned-at whole l = rw (bytes-ahead whole l, ← e) (sym (within-fits f p 0 _ (omega arith)))
 
-    pub signed-past : f.bound.0 < p.0 → past_bound_of f ≡ found_signed b f from
+    signed-past : f.bound.0 < p.0 → past_bound_of f ≡ found_signed b f from
     unfolding found_signed
     signed-past past = rw (← e) (sym (within-past f p 0 _ (omega arith)))
 
-    pub signed-at : f.start.0 % 8 ≡ 0 → p.0 ≤ f.bound.0 → found_leb f p (leb_signed read) ≡ found_signed b f from
+    signed-at : f.start.0 % 8 ≡ 0 → p.0 ≤ f.bound.0 → found_leb f p (leb_signed read) ≡ found_signed b f from
     unfolding found_signed
     signed-at whole l = rw (bytes-ahead whole l, ← e) (sym (within-fits f p 0 _ (omega arith)))
+
+    -- either
+    pub number-past : (signed : Bool) → f.bound.0 < p.0 → past_bound_of f ≡ found_number signed b f from
+    unfolding found_number
+    number-past true past = signed-past past
+    number-past false past = unsigned-past past
+
+    module _ (whole : f.start.0 % 8 ≡ 0) (l : p.0 ≤ f.bound.0) where
+      pub number-signed : {signed : Bool} → signed ≡ true → found_leb f p (leb_signed read) ≡ found_number signed b f from
+      unfolding found_number
+      number-signed is = rw is (signed-at whole l)
+
+      pub number-unsigned : {signed : Bool} → signed ≡ false → found_leb f p (leb_unsigned read) ≡ found_number signed b f from
+      unfolding found_number
+      number-unsigned is = rw is (unsigned-at whole l)
 
 -- an answer of ten bytes at most
 pub short-value : (x : Leb) (v : ℕ) (n : ByteLength) → Short x → x ≡ Value v n → n.0 ≤ 10

@@ -1,4 +1,5 @@
 -- What was found lies before the bound, and a number fits its bits. In order: the tests; kinds 16 to 20; LEB128.
+use Rattle.std.specs.Prelude.{Option}
 use mathlib.Core.Path.{◌≡◌, refl, sym, ◌∙◌}
 use mathlib.Core.List.{List}
 use mathlib.Core.Logic.{⊎_elim}
@@ -9,7 +10,6 @@ use lib.ListN.{length, drop, length-take}
 use Rattle.rules.specs.declared.BitPlace.{BitPlace}
 use Rattle.rules.specs.declared.ByteLength.{ByteLength}
 use Rattle.rules.specs.declared.Order.{Order}
-use Rattle.rules.specs.declared.LastOrder.{LastOrder}
 use Rattle.rules.specs.declared.Refusal.{Refusal}
 use Rattle.rules.specs.declared.Leb.{Leb}
 use Rattle.rules.specs.declared.Leb.TheVariants.{Value, Past, Large}
@@ -41,7 +41,7 @@ module _ (f : Frame) (p : BitPlace) (m v : ℕ) where
       (lt-or-ge f.bound.0 (q.0 + n))
 
   -- kinds 16 to 20
-  module _ (b : List ℕ) (from : BitPlace) (last : LastOrder) (n : ℕ) (o : Order) (a : ℕ) where
+  module _ (b : List ℕ) (from : BitPlace) (last : Option Order) (n : ℕ) (o : Order) (a : ℕ) where
     lies_at : (q : BitPlace) → q.0 + n ≤ f.bound.0 → At n q (bits o b q.0 n) ≡ At m p v
         → (m ≡ n) × (p.0 + m ≤ f.bound.0) × (v < 2 ^ m)
     lies_at q fits e =
@@ -108,7 +108,7 @@ module _ {b : List ℕ} {f : Frame} {from : BitPlace} (framed : Framed b f from)
   below-bound e h = omega (arith, framed.ends, framed.small)
 
   module _ {x : Found} {p : BitPlace} {m v : ℕ} (at : x ≡ At m p v) where
-    pub bits-lie : (last : LastOrder) (n : ℕ) (o : Order) (a : ℕ) → x ≡ found_bits b f from last n o a
+    pub bits-lie : (last : Option Order) (n : ℕ) (o : Order) (a : ℕ) → x ≡ found_bits b f from last n o a
         → (p.0 + m < 2 ^ 64) × (v < 2 ^ m) × (m ≡ n)
     bits-lie last n o a is =
         let found = bits-found f p m v b from last n o a (sym is ∙ at) in

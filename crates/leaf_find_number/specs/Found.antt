@@ -1,9 +1,8 @@
 -- Where a leaf stands and what it says, or why it is refused: "alignment, 23, then its bits or bytes" (Reading). The steps of `read` in
 -- which nothing is listed yet, as numbers. Kinds 23 to 27 are in the crate leaf_find_bytes.
-use Rattle.std.specs.Prelude.{ℕ, ◌+◌, ◌-◌, ◌*◌, ◌/◌, ◌%◌, ◌≤◌, List, Bool, true, false, not, ◌&&◌, ltb, eqb, take, drop}
+use Rattle.std.specs.Prelude.{ℕ, ◌+◌, ◌-◌, ◌*◌, ◌/◌, ◌%◌, ◌≤◌, List, Bool, true, false, not, ◌&&◌, ltb, eqb, take, drop, Option}
 use Rattle.rules.specs.declared.BitPlace.{BitPlace}
 use Rattle.rules.specs.declared.Order.{Order}
-use Rattle.rules.specs.declared.LastOrder.{LastOrder}
 use Rattle.rules.specs.declared.Refusal.{Refusal}
 use Rattle.rules.specs.declared.Refusal.TheVariants.{PastBound, OrderChanged, LebTooLarge}
 use Rattle.rules.specs.declared.Leb.{Leb}
@@ -31,7 +30,7 @@ past_bound_of f = Refused f.bound PastBound
 unfoldable pub within : Frame → BitPlace → ℕ → Found → Found
 within f p n x = unless (ltb f.bound.0 (p.0 + n)) PastBound f.bound x
 
-unfoldable pub found_bits : List ℕ → Frame → BitPlace → LastOrder → ℕ → Order → ℕ → Found
+unfoldable pub found_bits : List ℕ → Frame → BitPlace → Option Order → ℕ → Order → ℕ → Found
 found_bits b f from last n o a =
     let p = aligned_at f a from in
     within f p 0
@@ -54,6 +53,11 @@ found_unsigned b f from = let p = aligned_at f 8 from in within f p 0 (found_leb
 
 unfoldable pub found_signed : List ℕ → Frame → BitPlace → Found
 found_signed b f from = let p = aligned_at f 8 from in within f p 0 (found_leb f p (leb_signed (bytes_ahead b f p)))
+
+-- either, by whether it is signed
+unfoldable pub found_number : Bool → List ℕ → Frame → BitPlace → Found
+found_number true b f from = found_signed b f from
+found_number false b f from = found_unsigned b f from
 
 -- a LEB128 number of ten bytes at most
 unfoldable pub Short : Leb → Type 0

@@ -6,13 +6,14 @@ ghost use Rattle.std.specs.Prelude.{◌≡◌, not, ◌&&◌, ◌+◌, ◌%◌, 
 ghost use Rattle.rules.specs.Field.{other_order};
 ghost use Rattle.frame.specs.Framed.{Framed};
 ghost use Rattle.leaf_find_number.specs.Found.{Short};
-ghost use Rattle.leaf_find_number.specs.Found.{found_bits, found_unsigned, found_signed, found_leb};
+ghost use Rattle.leaf_find_number.specs.Found.{found_bits, found_unsigned, found_signed, found_number, found_leb};
 
 use frame::Frame;
-use rules::{BitPlace, LastOrder, Leb, Order, Refusal};
+use rules::{BitPlace, Leb, Order, Refusal};
 
 // A leaf that stands at its aligned place with so many bits and says a value; or at which place it is refused, and why. The fields stand in
-// the order that is quick: where a refusal's last word lies on a number's, both are stored through memory.
+// the order that is quick: where a refusal's last word lies on a number's, both are stored through memory. A Stop in its place, as a Result
+// would have it, took a tenth more instructions a leaf (docs/DECISIONS.md, "Leaves").
 #[derive(Clone, Copy)]
 pub enum Found {
     At {
@@ -37,7 +38,7 @@ pub fn find_bits(
     stream: &[u8],
     frame: Frame,
     from: BitPlace,
-    last: LastOrder,
+    last: Option<Order>,
     width: u64,
     order: Order,
     exponent: u64,
@@ -75,7 +76,7 @@ pub fn find_bits(
 }
 
 // "Order may differ from that of the previous kind 16 to 20 field in the packet only at a multiple of 8 from P" (Reading)
-fn turns(order: Order, last: LastOrder, offset: u64) -> bool
+fn turns(order: Order, last: Option<Order>, offset: u64) -> bool
     ensures { result ≡ not (eqb (offset % 8) 0) && other_order order last }
 {
     if offset % 8 == 0 {
@@ -84,12 +85,12 @@ fn turns(order: Order, last: LastOrder, offset: u64) -> bool
     differs(order, last)
 }
 
-fn differs(order: Order, last: LastOrder) -> bool
+fn differs(order: Order, last: Option<Order>) -> bool
     ensures { result ≡ other_order order last }
 {
     match last {
-        LastOrder::Nothing => true,
-        LastOrder::Was(was) => match was {
+        None => true,
+        Some(was) => match was {
             Order::Little => match order {
                 Order::Little => false,
                 Order::Big => true,
@@ -107,23 +108,21 @@ pub fn find_unsigned(stream: &[u8], frame: Frame, from: BitPlace) -> Found
     requires { Framed stream.now frame from }
     ensures { result ≡ found_unsigned stream.now frame from }
 {
-    let bound = frame.bound;
-    let place = places::align(from, frame.start, BYTE);
-    if frame.bound.0 < place.0 {
-        return Found::Refused {
-            place: bound,
-            why: Refusal::PastBound,
-        };
-    }
-    let at = places::bytes_before(place);
-    let end = places::bytes_before(frame.bound);
-    leb_at(frame, place, leb128::unsigned(stream, at, end))
+    find_leb::<false>(stream, frame, from)
 }
 
 // Kind 22.
 pub fn find_signed(stream: &[u8], frame: Frame, from: BitPlace) -> Found
     requires { Framed stream.now frame from }
     ensures { result ≡ found_signed stream.now frame from }
+{
+    find_leb::<true>(stream, frame, from)
+}
+
+// Either.
+fn find_leb<const SIGNED: bool>(stream: &[u8], frame: Frame, from: BitPlace) -> Found
+    requires { Framed stream.now frame from }
+    ensures { result ≡ found_number SIGNED stream.now frame from }
 {
     let bound = frame.bound;
     let place = places::align(from, frame.start, BYTE);
@@ -135,7 +134,10 @@ pub fn find_signed(stream: &[u8], frame: Frame, from: BitPlace) -> Found
     }
     let at = places::bytes_before(place);
     let end = places::bytes_before(frame.bound);
-    leb_at(frame, place, leb128::signed(stream, at, end))
+    if SIGNED {
+        return leb_at(frame, place, leb128::signed(stream, at, end));
+    }
+    leb_at(frame, place, leb128::unsigned(stream, at, end))
 }
 
 // No LEB128 number has more than ten bytes, and ten lie below what a place can be.

@@ -1,5 +1,6 @@
 -- The leaf of the class at a byte: what is seen of it by the numbers of its record is what the rules' reading of the class that stands
 -- there does.
+use Rattle.std.specs.Prelude.{Ok, Err, Option, Result}
 use mathlib.Core.Path.{◌≡◌, refl, sym, ap, subst, ◌∙◌}
 use Prim.Native.Nat.{ℕ, zero, suc, ◌+◌, ◌-◌, ◌^◌, ◌≤◌, ◌<◌}
 use native.Mathlib.Omega.{arith}
@@ -10,7 +11,6 @@ use mathlib.Core.Logic.{⊎_elim}
 use lib.ListN.{length}
 use borrow.Author.Tests.{le-ltb, eq-eqb, ne_eqb}
 use Rattle.rules.specs.declared.BitPlace.{BitPlace}
-use Rattle.rules.specs.declared.LastOrder.{LastOrder}
 use Rattle.rules.specs.declared.Refusal.{Refusal}
 use Rattle.rules.specs.declared.Order.{Order}
 use Rattle.rules.specs.declared.Order.TheVariants.{Big}
@@ -35,8 +35,6 @@ use Rattle.leaf_find_number.proofs.Lies.{bits-lie}
 use Rattle.leaf_find_number.specs.Found.{found_bits, found_unsigned, found_signed}
 use Rattle.leaf_find_bytes.specs.Found.{found_string, found_text, found_blob}
 use Rattle.leaf_find_bytes.proofs.Lies.{string-ends, text-ends, blob-ends, blob-lies}
-use Rattle.slots.specs.declared.Length.{Length}
-use Rattle.slots.specs.declared.Length.TheVariants.{Of, NotOf}
 use Rattle.slots.specs.Taken.{length_of}
 use Rattle.leaf_after.specs.declared.Seen.{Seen}
 use Rattle.leaf_after.specs.declared.Due.{Due}
@@ -147,30 +145,30 @@ module _ (t : List ℕ) (at : ℕ) where
   slot_of k e h l s = rw (e, le-ltb k 26 h, leaf_slot) at s
 
 -- what names no slot sets none
-pub plain-apart : (m k : ℕ) (o : LastOrder) (x : Found) (d : Due) → seen x (plain_seen m k o) ≡ Field d → slot_count ≤ d.slot
+pub plain-apart : (m k : ℕ) (o : Option Order) (x : Found) (d : Due) → seen x (plain_seen m k o) ≡ Field d → slot_count ≤ d.slot
 unfolding seen plain_seen
 plain-apart m k o (At n p v) d e = let same : no_slot ≡ d.slot = cc in omega (arith, same)
 plain-apart m k o (Refused p r) d e = let z : ◌≡◌ {A = ℕ} 0 1 = cc in absurd (omega arith)
 
-pub dynamic-apart : (m : ℕ) (b : List ℕ) (f : Frame) (p : BitPlace) (o : LastOrder) (k : ℕ) (l : Length) (d : Due)
+pub dynamic-apart : (m : ℕ) (b : List ℕ) (f : Frame) (p : BitPlace) (o : Option Order) (k : ℕ) (l : Result ℕ Refusal) (d : Due)
     → for_length p l (dynamic_seen m b f p o k) ≡ Field d → slot_count ≤ d.slot
 unfolding for_length dynamic_seen
-dynamic-apart m b f p o k (Of n) d e = by (eqb k 26) refl e
+dynamic-apart m b f p o k (Ok n) d e = by (eqb k 26) refl e
   where
     by : (t : Bool) → eqb k 26 ≡ t → dynamic_seen m b f p o k n ≡ Field d → slot_count ≤ d.slot
     by true i e = plain-apart m k o _ d (rw (i, dynamic_seen) at e)
     by false i e = plain-apart m k o _ d (rw (i, dynamic_seen) at e)
-dynamic-apart m b f p o k (NotOf r) d e = let z : ◌≡◌ {A = ℕ} 0 1 = cc in absurd (omega arith)
+dynamic-apart m b f p o k (Err r) d e = let z : ◌≡◌ {A = ℕ} 0 1 = cc in absurd (omega arith)
 
 -- to do what is seen, with a number m, is to read the class that stands there, with that number
-abbrev pub SeesAt : ℕ → List ℕ → List ℕ → Frame → List ℕ → ℕ → Content → BitPlace → LastOrder → Seen → Type 0
+abbrev pub SeesAt : ℕ → List ℕ → List ℕ → Frame → List ℕ → ℕ → Content → BitPlace → Option Order → Seen → Type 0
 SeesAt m b u f t at = LeafSeen (read (env_of b u f) m (class_at 1 t at)) (leaf_slot t at)
 
 -- kinds 26 and 27, by what the slot holds
-abbrev dynamically : ℕ → List ℕ → Frame → Content → ℕ → BitPlace → LastOrder → Seen
+abbrev dynamically : ℕ → List ℕ → Frame → Content → ℕ → BitPlace → Option Order → Seen
 dynamically m b f x k p o = for_length p (length_of x) (dynamic_seen m b f p o k)
 
-module _ (m : ℕ) (t b u : List ℕ) (f : Frame) (at : ℕ) (p : BitPlace) (o : LastOrder) (x : Content) where
+module _ (m : ℕ) (t b u : List ℕ) (f : Frame) (at : ℕ) (p : BitPlace) (o : Option Order) (x : Content) where
   -- what is seen of the leaf at a byte, by its kind
   pub seen_of : (k : ℕ) → u8 t at ≡ k → seen_at m t b u f at p o x ≡ seen_in m t b u f at p o x (shape_of k)
   unfolding seen_at
@@ -199,12 +197,12 @@ module _ (m : ℕ) (t b u : List ℕ) (f : Frame) (at : ℕ) (p : BitPlace) (o :
 no-role : {A : Type 0} → ◌≡◌ {A = ℕ} 0 7 → A
 no-role e = absurd (omega arith)
 
-module _ (m : ℕ) (b u : List ℕ) (f : Frame) (t : List ℕ) (at : ℕ) (p : BitPlace) (o : LastOrder) (x : Content) (framed : Framed b f p) where
+module _ (m : ℕ) (b u : List ℕ) (f : Frame) (t : List ℕ) (at : ℕ) (p : BitPlace) (o : Option Order) (x : Content) (framed : Framed b f p) where
   abbrev this : Seen
   this = seen_at m t b u f at p o x
 
   -- y is what is seen from a place on, with an order as the last
-  by-class : (c : Class) (y : BitPlace → LastOrder → Seen) → class_at 1 t at ≡ c → this ≡ y p o → Fits (y p o)
+  by-class : (c : Class) (y : BitPlace → Option Order → Seen) → class_at 1 t at ≡ c → this ≡ y p o → Fits (y p o)
       → ((s : State) → words_per_entry ≤ s.room → length s.slots ≡ slot_count → slot_at s.slots (leaf_slot t at) ≡ x
       → read (env_of b u f) m c s ≡ done (y s.place s.order) s)
       → SeesAt m b u f t at x p o this
@@ -235,9 +233,9 @@ module _ (m : ℕ) (b u : List ℕ) (f : Frame) (t : List ℕ) (at : ℕ) (p : B
       by_kind n true e = rw (e, dynamic_seen) (plain_fits m k o _ (text-ends framed n refl))
       by_kind n false e = rw (e, dynamic_seen) (plain_fits m k o _ (blob-ends framed n refl))
 
-      by : (l : Length) → Fits (for_length p l (dynamic_seen m b f p o k))
-      by (Of n) = by_kind n (eqb k 26) refl
-      by (NotOf r) = tt
+      by : (l : Result ℕ Refusal) → Fits (for_length p l (dynamic_seen m b f p o k))
+      by (Ok n) = by_kind n (eqb k 26) refl
+      by (Err r) = tt
 
   module _ (bytes : Bytes b) where
     abbrev Sees : ℕ → Type 0
@@ -284,7 +282,7 @@ module _ (m : ℕ) (b u : List ℕ) (f : Frame) (t : List ℕ) (at : ℕ) (p : B
 
 -- what the code rests on: a number in bits can be extended, and a BLOB's bytes lie in the stream
 module _ {b : List ℕ} {f : Frame} {p : BitPlace} (framed : Framed b f p) where
-  pub bits-extend : (x : Found) (o : LastOrder) (w : ℕ) (d : Order) (a : ℕ) → x ≡ found_bits b f p o w d a → 1 ≤ w → w ≤ 64 → Extends x
+  pub bits-extend : (x : Found) (o : Option Order) (w : ℕ) (d : Order) (a : ℕ) → x ≡ found_bits b f p o w d a → 1 ≤ w → w ≤ 64 → Extends x
   unfolding Extends
   bits-extend (At n q v) o w d a is low high =
       let lies = bits-lie framed refl o w d a is in
@@ -298,12 +296,12 @@ module _ {b : List ℕ} {f : Frame} {p : BitPlace} (framed : Framed b f p) where
 
 -- A length that a slot gives, or none
 
-module _ (m : ℕ) (b : List ℕ) (f : Frame) (p : BitPlace) (o : LastOrder) {x y : Length} (is : x ≡ y) where
-  pub no-length-seen : {why : Refusal} → x ≡ NotOf why → (k : ℕ) → Stops (stop_at why p) ≡ for_length p y (dynamic_seen m b f p o k)
+module _ (m : ℕ) (b : List ℕ) (f : Frame) (p : BitPlace) (o : Option Order) {x y : Result ℕ Refusal} (is : x ≡ y) where
+  pub no-length-seen : {why : Refusal} → x ≡ Err why → (k : ℕ) → Stops (stop_at why p) ≡ for_length p y (dynamic_seen m b f p o k)
   unfolding for_length
   no-length-seen e k = rw (← is, e) refl
 
-  module _ {n : ℕ} (e : x ≡ Of n) (k : ℕ) where
+  module _ {n : ℕ} (e : x ≡ Ok n) (k : ℕ) where
     text-is : k ≡ 26 → seen (found_text b f p n) (plain_seen m k o) ≡ for_length p y (dynamic_seen m b f p o k)
     unfolding for_length dynamic_seen
     text-is h = rw (← is, e, eq-eqb k 26 h, dynamic_seen) refl

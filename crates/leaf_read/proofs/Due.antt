@@ -1,16 +1,16 @@
 -- What is due of a leaf: the content of its slot, by its kind and its value; the place behind it; and what doing it leaves to be done.
+use Rattle.std.specs.Prelude.{Option, None, Some}
+use Rattle.rules.specs.declared.Order.{Order}
 use mathlib.Core.Path.{◌≡◌, refl, sym, ap, subst, ◌∙◌}
 use Prim.Native.Nat.{ℕ, ◌+◌, ◌-◌, ◌/◌, ◌<◌, ◌≤◌}
 use native.Mathlib.Omega.{arith}
 use mathlib.Core.List.{List, [], ◌∷◌}
 use mathlib.Core.Bool.{Bool, true, false, not}
-use mathlib.Core.Option.{Option, none, some}
 use mathlib.Core.Logic.{⊎_elim}
 use lib.Dec.{eqb}
 use lib.ListN.{length, take, drop}
 use Rattle.rules.specs.declared.BitPlace.{BitPlace}
 use Rattle.rules.specs.declared.Entry.{Entry}
-use Rattle.rules.specs.declared.LastOrder.{LastOrder}
 use Rattle.rules.specs.declared.Content.{Content}
 use Rattle.rules.specs.declared.Content.TheVariants.{Flag}
 use Rattle.rules.specs.declared.Refusal.{Refusal}
@@ -71,7 +71,7 @@ unfolding one_or_none
 one-or-none true = refl
 one-or-none false = refl
 
-uuid-apart : (m : ℕ) (b u : List ℕ) (o : LastOrder) (p : BitPlace) (n v : ℕ) (d : Due) → uuid_seen m b u o p n v ≡ Field d
+uuid-apart : (m : ℕ) (b u : List ℕ) (o : Option Order) (p : BitPlace) (n v : ℕ) (d : Due) → uuid_seen m b u o p n v ≡ Field d
     → slot_count ≤ d.slot
 unfolding uuid_seen seen
 uuid-apart m b u o p n v d e = by (same_bytes (take v (drop (p.0 / 8) b)) u) refl e
@@ -80,7 +80,7 @@ uuid-apart m b u o p n v d e = by (same_bytes (take v (drop (p.0 / 8) b)) u) ref
     by true i e = plain-apart m 25 o (Lies n p v) d (rw (i, uuid_seen) at e)
     by false i e = let h : OtherUuid _ ≡ Field d = rw (i, uuid_seen) at e in let z : ◌≡◌ {A = ℕ} 0 1 = cc in absurd (omega arith)
 
-blob-apart : (m : ℕ) (b u : List ℕ) (r : ℕ) (o : LastOrder) (p : BitPlace) (n v : ℕ) (d : Due) → blob_seen m b u r o p n v ≡ Field d
+blob-apart : (m : ℕ) (b u : List ℕ) (r : ℕ) (o : Option Order) (p : BitPlace) (n v : ℕ) (d : Due) → blob_seen m b u r o p n v ≡ Field d
     → slot_count ≤ d.slot
 unfolding blob_seen seen
 blob-apart m b u r o p n v d e = by (eqb r 4) refl e
@@ -89,7 +89,7 @@ blob-apart m b u r o p n v d e = by (eqb r 4) refl e
     by true i e = uuid-apart m b u o p n v d (rw (i, blob_seen) at e)
     by false i e = plain-apart m 25 o (Lies n p v) d (rw (i, blob_seen) at e)
 
-module _ (m : ℕ) (t b u : List ℕ) (f : Frame) (at : ℕ) (p : BitPlace) (o : LastOrder) (x : Content) where
+module _ (m : ℕ) (t b u : List ℕ) (f : Frame) (at : ℕ) (p : BitPlace) (o : Option Order) (x : Content) where
   abbrev Says : ℕ → Type 0
   Says i = u8 t at ≡ 16 + i → ContentDue (16 + i) (seen_at m t b u f at p o x)
 
@@ -122,7 +122,7 @@ module _ (m : ℕ) (t b u : List ℕ) (f : Frame) (at : ℕ) (p : BitPlace) (o :
 
 -- Kinds below 26 read no slot
 
-module _ (m : ℕ) (t b u : List ℕ) (f : Frame) (at : ℕ) (p : BitPlace) (o : LastOrder) (x y : Content) where
+module _ (m : ℕ) (t b u : List ℕ) (f : Frame) (at : ℕ) (p : BitPlace) (o : Option Order) (x y : Content) where
   abbrev Alike : ℕ → Type 0
   Alike i = u8 t at ≡ 16 + i → seen_at m t b u f at p o x ≡ seen_at m t b u f at p o y
 
@@ -191,8 +191,8 @@ check-place t r s = by (t s) refl
 
 clock-place : (l : ℕ) (c : Option ℕ) (s : State) → place_of (new_clock l c s) ≡ s.place
 unfolding new_clock place_of refuse ◌⨾◌ after onto listed change with_clock
-clock-place l none s = refl
-clock-place l (some c) s = refl
+clock-place l None s = refl
+clock-place l (Some c) s = refl
 
 due-place : (m : Step) (s : State) → place_of (m s) ≡ s.place → place_of ((due ⨾ m) s) ≡ s.place
 unfolding place_of refuse

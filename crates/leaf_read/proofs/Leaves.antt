@@ -1,5 +1,7 @@
 -- Leaves one after another are the rules' fields: what was listed of them, and then what is still due of the last one and the fields behind
 -- it; or the stop.
+use Rattle.std.specs.Prelude.{Option}
+use Rattle.rules.specs.declared.Order.{Order}
 use mathlib.Core.Path.{◌≡◌, refl, sym, ap, ◌∙◌}
 use Prim.Native.Nat.{ℕ, zero, suc, ◌+◌, ◌-◌, ◌*◌, ◌<◌, ◌≤◌}
 use native.Mathlib.Omega.{arith}
@@ -11,7 +13,6 @@ use lib.ListN.{length}
 use borrow.Author.Tests.{ltb-false, leb-false, eqb-true, eqb-false, not-false}
 use Rattle.rules.specs.declared.BitPlace.{BitPlace}
 use Rattle.rules.specs.declared.Entry.{Entry}
-use Rattle.rules.specs.declared.LastOrder.{LastOrder}
 use Rattle.rules.specs.declared.Content.{Content}
 use Rattle.rules.specs.declared.Refusal.{Refusal}
 use Rattle.rules.specs.declared.Refusal.TheVariants.{WrongUuid}
@@ -204,7 +205,7 @@ module _ (again : Bool) (d : ℕ) (t b u : List ℕ) (f : Frame) (x : Content) (
   reads_all is = ap (λ (m : Step). m s) (h.first.reads env) ∙ ap (λ o. after o rest) (reads_first is)
 
   -- it stops
-  stops-say : (why : Refusal) (p : BitPlace) (o : LastOrder) (es : List Entry) → words_per_entry * length es ≤ s.room
+  stops-say : (why : Refusal) (p : BitPlace) (o : Option Order) (es : List Entry) → words_per_entry * length es ≤ s.room
       → read_fields again d t at n env s ≡ stop es (stop_at why p) → LeavesSay again d t b u f at n s (stops_at why at n p o es)
   unfolding stops_at stopped_leaves
   stops-say why p o es room reads = record { counted = refl; room = room; stops = λ off. reads; goes = λ on. absurd (clash on) }

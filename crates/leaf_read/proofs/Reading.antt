@@ -1,5 +1,7 @@
 -- The loop over leaves, turn by turn: of what the definition says of all of them, entries stand in the list, and the rest is what it says
 -- of those that are left.
+use Rattle.std.specs.Prelude.{None, Option}
+use Rattle.rules.specs.declared.Order.{Order}
 use mathlib.Core.Path.{◌≡◌, refl, sym, ap, ◌∙◌}
 use Prim.Native.Nat.{ℕ, zero, suc, ◌+◌, ◌-◌, ◌*◌, ◌<◌, ◌≤◌}
 use native.Mathlib.Omega.{arith}
@@ -10,13 +12,11 @@ use lib.ListN.{length, get_or, length-append, length-set, length-replicate}
 use lib.Seq.{get_or-set_same}
 use Rattle.rules.specs.declared.BitPlace.{BitPlace}
 use Rattle.rules.specs.declared.Entry.{Entry}
-use Rattle.rules.specs.declared.LastOrder.{LastOrder}
 use Rattle.rules.specs.declared.Content.{Content}
 use Rattle.rules.specs.declared.Content.TheVariants.{Unset}
 use Rattle.rules.specs.declared.Slot.{Slot}
 use Rattle.rules.specs.declared.Stop.{Stop}
 use Rattle.rules.specs.declared.Refusal.TheVariants.{PastBound, WrongUuid}
-use Rattle.rules.specs.declared.Stated.TheVariants.{Missing}
 use Rattle.rules.specs.Limits.{slot_count, words_per_entry}
 use Rattle.rules.specs.Record.{u8}
 use Rattle.rules.specs.Slots.{no_slots, slot, slot_at, set_slot}
@@ -78,7 +78,7 @@ module _ (i : ℕ) (x : Content) (held : Held i x) where
       (λ (k : slot_count ≤ i). no-content (set_slot no_slots i x) i slots-many k ∙ sym (held k))
       (lt-or-ge i slot_count)
 
-  abbrev holding : BitPlace → LastOrder → State
+  abbrev holding : BitPlace → Option Order → State
   holding p o = record {
     place = p;
     room = words_per_entry;
@@ -86,7 +86,7 @@ module _ (i : ℕ) (x : Content) (held : Held i x) where
     order = o;
     clock = 0;
     last = 0;
-    said = record { stream = 0; total = Missing; content = Missing; ending = Missing; event = 0 };
+    said = record { stream = 0; total = None; content = None; ending = None; event = 0 };
   }
 
 -- what is asked: leaves of a table, from a place on, and the list that they are listed into
@@ -100,10 +100,10 @@ pub record Asked : Type 0 where
   pub from : ℕ
   pub count : ℕ
   pub begun : BitPlace
-  pub last : LastOrder
+  pub last : Option Order
   pub list : List ℕ
 
-abbrev pub asked : Bool → List ℕ → List ℕ → List ℕ → Frame → Content → ℕ → ℕ → BitPlace → LastOrder → List ℕ → Asked
+abbrev pub asked : Bool → List ℕ → List ℕ → List ℕ → Frame → Content → ℕ → ℕ → BitPlace → Option Order → List ℕ → Asked
 asked again t b u f x at n p o ws = record {
   again = again;
   table = t;
@@ -119,7 +119,7 @@ asked again t b u f x at n p o ws = record {
 }
 
 -- what the definition says of n leaves from a byte on
-abbrev read_from : Asked → ℕ → ℕ → BitPlace → LastOrder → ℕ → LeavesListed
+abbrev read_from : Asked → ℕ → ℕ → BitPlace → Option Order → ℕ → LeavesListed
 read_from w at n p o room = leaves_read w.again w.table w.stream w.uuid w.frame w.content at n p o room
 
 abbrev all : Asked → LeavesListed
@@ -146,7 +146,7 @@ lastly q at n used = record {
 }
 
 -- n leaves are left, from a byte, a place and an order on; `used` words stand in ws
-pub record Reading (w : Asked) (ws : List ℕ) (at n : ℕ) (p : BitPlace) (o : LastOrder) (used : ℕ) : Type 0 where
+pub record Reading (w : Asked) (ws : List ℕ) (at n : ℕ) (p : BitPlace) (o : Option Order) (used : ℕ) : Type 0 where
   pub depth : ℕ
   pub stands : WholeFields w.again depth w.table at n
   pub some : 0 < n
@@ -177,7 +177,7 @@ reading-start w s kind some room framed held =
     }
 
 -- one leaf of some, as the definition says
-unfold-leaves : (again : Bool) (t b u : List ℕ) (f : Frame) (x : Content) (at n : ℕ) (p : BitPlace) (o : LastOrder) (room : ℕ) → 0 < n →
+unfold-leaves : (again : Bool) (t b u : List ℕ) (f : Frame) (x : Content) (at n : ℕ) (p : BitPlace) (o : Option Order) (room : ℕ) → 0 < n →
     let next = onward again at (next_at 1 t at) in
     leaves_read again t b u f x at n p o room
     ≡ leaf_then (seen_at (number_at t at) t b u f at p o x) at n o (λ q. leaves_end t next (n - 1) (room - words_per_entry) q.slot q.role)
@@ -186,7 +186,7 @@ unfolding leaves_read
 unfold-leaves again t b u f x at zero p o room h = absurd (omega arith)
 unfold-leaves again t b u f x at (suc n) p o room h = let e : suc n - 1 ≡ n = omega arith in rw (e) refl
 
-module _ (q : Due) (at n : ℕ) (o : LastOrder) (ends : Due → Bool) (others : Due → LeavesListed) where
+module _ (q : Due) (at n : ℕ) (o : Option Order) (ends : Due → Bool) (others : Due → LeavesListed) where
   leaf_last : ends q ≡ true → leaf_then (Field q) at n o ends others ≡ last_leaf q at (n - 1)
   unfolding leaf_then
   leaf_last e = rw (e, leaf_then) refl
@@ -195,7 +195,7 @@ module _ (q : Due) (at n : ℕ) (o : LastOrder) (ends : Due → Bool) (others : 
   unfolding leaf_then
   leaf-more e = rw (e, leaf_then) refl
 
-module _ {w : Asked} {ws : List ℕ} {at n : ℕ} {p : BitPlace} {o : LastOrder} {used : ℕ} (h : Reading w ws at n p o used) where
+module _ {w : Asked} {ws : List ℕ} {at n : ℕ} {p : BitPlace} {o : Option Order} {used : ℕ} (h : Reading w ws at n p o used) where
   abbrev t : List ℕ
   t = w.table
 

@@ -1,9 +1,9 @@
 -- What the reading of some leaves does, up to and with the first of which a slot or a role is due: one leaf after another, entries and
 -- places alone. t is the table, b the stream, u the UUID, x what the slot holds that the first leaf reads.
-use Rattle.std.specs.Prelude.{ℕ, zero, suc, ◌+◌, ◌-◌, ◌*◌, List, [], ◌∷◌, ◌++◌, Bool, true, false, not, ◌||◌, length, drop, eqb, ltb, leb}
+use Rattle.rules.specs.declared.Order.{Order}
+use Rattle.std.specs.Prelude.{ℕ, zero, suc, ◌+◌, ◌-◌, ◌*◌, List, [], ◌∷◌, ◌++◌, Bool, true, false, not, ◌||◌, length, drop, eqb, ltb, leb, Option}
 use Rattle.rules.specs.declared.BitPlace.{BitPlace}
 use Rattle.rules.specs.declared.Entry.{Entry}
-use Rattle.rules.specs.declared.LastOrder.{LastOrder}
 use Rattle.rules.specs.declared.Content.{Content}
 use Rattle.rules.specs.declared.Content.TheVariants.{Flag, Unsigned, Signed}
 use Rattle.rules.specs.declared.Refusal.{Refusal}
@@ -43,7 +43,7 @@ abbrev pub list_behind : LeavesListed → List ℕ → List ℕ
 list_behind y ws = words y.entries ++ drop y.leaves.used ws
 
 -- the leaf at a byte stopped, n being left with it: neither slot nor role is due
-unfoldable pub stopped_leaves : Refusal → ℕ → ℕ → BitPlace → LastOrder → ℕ → Leaves
+unfoldable pub stopped_leaves : Refusal → ℕ → ℕ → BitPlace → Option Order → ℕ → Leaves
 stopped_leaves why at n p o used = record {
   on = false;
   why = why;
@@ -58,7 +58,7 @@ stopped_leaves why at n p o used = record {
   value = 0;
 }
 
-unfoldable pub stops_at : Refusal → ℕ → ℕ → BitPlace → LastOrder → List Entry → LeavesListed
+unfoldable pub stops_at : Refusal → ℕ → ℕ → BitPlace → Option Order → List Entry → LeavesListed
 stops_at why at n p o es = record { leaves = stopped_leaves why at n p o (words_per_entry * length es); entries = es }
 
 -- the leaf at a byte is the last, n being left behind it; its slot and its role are due
@@ -105,13 +105,13 @@ unfoldable pub leaves_end : List ℕ → ℕ → ℕ → ℕ → ℕ → ℕ →
 leaves_end t next n room slot role = eqb n 0 || ltb room words_per_entry || leb 26 (u8 t next) || ltb slot slot_count || not (eqb role 0)
 
 -- by what is seen of the leaf at a byte, n being left with it, with an order; `rest` is what the others do behind it
-unfoldable pub leaf_then : Seen → ℕ → ℕ → LastOrder → (Due → Bool) → (Due → LeavesListed) → LeavesListed
+unfoldable pub leaf_then : Seen → ℕ → ℕ → Option Order → (Due → Bool) → (Due → LeavesListed) → LeavesListed
 leaf_then (Stops v) at n o ends rest = stops_at v.why at n v.place o []
 leaf_then (OtherUuid e) at n o ends rest = stops_at WrongUuid at n (behind_entry e) o (e ∷ [])
 leaf_then (Field d) at n o ends rest = elim (ends d) [ true ↦ last_leaf d at (n - 1) | false ↦ behind_entries (d.entry ∷ []) (rest d) ]
 
 -- of n leaves from a byte on, one behind the other or one `again`, those that are read with room for so many words; of none, none
-unfoldable pub leaves_read : Bool → List ℕ → List ℕ → List ℕ → Frame → Content → ℕ → ℕ → BitPlace → LastOrder → ℕ → LeavesListed
+unfoldable pub leaves_read : Bool → List ℕ → List ℕ → List ℕ → Frame → Content → ℕ → ℕ → BitPlace → Option Order → ℕ → LeavesListed
 leaves_read again t b u f x at zero p o room = stops_at PastBound at zero p o []
 leaves_read again t b u f x at (suc n) p o room =
     let next = onward again at (next_at 1 t at) in

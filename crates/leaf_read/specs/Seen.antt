@@ -1,7 +1,7 @@
 -- What is seen of a leaf: by the content of the slot that it reads, from a place on, with the packet's last order.
-use Rattle.std.specs.Prelude.{ℕ, ◌+◌, ◌^◌, ◌≤◌, ◌≡◌, List, true, false, length, eqb}
+use Rattle.rules.specs.declared.Order.{Order}
+use Rattle.std.specs.Prelude.{ℕ, ◌+◌, ◌^◌, ◌≤◌, ◌≡◌, List, true, false, length, eqb, Option}
 use Rattle.rules.specs.declared.BitPlace.{BitPlace}
-use Rattle.rules.specs.declared.LastOrder.{LastOrder}
 use Rattle.rules.specs.declared.Content.{Content}
 use Rattle.rules.specs.declared.Content.TheVariants.{Unsigned, Signed}
 use Rattle.rules.specs.declared.Refusal.TheVariants.{PastBound}
@@ -23,7 +23,7 @@ use Rattle.leaf_after.specs.Seeing.{Fits, done, seen, fixed_seen, leb_seen, plai
 use Rattle.class_layout.specs.Trees.{shape_of}
 
 -- to do what is seen is a step, whatever the slots hold but the one that is read
-pub record LeafSeen (step : Step) (i : ℕ) (x : Content) (p : BitPlace) (o : LastOrder) (r : Seen) : Type 0 where
+pub record LeafSeen (step : Step) (i : ℕ) (x : Content) (p : BitPlace) (o : Option Order) (r : Seen) : Type 0 where
   pub same : (s : State) → words_per_entry ≤ s.room → length s.slots ≡ slot_count → slot_at s.slots i ≡ x → s.place ≡ p → s.order ≡ o
       → step s ≡ done r s
   pub fits : Fits r
@@ -32,18 +32,18 @@ pub record LeafSeen (step : Step) (i : ℕ) (x : Content) (p : BitPlace) (o : La
 -- read
 
 -- kinds 16 to 20: width, order and align, as an exponent of 2, stand first in each of their records
-unfoldable pub bits_seen_at : ℕ → List ℕ → List ℕ → Frame → ℕ → BitPlace → LastOrder → Sort → ℕ → ℕ → Seen
+unfoldable pub bits_seen_at : ℕ → List ℕ → List ℕ → Frame → ℕ → BitPlace → Option Order → Sort → ℕ → ℕ → Seen
 bits_seen_at m t b f at p o k i r =
     let d = order_of (u8 t (at + 2)) in
     seen (found_bits b f p o (u8 t (at + 1)) d (2 ^ u8 t (at + 3))) (fixed_seen m k d i r)
 
 -- kinds 26 and 27, of n bytes
-unfoldable pub dynamic_seen : ℕ → List ℕ → Frame → BitPlace → LastOrder → ℕ → ℕ → Seen
+unfoldable pub dynamic_seen : ℕ → List ℕ → Frame → BitPlace → Option Order → ℕ → ℕ → Seen
 dynamic_seen m b f p o k n =
     elim (eqb k 26) [ true ↦ seen (found_text b f p n) (plain_seen m k o) | false ↦ seen (found_blob f p n) (plain_seen m k o) ]
 
 -- by what the record announces; no leaf is seen where it holds fields
-unfoldable pub seen_in : ℕ → List ℕ → List ℕ → List ℕ → Frame → ℕ → BitPlace → LastOrder → Content → Shape → Seen
+unfoldable pub seen_in : ℕ → List ℕ → List ℕ → List ℕ → Frame → ℕ → BitPlace → Option Order → Content → Shape → Seen
 seen_in m t b u f at p o x (bit_field bit_array) = bits_seen_at m t b f at p o bit_array no_slot 0
 seen_in m t b u f at p o x (bit_field boolean) = bits_seen_at m t b f at p o boolean (u8 t (at + 4)) 0
 seen_in m t b u f at p o x (bit_field unsigned_int) = bits_seen_at m t b f at p o unsigned_int (u8 t (at + 4)) (u8 t (at + 5))
@@ -63,9 +63,9 @@ seen_in m t b u f at p o x option? = Stops (stop_at PastBound p)
 seen_in m t b u f at p o x options = Stops (stop_at PastBound p)
 
 -- the leaf at a byte
-unfoldable pub seen_at : ℕ → List ℕ → List ℕ → List ℕ → Frame → ℕ → BitPlace → LastOrder → Content → Seen
+unfoldable pub seen_at : ℕ → List ℕ → List ℕ → List ℕ → Frame → ℕ → BitPlace → Option Order → Content → Seen
 seen_at m t b u f at p o x = seen_in m t b u f at p o x (shape_of (u8 t at))
 
 -- kinds 16 to 20 read no slot and ask for no UUID
-abbrev pub BitsSeen : ℕ → List ℕ → List ℕ → Frame → ℕ → BitPlace → LastOrder → Seen → Type 0
+abbrev pub BitsSeen : ℕ → List ℕ → List ℕ → Frame → ℕ → BitPlace → Option Order → Seen → Type 0
 BitsSeen m t b f at p o r = (u : List ℕ) (x : Content) → r ≡ seen_at m t b u f at p o x

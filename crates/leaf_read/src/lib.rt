@@ -26,8 +26,8 @@ use leaf_see_number::fixed::{bit_array, boolean, float, signed, unsigned};
 use leaf_see_number::leb::{signed_leb, unsigned_leb};
 use listing::entry::{is_full, write};
 use numbers::{kinds, limits};
-use rules::{BitPlace, ByteLength, Content, LastOrder, Order, Refusal, Stop};
-use slots::{Length, length_of};
+use rules::{BitPlace, ByteLength, Content, Order, Refusal, Stop};
+use slots::length_of;
 use table_bytes::{size_at, u16_at, wide, wide64};
 
 // The slot that the leaf at a byte reads; 255 where it reads none.
@@ -57,7 +57,7 @@ pub fn read_leaves(
     count: usize,
     again: bool,
     begun: BitPlace,
-    last: LastOrder,
+    last: Option<Order>,
     content: Content,
     list: &mut [u64],
 ) -> Leaves
@@ -83,8 +83,7 @@ pub fn read_leaves(
             table, at, number, uuid, stream, frame, place, order, content,
         ) {
             Seen::Stops(stop) => {
-                let why = stop.why;
-                return stopped(why, at, todo, stop.place, order, used);
+                return stopped(stop.why, at, todo, stop.place, order, used);
             }
             Seen::OtherUuid(entry) => {
                 write(&mut list[used..], entry);
@@ -132,7 +131,7 @@ fn stopped(
     at: usize,
     todo: usize,
     place: BitPlace,
-    order: LastOrder,
+    order: Option<Order>,
     used: usize,
 ) -> Leaves
     ensures { result ≡ stopped_leaves why at todo place order used }
@@ -206,7 +205,7 @@ fn see_leaf(
     stream: &[u8],
     frame: Frame,
     from: BitPlace,
-    last: LastOrder,
+    last: Option<Order>,
     content: Content,
 ) -> Seen
     requires whole { IsWhole 1 table.now at }
@@ -269,14 +268,14 @@ fn see_dynamic(
     stream: &[u8],
     frame: Frame,
     from: BitPlace,
-    last: LastOrder,
+    last: Option<Order>,
 ) -> Seen
     requires { Framed stream.now frame from }
     ensures { result ≡ for_length from (length_of content) (dynamic_seen number stream.now frame from last kind) }
 {
     match length_of(content) {
-        Length::NotOf(why) => Seen::Stops(Stop { why, place: from }),
-        Length::Of(bytes) => {
+        Err(why) => Seen::Stops(Stop { why, place: from }),
+        Ok(bytes) => {
             if kind == kinds::DYNAMIC_STRING {
                 return plain(
                     kind,
@@ -303,7 +302,7 @@ fn see_bits(
     stream: &[u8],
     frame: Frame,
     from: BitPlace,
-    last: LastOrder,
+    last: Option<Order>,
 ) -> Seen
     requires whole { IsWhole 1 table.now at }
     requires at_bound { u8 table.now at < 21 }

@@ -10,17 +10,17 @@ use leaf_after::{Due, Seen};
 use leaf_find_number::Found;
 use numbers::limits::NO_SLOT;
 use numbers::{kinds, roles};
-use rules::{Content, Entry, LastOrder, Stop};
+use rules::{Content, Entry, Order, Stop};
 
 // A leaf of any of these kinds, without a role.
-pub fn plain(kind: u8, found: Found, number: u64, last: LastOrder) -> Seen
+pub fn plain(kind: u8, found: Found, number: u64, last: Option<Order>) -> Seen
     ensures { result ≡ seen found (plain_seen number kind last) }
 {
     match found {
         Found::Refused { place, why } => Seen::Stops(Stop { why, place }),
         Found::At { place, bits, value } => Seen::Field(Due {
             entry: Entry {
-                kind: kind as u64,
+                kind: u64::from(kind),
                 place,
                 bits,
                 value,
@@ -40,7 +40,7 @@ pub fn static_blob(
     found: Found,
     number: u64,
     role: u8,
-    last: LastOrder,
+    last: Option<Order>,
     uuid: &[u8],
     stream: &[u8],
 ) -> Seen
@@ -54,7 +54,7 @@ pub fn static_blob(
 }
 
 // A BLOB whose bytes must be the UUID's.
-fn uuid_blob(found: Found, number: u64, last: LastOrder, uuid: &[u8], stream: &[u8]) -> Seen
+fn uuid_blob(found: Found, number: u64, last: Option<Order>, uuid: &[u8], stream: &[u8]) -> Seen
     requires { InStream stream.now found }
     ensures { result ≡ seen found (uuid_seen number stream.now uuid.now last) }
 {
@@ -66,7 +66,7 @@ fn uuid_blob(found: Found, number: u64, last: LastOrder, uuid: &[u8], stream: &[
                 return plain(kinds::STATIC_BLOB, found, number, last);
             }
             Seen::OtherUuid(Entry {
-                kind: kinds::STATIC_BLOB as u64,
+                kind: u64::from(kinds::STATIC_BLOB),
                 place,
                 bits,
                 value,
@@ -81,15 +81,5 @@ fn same(stream: &[u8], at: usize, count: usize, uuid: &[u8]) -> bool
     requires { at + count ≤ length stream.now }
     ensures { result ≡ same_bytes (take count (drop at stream.now)) uuid.now }
 {
-    if uuid.len() != count {
-        return false;
-    }
-    let mut passed: usize = 0;
-    while passed < count {
-        if stream[at + passed] != uuid[passed] {
-            return false;
-        }
-        passed += 1;
-    }
-    true
+    &stream[at..at + count] == uuid
 }

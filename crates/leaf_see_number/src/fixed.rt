@@ -11,7 +11,7 @@ use leaf_find_number::Found;
 use numbers::entries;
 use numbers::limits::NO_SLOT;
 use numbers::roles::NO_ROLE;
-use rules::{Content, Entry, LastOrder, Order, Stop};
+use rules::{Content, Entry, Order, Stop};
 
 // Kind 16.
 pub fn bit_array(found: Found, number: u64, order: Order) -> Seen
@@ -43,7 +43,7 @@ fn see_bits(kind: u64, found: Found, number: u64, order: Order) -> Seen
             };
             Seen::Field(Due {
                 entry,
-                order: LastOrder::Was(order),
+                order: Some(order),
                 slot: NO_SLOT,
                 content: Content::Unset,
                 role: NO_ROLE,
@@ -69,7 +69,7 @@ pub fn boolean(found: Found, number: u64, order: Order, slot: u8) -> Seen
             };
             Seen::Field(Due {
                 entry,
-                order: LastOrder::Was(order),
+                order: Some(order),
                 slot,
                 content: Content::Flag(any_bit(value)),
                 role: NO_ROLE,
@@ -107,7 +107,7 @@ pub fn unsigned(found: Found, number: u64, order: Order, slot: u8, role: u8) -> 
             };
             Seen::Field(Due {
                 entry,
-                order: LastOrder::Was(order),
+                order: Some(order),
                 slot,
                 content: Content::Unsigned(value),
                 role,
@@ -139,7 +139,7 @@ pub fn signed(found: Found, number: u64, order: Order, slot: u8) -> Seen
             };
             Seen::Field(Due {
                 entry,
-                order: LastOrder::Was(order),
+                order: Some(order),
                 slot,
                 content: Content::Signed(value),
                 role: NO_ROLE,

@@ -7,10 +7,10 @@ use leaf_after::{Due, Seen};
 use leaf_find_number::Found;
 use numbers::entries;
 use numbers::roles::NO_ROLE;
-use rules::{Content, Entry, LastOrder, Stop};
+use rules::{Content, Entry, Order, Stop};
 
 // Kind 21.
-pub fn unsigned_leb(found: Found, number: u64, last: LastOrder, slot: u8, role: u8) -> Seen
+pub fn unsigned_leb(found: Found, number: u64, last: Option<Order>, slot: u8, role: u8) -> Seen
     ensures { result ≡ seen found (leb_seen number 21 Unsigned last slot role) }
 {
     match found {
@@ -36,7 +36,7 @@ pub fn unsigned_leb(found: Found, number: u64, last: LastOrder, slot: u8, role: 
 }
 
 // Kind 22.
-pub fn signed_leb(found: Found, number: u64, last: LastOrder, slot: u8) -> Seen
+pub fn signed_leb(found: Found, number: u64, last: Option<Order>, slot: u8) -> Seen
     ensures { result ≡ seen found (leb_seen number 22 Signed last slot 0) }
 {
     match found {

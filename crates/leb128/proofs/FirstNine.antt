@@ -92,7 +92,8 @@ module _ {bs : List ℕ} {v n : ℕ} (p : Passed bs v n) where
     module _ (i : n < length bs) (e : b ≡ get_or bs n 0) where
       pub passed-end : b < 128 → EndsAfter bs (more v n b) (n + 1)
       passed-end l =
-          let whole : sevens leb_limit bs ≡ Value (more v n b) (byte_length (n + 1)) = rw (more-exact, mod-eq_of_lt l) (next-ends b i e l) in
+          let whole : sevens leb_limit bs ≡ Value (more v n b) (byte_length (n + 1)) =
+          rw (more-exact, mod-eq_of_lt l) (next-ends b i e l) in
           record { whole = whole; small = more-small; some = omega arith; most = omega arith }
 
       pub passed_on : 128 ≤ b → Passed bs (more v n b) (n + 1)

@@ -17,7 +17,8 @@ use Rattle.facts.proofs.Numbers.{lt-or-ge}
 use Rattle.leb128.specs.Answer.{AllGoOn, TenthByte, SettledAtTenth}
 use Rattle.leb128.specs.FirstNine.{Passed, EndsAfter}
 use Rattle.leb128.proofs.FirstNine.{passed_none, passed-short, passed-end, passed_on, more}
-use Rattle.leb128.proofs.Tenth.{unsigned-past, unsigned-ended, unsigned-tenth, unsigned-large, signed-past, signed-ended, signed-zeros, signed-ones, signed-large}
+use Rattle.leb128.proofs.Tenth.{unsigned-past, unsigned-ended, unsigned-tenth, unsigned-large, signed-past}
+use Rattle.leb128.proofs.Tenth.{signed-ended, signed-zeros, signed-ones, signed-large}
 
 module _ (bs : List ℕ) {P : Type 0} where
   -- the number is cut short within nine bytes, ends within them, or goes on

@@ -28,7 +28,7 @@ pub fn unsigned(stream: &[u8], at: ByteLength, bound: ByteLength) -> Leb
                 return Leb::Past;
             }
             // Only its lowest bit lies within the 64: one with any other bit, or one that goes on, makes the number too large.
-            let tenth = wide(bytes[9]);
+            let tenth = u64::from(bytes[9]);
             let too_large = 1 < tenth;
             if too_large {
                 return Leb::Large;
@@ -76,7 +76,7 @@ pub fn signed(stream: &[u8], at: ByteLength, bound: ByteLength) -> Leb
     }
 }
 
-// What the first nine bytes of a number say.
+// What the first nine bytes of a number say: three answers, none of them a failure.
 #[derive(Clone, Copy)]
 enum Nine {
     // It ends after so many of them.
@@ -91,15 +91,14 @@ fn first_nine(bytes: &[u8]) -> Nine
     ensures { NineSay bytes.now result }
 {
     let mut value: u64 = 0;
-    let mut count: usize = 0;
-    while count < 9 {
-        if bytes.len() <= count {
+    for passed in 0..9 {
+        if bytes.len() <= passed {
             return Nine::Short;
         }
-        let byte = wide(bytes[count]);
-        value = value + ((byte % 128) << (7 * count as u64));
-        count += 1;
+        let byte = u64::from(bytes[passed]);
+        value = value + ((byte % 128) << (7 * passed as u64));
         if byte < 128 {
+            let count = passed + 1;
             return Nine::Ended { value, count };
         }
     }
@@ -111,14 +110,5 @@ fn readable(stream: &[u8], at: usize, bound: usize) -> &[u8]
     requires { bound ≤ length stream.now }
     ensures { result.now ≡ take (bound - at) (drop at stream.now) }
 {
-    if bound < at {
-        return &stream[0..0];
-    }
-    &stream[at..bound]
-}
-
-fn wide(byte: u8) -> u64
-    ensures { result ≡ byte }
-{
-    byte as u64
+    stream.get(at..bound).unwrap_or(&[])
 }

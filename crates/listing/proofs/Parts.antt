@@ -10,6 +10,7 @@
 -- part_step, part-stop     a call went on, and the next step is left; or it stopped, and that is the outcome
 -- part-last-on, -stopped   the same of the last call
 -- part_end                 nothing is left
+use Rattle.std.specs.Prelude.{Ok, Err, Result, ⊤}
 use mathlib.Core.Path.{◌≡◌, refl, ap, sym, ◌∙◌}
 use mathlib.Core.List.{List, [], ◌∷◌, ◌++◌, append_assoc, append-nil}
 use Prim.Native.Nat.{ℕ, ◌+◌, ◌-◌, ◌*◌, ◌≤◌}
@@ -25,8 +26,6 @@ use Rattle.rules.specs.Step.{Out, stop, go, Step, onto, after, ◌⨾◌}
 use Rattle.facts.proofs.Steps.{onto-nil, onto-onto}
 use Rattle.facts.proofs.Lists.{length-words, words_append}
 use Rattle.listing.specs.declared.Progress.{Progress}
-use Rattle.listing.specs.declared.Went.{Went}
-use Rattle.listing.specs.declared.Went.TheVariants.{On, Stopped}
 use Rattle.listing.specs.Did.{Did, full, out_of}
 
 -- of the outcome o, `used` words stand in ws, which was ws₀, and m is to be done at st and l
@@ -104,19 +103,19 @@ module _ {o : Out} {m : Step} {ws₀ ws : List ℕ} {used : ℕ} {st : Progress}
   pub part_room : length (drop used ws) ≡ length ws₀ - used
   part_room = omega (arith, length-drop used ws, part_length)
 
-outcome-on : (es : List Entry) (went : Went) (st : Progress) (l : Slots) (room left : ℕ) → went ≡ On → room ≡ left
+outcome-on : (es : List Entry) (went : Result ⊤ Stop) (st : Progress) (l : Slots) (room left : ℕ) → went ≡ Ok tt → room ≡ left
     → out_of es went st l room ≡ go es (full st l left)
 unfolding out_of
 outcome-on es went st l room left e h = rw (e, h) refl
 
-outcome-stopped : (es : List Entry) (went : Went) (st : Progress) (l : Slots) (room : ℕ) (v : Stop) → went ≡ Stopped v
+outcome-stopped : (es : List Entry) (went : Result ⊤ Stop) (st : Progress) (l : Slots) (room : ℕ) (v : Stop) → went ≡ Err v
     → out_of es went st l room ≡ stop es v
 unfolding out_of
 outcome-stopped es went st l room v e = rw (e) refl
 
 -- a call of f was lent the list from `used` on, and the part came back as ys
 module _ (f : Step) {o : Out} {g : Step} {ws₀ ws : List ℕ} {used : ℕ} {st : Progress} {l : Slots} (p : Part o g ws₀ ws used st l)
-    {went : Went} {n : ℕ} {st' : Progress} {l' : Slots} {ys : List ℕ}
+    {went : Result ⊤ Stop} {n : ℕ} {st' : Progress} {l' : Slots} {ys : List ℕ}
     (d : Did (f (full st l (length (lent used ws)))) st went n st' l' (lent used ws) ys) where
   at_room : Did (f (full st l (length ws₀ - used))) st went n st' l' (drop used ws) ys
   at_room = rw (lent_is used ws, part_room p) at d
@@ -131,17 +130,17 @@ module _ (f : Step) {o : Out} {g : Step} {ws₀ ws : List ℕ} {used : ℕ} {st 
   pub back-room : used + n ≤ length ws₀
   back-room = omega (arith, at_room.room, part_room p, p.room)
 
-  out-on : went ≡ On → f (full st l (length ws₀ - used)) ≡ go at_room.listed (full st' l' (length ws₀ - (used + n)))
+  out-on : went ≡ Ok tt → f (full st l (length ws₀ - used)) ≡ go at_room.listed (full st' l' (length ws₀ - (used + n)))
   out-on e = at_room.out ∙ outcome-on at_room.listed went st' l' _ _ e (omega (arith, part_room p))
 
-  out-stopped : (v : Stop) → went ≡ Stopped v → f (full st l (length ws₀ - used)) ≡ stop at_room.listed v
+  out-stopped : (v : Stop) → went ≡ Err v → f (full st l (length ws₀ - used)) ≡ stop at_room.listed v
   out-stopped v e = at_room.out ∙ outcome-stopped at_room.listed went st' l' _ v e
 
 module _ (f g : Step) {o : Out} {ws₀ ws : List ℕ} {used : ℕ} {st : Progress} {l : Slots} (p : Part o (f ⨾ g) ws₀ ws used st l)
-    {went : Went} {n : ℕ} {st' : Progress} {l' : Slots} {ys : List ℕ}
+    {went : Result ⊤ Stop} {n : ℕ} {st' : Progress} {l' : Slots} {ys : List ℕ}
     (d : Did (f (full st l (length (lent used ws)))) st went n st' l' (lent used ws) ys) where
   -- f went on, and g is left
-  pub part_step : went ≡ On → Part o g ws₀ (merged used ws ys) (used + n) st' l'
+  pub part_step : went ≡ Ok tt → Part o g ws₀ (merged used ws ys) (used + n) st' l'
   unfolding ◌⨾◌ after
   part_step e = record {
     listed = p.listed ++ (at_room f p d).listed;
@@ -152,7 +151,7 @@ module _ (f g : Step) {o : Out} {ws₀ ws : List ℕ} {used : ℕ} {st : Progres
   }
 
   -- f stopped, and that is the outcome
-  pub part-stop : (v : Stop) (came : Progress) (l'' : Slots) → went ≡ Stopped v → Did o came (Stopped v) (used + n) came l'' ws₀ (merged used ws ys)
+  pub part-stop : (v : Stop) (came : Progress) (l'' : Slots) → went ≡ Err v → Did o came (Err v) (used + n) came l'' ws₀ (merged used ws ys)
   unfolding ◌⨾◌ after onto out_of
   part-stop v came l'' e = record {
     listed = p.listed ++ (at_room f p d).listed;
@@ -165,9 +164,9 @@ module _ (f g : Step) {o : Out} {ws₀ ws : List ℕ} {used : ℕ} {st : Progres
 
 -- f is all that is left
 module _ (f : Step) {o : Out} {ws₀ ws : List ℕ} {used : ℕ} {st : Progress} {l : Slots} (p : Part o f ws₀ ws used st l)
-    {went : Went} {n : ℕ} {st' : Progress} {l' : Slots} {ys : List ℕ}
+    {went : Result ⊤ Stop} {n : ℕ} {st' : Progress} {l' : Slots} {ys : List ℕ}
     (d : Did (f (full st l (length (lent used ws)))) st went n st' l' (lent used ws) ys) where
-  pub part-last-on : (came : Progress) → went ≡ On → Did o came On (used + n) st' l' ws₀ (merged used ws ys)
+  pub part-last-on : (came : Progress) → went ≡ Ok tt → Did o came (Ok tt) (used + n) st' l' ws₀ (merged used ws ys)
   unfolding onto out_of
   part-last-on came e = record {
     listed = p.listed ++ (at_room f p d).listed;
@@ -178,8 +177,8 @@ module _ (f : Step) {o : Out} {ws₀ ws : List ℕ} {used : ℕ} {st : Progress}
     kept = λ w h. let z : ◌≡◌ {A = ℕ} 0 1 = cc in absurd (omega arith);
   }
 
-  pub part-last-stopped : (v : Stop) (came : Progress) (l'' : Slots) → went ≡ Stopped v
-      → Did o came (Stopped v) (used + n) came l'' ws₀ (merged used ws ys)
+  pub part-last-stopped : (v : Stop) (came : Progress) (l'' : Slots) → went ≡ Err v
+      → Did o came (Err v) (used + n) came l'' ws₀ (merged used ws ys)
   unfolding onto out_of
   part-last-stopped v came l'' e = record {
     listed = p.listed ++ (at_room f p d).listed;
@@ -192,7 +191,7 @@ module _ (f : Step) {o : Out} {ws₀ ws : List ℕ} {used : ℕ} {st : Progress}
 
 -- nothing is left
 pub part_end : {o : Out} {m : Step} {ws₀ ws : List ℕ} {used : ℕ} {st : Progress} {l : Slots} (p : Part o m ws₀ ws used st l) (came : Progress)
-    → ((s : _) → m s ≡ go [] s) → Did o came On used st l ws₀ ws
+    → ((s : _) → m s ≡ go [] s) → Did o came (Ok tt) used st l ws₀ ws
 unfolding onto out_of
 part_end p came e = record {
   listed = p.listed;

@@ -1,11 +1,11 @@
 -- What each role does, and that the code's answers are the rules'.
+use Rattle.std.specs.Prelude.{Option, None, Some, Ok, Err}
 use Prim.Native.Nat.{ℕ, ◌-◌, ◌<◌, ◌≤◌}
 use native.Mathlib.Omega.{arith}
 use mathlib.Core.Path.{◌≡◌, refl, ap, ◌∙◌}
 use mathlib.Core.List.{List, [], ◌∷◌, ◌++◌}
 use mathlib.Core.Logic.{⊎_elim}
 use mathlib.Core.Bool.{Bool, true, false}
-use mathlib.Core.Option.{Option, none, some}
 use lib.Dec.{eqb}
 use lib.ListN.{length, drop, get_or-eq_default}
 use borrow.Author.Tests.{lt-ltb, le-ltb}
@@ -23,10 +23,8 @@ use Rattle.rules.specs.Field.{role, new_clock, say}
 use Rattle.facts.proofs.Numbers.{lt-or-ge}
 use Rattle.facts.proofs.Cases.{◌▷◌, below}
 use Rattle.clock.specs.declared.Clock.{Clock}
-use Rattle.clock.specs.declared.Ticked.TheVariants.{To, TooLarge}
 use Rattle.clock.specs.Ticked.{ticked_of}
 use Rattle.listing.specs.declared.Progress.{Progress}
-use Rattle.listing.specs.declared.Went.TheVariants.{On, Stopped}
 use Rattle.listing.specs.declared.role.Advanced.{Advanced}
 use Rattle.listing.specs.Did.{Did, full, out_of, RoleDid}
 use Rattle.listing.specs.Roled.{on_done, said_done, stopped_done, magic_done, with_stream, with_total, with_content, with_ending, with_event}
@@ -44,35 +42,35 @@ pub advanced-room : (w v : ℕ) (c : Clock) (room : ℕ) → words_per_entry ≤
 unfolding advanced_by
 advanced-room w v c room h = rw (le-ltb _ _ h, advanced_by) refl
 
-pub stepped-too-large : (x : Option ℕ) (c : Clock) → ticked_of x ≡ TooLarge → stepped_to x c ≡ held_at ClockTooLarge c
+pub stepped-too-large : (x : Option ℕ) (c : Clock) → ticked_of x ≡ None → stepped_to x c ≡ held_at ClockTooLarge c
 unfolding ticked_of stepped_to
-stepped-too-large none c e = refl
-stepped-too-large (some n) c e = let z : ◌≡◌ {A = ℕ} 0 1 = cc in absurd (omega arith)
+stepped-too-large None c e = refl
+stepped-too-large (Some n) c e = let z : ◌≡◌ {A = ℕ} 0 1 = cc in absurd (omega arith)
 
-pub stepped-on : (x : Option ℕ) (c next : Clock) → ticked_of x ≡ To next
+pub stepped-on : (x : Option ℕ) (c next : Clock) → ticked_of x ≡ Some next
     → stepped_to x c ≡ record { on = true; why = ClockTooLarge; clock = next }
 unfolding ticked_of stepped_to
-stepped-on none c next e = let z : ◌≡◌ {A = ℕ} 0 1 = cc in absurd (omega arith)
-stepped-on (some n) c next e = let same : record { value = n } ≡ next = cc in rw (← same) refl
+stepped-on None c next e = let z : ◌≡◌ {A = ℕ} 0 1 = cc in absurd (omega arith)
+stepped-on (Some n) c next e = let same : record { value = n } ≡ next = cc in rw (← same) refl
 
 -- Three ways of a step
 
 -- it goes on and lists nothing
-pub went_on : (o : Out) (came st : Progress) (l : Slots) (ws : List ℕ) → o ≡ go [] (full st l (length ws)) → Did o came On 0 st l ws ws
+pub went_on : (o : Out) (came st : Progress) (l : Slots) (ws : List ℕ) → o ≡ go [] (full st l (length ws)) → Did o came (Ok tt) 0 st l ws ws
 unfolding out_of words
 went_on o came st l ws e =
     let all : length ws - 0 ≡ length ws = omega arith in
     record { listed = []; out = rw (all) e; counted = refl; list = refl; room = omega arith; kept = λ v h. let z : ◌≡◌ {A = ℕ} 0 1 = cc in absurd (omega arith) }
 
 -- it stops and lists nothing
-pub went-no-further : (o : Out) (came : Progress) (l : Slots) (v : Stop) (ws : List ℕ) → o ≡ stop [] v → Did o came (Stopped v) 0 came l ws ws
+pub went-no-further : (o : Out) (came : Progress) (l : Slots) (v : Stop) (ws : List ℕ) → o ≡ stop [] v → Did o came (Err v) 0 came l ws ws
 unfolding out_of words
 went-no-further o came l v ws e = record { listed = []; out = e; counted = refl; list = refl; room = omega arith; kept = λ w h. refl }
 
 -- it lists one entry and goes on
 pub went-listing : (o : Out) (came st : Progress) (l : Slots) (x : Entry) (ws ws' : List ℕ)
     → o ≡ go (x ∷ []) (full st l (length ws - words_per_entry)) → ws' ≡ words (x ∷ []) ++ drop words_per_entry ws → words_per_entry ≤ length ws
-    → Did o came On words_per_entry st l ws ws'
+    → Did o came (Ok tt) words_per_entry st l ws ws'
 unfolding out_of
 went-listing o came st l x ws ws' e w h =
     record { listed = x ∷ []; out = e; counted = refl; list = w; room = h; kept = λ v h. let z : ◌≡◌ {A = ℕ} 0 1 = cc in absurd (omega arith) }
@@ -155,8 +153,8 @@ module _ (w v : ℕ) (st : Progress) (ws : List ℕ) where
 
   advanced-some : words_per_entry ≤ length ws → (x : Option ℕ) → clock_after st.clock.value w v ≡ x → AdvancedDid (stepped_to x st.clock)
   unfolding new_clock refuse ◌⨾◌ after onto listed change with_clock advanced_role list_advanced stepped_to
-  advanced-some h none is = record { at = λ l. went-no-further _ st l _ ws (after-room l none h is) }
-  advanced-some h (some n) is = record { at = λ l. went-listing _ st _ l _ ws _ (after-room l (some n) h is) refl h }
+  advanced-some h None is = record { at = λ l. went-no-further _ st l _ ws (after-room l None h is) }
+  advanced-some h (Some n) is = record { at = λ l. went-listing _ st _ l _ ws _ (after-room l (Some n) h is) refl h }
 
   pub advanced-did : AdvancedDid (advanced_by w v st.clock (length ws))
   advanced-did = ⊎_elim
@@ -174,6 +172,6 @@ module _ (w v : ℕ) (st : Progress) (ws : List ℕ) where
     clock-held off = rw (off, advanced_role) at advanced-told
 
     pub clock-advanced : a.on ≡ true
-        → RoleDid (role clock w v) st (record { went = On; used = words_per_entry; state = ticked_state st a.clock }) ws ws'
+        → RoleDid (role clock w v) st (record { went = Ok tt; used = words_per_entry; state = ticked_state st a.clock }) ws ws'
     unfolding advanced_role
     clock-advanced on = rw (on, advanced_role) at advanced-told

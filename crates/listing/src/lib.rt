@@ -6,7 +6,7 @@ ghost use Rattle.std.specs.Prelude.{◌≡◌};
 ghost use Rattle.listing.specs.Did.{at_place};
 
 use clock::Clock;
-use rules::{BitPlace, LastOrder, Said, Stop};
+use rules::{BitPlace, Order, Said, Stop};
 
 pub mod entry;
 pub mod role;
@@ -15,31 +15,15 @@ pub mod role;
 #[derive(Clone, Copy)]
 pub struct Progress {
     pub place: BitPlace,
-    pub order: LastOrder,
+    pub order: Option<Order>,
     pub clock: Clock,
     pub last: u64,
     pub said: Said,
-}
-
-// How a step went.
-#[derive(Clone, Copy)]
-pub enum Went {
-    On,
-    Stopped(Stop),
 }
 
 // The same state at a place.
 pub fn at_place(place: BitPlace, st: Progress) -> Progress
     ensures { result ≡ at_place place st }
 {
-    let order = st.order;
-    let clock = st.clock;
-    let said = st.said;
-    Progress {
-        place,
-        order,
-        clock,
-        last: st.last,
-        said,
-    }
+    Progress { place, ..st }
 }

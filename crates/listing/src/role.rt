@@ -4,18 +4,17 @@ ghost use Rattle.rules.specs.Faults.{role_of};
 ghost use Rattle.rules.specs.Class.{clock};
 ghost use Rattle.rules.specs.Field.{role as roleStep};
 ghost use Rattle.listing.specs.Did.{RoleDid};
-ghost use Rattle.listing.specs.Roled.{on_done, said_done, stopped_done, magic_done, ticked_state, held_at, advanced_by, list_advanced};
-ghost use Rattle.listing.specs.Roled.{Stamp, with_stream, with_total, with_content, with_ending, with_event};
+ghost use Rattle.listing.specs.Roled.{Stamp, on_done, said_done, stopped_done, magic_done, held_at, advanced_by, list_advanced};
 
-use crate::{Progress, Went, entry};
-use clock::{Clock, Ticked};
+use crate::{Progress, entry};
+use clock::Clock;
 use numbers::{entries, limits, roles};
-use rules::{BitPlace, Entry, Refusal, Said, Stated, Stop};
+use rules::{BitPlace, Entry, Refusal, Said, Stop};
 
 // What a role did: how it went, the words that it listed, and the state behind it.
 #[derive(Clone, Copy)]
 pub struct Roled {
-    pub went: Went,
+    pub went: Result<(), Stop>,
     pub used: usize,
     pub state: Progress,
 }
@@ -35,12 +34,42 @@ pub fn apply(role: u8, width: u64, value: u64, st: Progress, list: &mut [u64]) -
 {
     match role {
         roles::MAGIC => check_magic(value, st),
-        roles::STREAM_CLASS_ID => say(st, with_stream(st.said, value)),
-        roles::TOTAL_LENGTH => say(st, with_total(st.said, value)),
-        roles::CONTENT_LENGTH => say(st, with_content(st.said, value)),
+        roles::STREAM_CLASS_ID => say(
+            st,
+            Said {
+                stream: value,
+                ..st.said
+            },
+        ),
+        roles::TOTAL_LENGTH => say(
+            st,
+            Said {
+                total: Some(value),
+                ..st.said
+            },
+        ),
+        roles::CONTENT_LENGTH => say(
+            st,
+            Said {
+                content: Some(value),
+                ..st.said
+            },
+        ),
         roles::CLOCK => tick(width, value, st, list),
-        roles::END_CLOCK => say(st, with_ending(st.said, value)),
-        roles::EVENT_CLASS_ID => say(st, with_event(st.said, value)),
+        roles::END_CLOCK => say(
+            st,
+            Said {
+                ending: Some(value),
+                ..st.said
+            },
+        ),
+        roles::EVENT_CLASS_ID => say(
+            st,
+            Said {
+                event: value,
+                ..st.said
+            },
+        ),
         _ => on(st),
     }
 }
@@ -64,8 +93,8 @@ pub fn advance(place: BitPlace, width: u64, value: u64, clock: Clock, list: &mut
         return held(Refusal::ListFull, clock);
     }
     match clock.after(value, width) {
-        Ticked::TooLarge => held(Refusal::ClockTooLarge, clock),
-        Ticked::To(next) => {
+        None => held(Refusal::ClockTooLarge, clock),
+        Some(next) => {
             entry::write(
                 list,
                 Entry {
@@ -103,124 +132,29 @@ fn tick(width: u64, value: u64, st: Progress, list: &mut [u64]) -> Roled
 {
     let a = advance(st.place, width, value, st.clock, list);
     if !a.on {
-        let why = a.why;
-        return stopped(why, st);
+        return stopped(a.why, st);
     }
-    let clock = a.clock;
     Roled {
-        went: Went::On,
+        went: Ok(()),
         used: limits::WORDS_PER_ENTRY,
-        state: with_clock(st, clock),
-    }
-}
-
-fn with_clock(st: Progress, clock: Clock) -> Progress
-    ensures { result ≡ ticked_state st clock }
-{
-    let place = st.place;
-    let order = st.order;
-    let said = st.said;
-    Progress {
-        place,
-        order,
-        clock,
-        last: st.last,
-        said,
+        state: Progress {
+            clock: a.clock,
+            ..st
+        },
     }
 }
 
 fn say(st: Progress, said: Said) -> Roled
     ensures { result ≡ said_done st said }
 {
-    let place = st.place;
-    let order = st.order;
-    let clock = st.clock;
-    on(Progress {
-        place,
-        order,
-        clock,
-        last: st.last,
-        said,
-    })
-}
-
-fn with_stream(said: Said, value: u64) -> Said
-    ensures { result ≡ with_stream value said }
-{
-    let total = said.total;
-    let content = said.content;
-    let ending = said.ending;
-    Said {
-        stream: value,
-        total,
-        content,
-        ending,
-        event: said.event,
-    }
-}
-
-fn with_total(said: Said, value: u64) -> Said
-    ensures { result ≡ with_total value said }
-{
-    let content = said.content;
-    let ending = said.ending;
-    Said {
-        stream: said.stream,
-        total: Stated::As(value),
-        content,
-        ending,
-        event: said.event,
-    }
-}
-
-fn with_content(said: Said, value: u64) -> Said
-    ensures { result ≡ with_content value said }
-{
-    let total = said.total;
-    let ending = said.ending;
-    Said {
-        stream: said.stream,
-        total,
-        content: Stated::As(value),
-        ending,
-        event: said.event,
-    }
-}
-
-fn with_ending(said: Said, value: u64) -> Said
-    ensures { result ≡ with_ending value said }
-{
-    let total = said.total;
-    let content = said.content;
-    Said {
-        stream: said.stream,
-        total,
-        content,
-        ending: Stated::As(value),
-        event: said.event,
-    }
-}
-
-fn with_event(said: Said, value: u64) -> Said
-    ensures { result ≡ with_event value said }
-{
-    let total = said.total;
-    let content = said.content;
-    let ending = said.ending;
-    Said {
-        stream: said.stream,
-        total,
-        content,
-        ending,
-        event: value,
-    }
+    on(Progress { said, ..st })
 }
 
 fn on(st: Progress) -> Roled
     ensures { result ≡ on_done st }
 {
     Roled {
-        went: Went::On,
+        went: Ok(()),
         used: 0,
         state: st,
     }
@@ -229,9 +163,11 @@ fn on(st: Progress) -> Roled
 fn stopped(why: Refusal, st: Progress) -> Roled
     ensures { result ≡ stopped_done why st }
 {
-    let place = st.place;
     Roled {
-        went: Went::Stopped(Stop { why, place }),
+        went: Err(Stop {
+            why,
+            place: st.place,
+        }),
         used: 0,
         state: st,
     }

@@ -1,4 +1,5 @@
 -- A list written part by part by what hands no slots on.
+use Rattle.std.specs.Prelude.{Ok, Err, Result, ⊤}
 use mathlib.Core.Path.{◌≡◌, refl, ap, ◌∙◌}
 use mathlib.Core.List.{List, [], ◌∷◌, ◌++◌}
 use Prim.Native.Nat.{ℕ, ◌+◌, ◌-◌, ◌≤◌}
@@ -11,8 +12,6 @@ use Rattle.rules.specs.Slots.{Slots}
 use Rattle.rules.specs.Entry.{words}
 use Rattle.rules.specs.Step.{Out, stop, Step, onto, after, ◌⨾◌}
 use Rattle.listing.specs.declared.Progress.{Progress}
-use Rattle.listing.specs.declared.Went.{Went}
-use Rattle.listing.specs.declared.Went.TheVariants.{On, Stopped}
 use Rattle.listing.specs.Did.{Did, full, out_of}
 use Rattle.listing.proofs.Parts.{Part, part-last-on, part-last-stopped, back-room, lent, merged}
 use Rattle.outcome.specs.declared.Ran.{Ran}
@@ -36,9 +35,9 @@ pub part_same : {o : Out} (m m' : Step) {ws₀ ws : List ℕ} {used : ℕ} {st s
 part_same m m' e p = record { listed = p.listed; list = p.list; counted = p.counted; room = p.room; rest = p.rest ∙ ap (onto p.listed) e }
 
 -- f was lent the whole list
-module _ (f g : Step) {o : Out} {ws ys : List ℕ} {st st' : Progress} {l l' : Slots} {went : Went} {n : ℕ} (e : o ≡ (f ⨾ g) (full st l (length ws)))
+module _ (f g : Step) {o : Out} {ws ys : List ℕ} {st st' : Progress} {l l' : Slots} {went : Result ⊤ Stop} {n : ℕ} (e : o ≡ (f ⨾ g) (full st l (length ws)))
     (d : Did (f (full st l (length ws))) st went n st' l' ws ys) where
-  pub part-first : went ≡ On → Part o g ws ys n st' l'
+  pub part-first : went ≡ Ok tt → Part o g ws ys n st' l'
   unfolding ◌⨾◌ after out_of
   part-first on = record {
     listed = d.listed;
@@ -48,7 +47,7 @@ module _ (f g : Step) {o : Out} {ws ys : List ℕ} {st st' : Progress} {l l' : S
     rest = e ∙ ap (λ x. after x g) (d.out ∙ ap (λ w. out_of d.listed w st' l' (length ws - n)) on);
   }
 
-  pub first-stopped : (v : Stop) → went ≡ Stopped v → RanDid o st (stopped_ran v n st) ws ys
+  pub first-stopped : (v : Stop) → went ≡ Err v → RanDid o st (stopped_ran v n st) ws ys
   unfolding ◌⨾◌ after out_of
   first-stopped v off = record {
     slots = l;
@@ -69,10 +68,10 @@ module _ (f : Step) {o : Out} {ws₀ ws : List ℕ} {used : ℕ} {st : Progress}
   ran-room = back-room f p d.did
 
   -- as it went
-  gone : (w : Went) (came : Progress) → r.went ≡ w → RanDid o came (gone_ran w (used + r.used) r.state came) ws₀ (merged used ws ys)
+  gone : (w : Result ⊤ Stop) (came : Progress) → r.went ≡ w → RanDid o came (gone_ran w (used + r.used) r.state came) ws₀ (merged used ws ys)
   unfolding gone_ran
-  gone On came on = record { slots = d.slots; did = part-last-on f p d.did came on }
-  gone (Stopped v) came off = record { slots = l; did = part-last-stopped f p d.did v came l off }
+  gone (Ok u) came on = record { slots = d.slots; did = part-last-on f p d.did came on }
+  gone (Err v) came off = record { slots = l; did = part-last-stopped f p d.did v came l off }
 
   pub ran-last : (came : Progress) → RanDid o came (last_ran used r came) ws₀ (merged used ws ys)
   ran-last came = gone r.went came refl

@@ -1,9 +1,10 @@
 -- A root's place stays in the frame, and a packet's root leaves slots 16 to 63 unset; and what an event's loop keeps.
+use Rattle.rules.specs.declared.Stop.{Stop}
+use Rattle.std.specs.Prelude.{Option, None, Some, Ok, Result, ⊤}
 use mathlib.Core.Path.{◌≡◌, refl, ◌∙◌}
 use Prim.Native.Nat.{ℕ, ◌-◌, ◌≤◌}
 use native.Mathlib.Omega.{arith}
 use mathlib.Core.List.{List}
-use mathlib.Core.Option.{Option, none, some}
 use lib.ListN.{length}
 use Rattle.rules.specs.declared.Entry.{Entry}
 use Rattle.rules.specs.Slots.{Slots, packet_slots}
@@ -15,8 +16,6 @@ use Rattle.laws.specs.Kept.{LeavesUnset}
 use Rattle.laws.proofs.Between.{read_between}
 use Rattle.frame.specs.declared.Frame.{Frame}
 use Rattle.listing.specs.declared.Progress.{Progress}
-use Rattle.listing.specs.declared.Went.{Went}
-use Rattle.listing.specs.declared.Went.TheVariants.{On}
 use Rattle.frame.specs.Framed.{Framed, env_of}
 use Rattle.listing.specs.Did.{Did, full, out_of}
 use Rattle.listing.proofs.Parts.{Part}
@@ -26,12 +25,12 @@ pub root-between : (e : Env) (m : ℕ) (c : Option Class) (s : State) (es : List
     → e.start.0 ≤ s.place.0 → s.place.0 ≤ e.bound.0 → read_root e m c s ≡ go es s'
     → (s.place.0 ≤ s'.place.0) × (s'.place.0 ≤ e.bound.0)
 unfolding read_root pass
-root-between e m none s es s' h k q = let p : s ≡ s' = cc in rw (← p) (omega arith, k)
-root-between e m (some c) s es s' h k q = read_between e m c s es s' h k q
+root-between e m None s es s' h k q = let p : s ≡ s' = cc in rw (← p) (omega arith, k)
+root-between e m (Some c) s es s' h k q = read_between e m c s es s' h k q
 
 -- what stands behind a root that went on: the frame, and a packet's slots
 module _ (b u : List ℕ) (f : Frame) (m : ℕ) (c : Option Class) (l : Slots) {st st' : Progress} {l' : Slots} {n : ℕ} {ws ys : List ℕ}
-    {went : Went} (on : went ≡ On) (did : Did (read_root (env_of b u f) m c (full st l (length ws))) st went n st' l' ws ys) where
+    {went : Result ⊤ Stop} (on : went ≡ Ok tt) (did : Did (read_root (env_of b u f) m c (full st l (length ws))) st went n st' l' ws ys) where
   went_on : read_root (env_of b u f) m c (full st l (length ws)) ≡ go did.listed (full st' l' (length ws - n))
   unfolding out_of
   went_on = did.out ∙ rw (on) refl

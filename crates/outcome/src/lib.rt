@@ -5,13 +5,13 @@ ghost use Rattle.std.specs.Prelude.{◌≡◌, ◌+◌, ◌^◌, ◌<◌};
 ghost use Rattle.rules.specs.Verdict.{stop_at};
 ghost use Rattle.outcome.specs.Ran.{stopped_ran, last_ran};
 
-use listing::{Progress, Went};
+use listing::Progress;
 use rules::{BitPlace, Refusal, Stop};
 
 // What a part of a reading did that hands no slots on: how it went, the words that it listed, and the state behind it.
 #[derive(Clone, Copy)]
 pub struct Ran {
-    pub went: Went,
+    pub went: Result<(), Stop>,
     pub used: usize,
     pub state: Progress,
 }
@@ -21,7 +21,7 @@ pub fn stopped(stop: Stop, used: usize, st: Progress) -> Ran
     ensures { result ≡ stopped_ran stop used st }
 {
     Ran {
-        went: Went::Stopped(stop),
+        went: Err(stop),
         used,
         state: st,
     }
@@ -39,16 +39,11 @@ pub fn with_last(used: usize, last: Ran, st: Progress) -> Ran
     requires { used + last.used < 2 ^ 64 }
     ensures { result ≡ last_ran used last st }
 {
-    let went = last.went;
-    match went {
-        Went::Stopped(stop) => stopped(stop, used + last.used, st),
-        Went::On => {
-            let state = last.state;
-            Ran {
-                went: Went::On,
-                used: used + last.used,
-                state,
-            }
-        }
+    match last.went {
+        Err(stop) => stopped(stop, used + last.used, st),
+        Ok(()) => Ran {
+            used: used + last.used,
+            ..last
+        },
     }
 }

@@ -1,4 +1,5 @@
 -- The law of a packet, as it is used: what reads in place reads among its own bytes, and the other way.
+use Rattle.std.specs.Prelude.{Option}
 use mathlib.Core.Path.{◌≡◌, refl, sym, ap, ◌∙◌, subst}
 use mathlib.Core.Logic.{inl, inr}
 use Prim.Native.Nat.{ℕ, ◌*◌, ◌≤◌}
@@ -6,7 +7,6 @@ use native.Mathlib.Omega.{arith}
 use mathlib.Core.List.{List}
 use lib.ListN.{length}
 use Rattle.rules.specs.declared.BitPlace.{BitPlace}
-use Rattle.rules.specs.declared.Stated.{Stated}
 use Rattle.rules.specs.declared.Entry.{Entry}
 use Rattle.rules.specs.declared.Stop.{Stop}
 use Rattle.rules.specs.Step.{State, Out, stop, go}
@@ -18,7 +18,7 @@ use Rattle.laws.specs.Far.{away, far_all, far_stop, far, far_out, Short, Rel}
 use Rattle.laws.specs.Far.{Like}
 use Rattle.packet_alone.proofs.Beside.{same, e₀, e₁, tail-packet}
 
-module _ (t : Asked) (b b' : List ℕ) (p p' : BitPlace) (y : Like (e₀ t b b' p p') (e₁ t b b' p p')) (rest : ℕ) (i : Stated) where
+module _ (t : Asked) (b b' : List ℕ) (p p' : BitPlace) (y : Like (e₀ t b b' p p') (e₁ t b b' p p')) (rest : ℕ) (i : Option ℕ) where
   abbrev pub E₀ : Env
   E₀ = e₀ t b b' p p'
 

@@ -1,5 +1,6 @@
 -- A packet that ends where two streams still agree, or before, reads the same in both: it reads among the bytes that they share, and from
 -- there in the other. What stands for its lengths, were none stated, is the whole rest of its stream, which it does not take.
+use Rattle.std.specs.Prelude.{Option}
 use mathlib.Core.Path.{◌≡◌, refl, sym, ap, ◌∙◌}
 use Prim.Native.Nat.{ℕ, ◌+◌, ◌-◌, ◌*◌, ◌/◌, ◌%◌, ◌≤◌, ◌<◌}
 use native.Mathlib.Omega.{arith}
@@ -7,7 +8,6 @@ use mathlib.Core.List.{List, [], ◌∷◌, ◌++◌, append-nil}
 use lib.ListN.{length, drop, length-drop, length-append}
 use lib.Seq.{drop-append-le}
 use Rattle.rules.specs.declared.BitPlace.{BitPlace}
-use Rattle.rules.specs.declared.Stated.{Stated}
 use Rattle.rules.specs.declared.Entry.{Entry}
 use Rattle.rules.specs.Limits.{words_per_entry}
 use Rattle.rules.specs.Place.{bit_place}
@@ -47,7 +47,7 @@ unfolding far_all far_entry
 moved_same t w v v' p [] = refl
 moved_same t w v v' p (x ∷ es) = ap (λ l. far_entry (to_end t w p) (to_end t v p) x ∷ l) (moved_same t w v v' p es)
 
-module _ (t : Asked) (w r v : List ℕ) (k : ℕ) (i : Stated) (s : State) (es : List Entry) (u : State) (z : s.place.0 % 8 ≡ 0)
+module _ (t : Asked) (w r v : List ℕ) (k : ℕ) (i : Option ℕ) (s : State) (es : List Entry) (u : State) (z : s.place.0 % 8 ≡ 0)
     (l : s.place.0 ≤ 8 * length w)
     (h : u.place.0 ≤ 8 * length w) (more : 0 < length r) (q : read_packet t (w ++ r) k i s ≡ go es u) where
   abbrev shared : Env

@@ -2,6 +2,7 @@
 -- where both bounds are as far; lengths and events; and THE LAW, `tail-packet`: a whole packet behind its entry 1, for any two places and
 -- any two streams that hold the same bytes there, with the exception that `Far` (crate laws) says, `Cut`. A content's steps come last:
 -- they may go behind the first bound.
+use Rattle.std.specs.Prelude.{Option, None, Some}
 use mathlib.Core.Path.{◌≡◌, refl, sym, ap, ◌∙◌, subst}
 use mathlib.Core.Logic.{inl, inr}
 use Prim.Native.Nat.{ℕ, zero, suc, ◌+◌, ◌-◌, ◌*◌, ◌%◌, ◌≤◌, ◌<◌}
@@ -9,12 +10,10 @@ use native.Mathlib.Omega.{arith}
 use native.Mathlib.Nat.{le_refl}
 use mathlib.Core.List.{List, [], ◌∷◌}
 use mathlib.Core.Bool.{Bool, true, false, not, ◌&&◌, ◌||◌}
-use mathlib.Core.Option.{Option, none, some}
 use lib.ListN.{length}
 use lib.Dec.{ltb, eqb}
 use borrow.Author.Tests.{eqb-true, eqb-false, eq-eqb, ne_eqb, ltb-true, ltb-false, lt-ltb, le-ltb}
 use Rattle.rules.specs.declared.BitPlace.{BitPlace}
-use Rattle.rules.specs.declared.Stated.{Stated}
 use Rattle.rules.specs.declared.Entry.{Entry}
 use Rattle.rules.specs.declared.Refusal.{Refusal}
 use Rattle.rules.specs.declared.Refusal.TheVariants.{StreamClassChanged, StreamClassUnknown, LengthsContradict, ClocksContradict}
@@ -142,8 +141,8 @@ module _ (e e' : Env) (y : Like e e') where
 
     by-class : (i j k : ℕ) (o : Option EventClass) → Alike (with_event i j o (inside e k)) (with_event i j o (inside e' k))
     unfolding with_event
-    by-class i j k none = pair-refuse (EventClassUnknown i j)
-    by-class i j k (some d) =
+    by-class i j k None = pair-refuse (EventClassUnknown i j)
+    by-class i j k (Some d) =
         pair-mark event_class_found 0 k ⨾ᵖ root (common_number c) c.common ⨾ᵖ root first_root d.specific
         ⨾ᵖ root (payload_number d) d.payload
 
@@ -644,8 +643,8 @@ module _ (t : Asked) (b b' : List ℕ) (p p' : BitPlace) where
     by-stream : (rest i j : ℕ) (o : Option StreamClass)
         → Tail (with_stream i o (of_class t b p rest j)) (with_stream i o (of_class t b' p' rest j))
     unfolding with_stream
-    by-stream rest i j none = tail-refuse (StreamClassUnknown i)
-    by-stream rest i j (some c) = pair-mark e₀ e₁ y stream_class_found 0 j ⨾ᵗ root e₀ e₁ y first_root c.context ⨾ᵗ tail-content rest c
+    by-stream rest i j None = tail-refuse (StreamClassUnknown i)
+    by-stream rest i j (Some c) = pair-mark e₀ e₁ y stream_class_found 0 j ⨾ᵗ root e₀ e₁ y first_root c.context ⨾ᵗ tail-content rest c
 
     tail-stream : (rest : ℕ) → Tail (λ s. of_stream t b p rest s s) (λ s. of_stream t b' p' rest s s)
     tail-stream rest = record {
@@ -661,17 +660,17 @@ module _ (t : Asked) (b b' : List ℕ) (p p' : BitPlace) where
     unfolding start_packet far
     pair-begin = pair-change e₀ e₁ y start_packet (λ s. refl) (λ s. refl)
 
-    pair-class : (i : Stated)
+    pair-class : (i : Option ℕ)
         → Alike₀ (check (λ s. differs s.said.stream i) StreamClassChanged) (check (λ s. differs s.said.stream i) StreamClassChanged)
     unfolding far
     pair-class i = pair-check e₀ e₁ y _ _ StreamClassChanged (λ s d. refl)
 
     -- THE LAW: a packet in one stream beside the same bytes in another
-    pub tail-packet : (rest : ℕ) (i : Stated) → Tail (packet t b p rest i) (packet t b' p' rest i)
+    pub tail-packet : (rest : ℕ) (i : Option ℕ) → Tail (packet t b p rest i) (packet t b' p' rest i)
     tail-packet rest i = pair-begin ⨾ᵗ root e₀ e₁ y first_root t.header ⨾ᵗ pair-class i ⨾ᵗ pair-due e₀ e₁ y ⨾ᵗ tail-stream rest
 
 -- `read_packet` is entry 1, and then the law's step
-pub packet-is : (t : Asked) (b : List ℕ) (k : ℕ) (i : Stated) (s : State)
+pub packet-is : (t : Asked) (b : List ℕ) (k : ℕ) (i : Option ℕ) (s : State)
     → read_packet t b k i s ≡ (due ⨾ mark packet_starts 0 k ⨾ packet t b s.place (8 * length b - s.place.0) i) s
 unfolding read_packet
 packet-is t b k i s = refl

@@ -1,6 +1,7 @@
 -- How a packet that goes through ends: behind its total length; with the stream class id that its header said; and, where there is a
 -- clock, with a last clock that is no lower than the one it began with (39). So it does not matter what stands for lengths that are not
 -- stated, unless the packet ends just there; nor which packet was the first, as long as it is of that class.
+use Rattle.std.specs.Prelude.{Option, None, Some}
 use mathlib.Core.Path.{◌≡◌, refl, sym, ap, ◌∙◌, subst}
 use mathlib.Core.Logic.{◌⊎◌, inl, inr}
 use Prim.Native.Nat.{ℕ, zero, suc, ◌+◌, ◌-◌, ◌≤◌}
@@ -8,12 +9,9 @@ use native.Mathlib.Omega.{arith}
 use native.Mathlib.Nat.{le_refl}
 use mathlib.Core.List.{List}
 use mathlib.Core.Bool.{Bool, true, false, ◌&&◌}
-use mathlib.Core.Option.{Option, none, some}
 use lib.Dec.{ltb, eqb}
 use borrow.Author.Tests.{ltb-false}
 use Rattle.rules.specs.declared.BitPlace.{BitPlace}
-use Rattle.rules.specs.declared.Stated.{Stated}
-use Rattle.rules.specs.declared.Stated.TheVariants.{Missing, As}
 use Rattle.rules.specs.declared.Entry.{Entry}
 use Rattle.rules.specs.declared.Refusal.{Refusal}
 use Rattle.rules.specs.declared.Refusal.TheVariants.{EventClassUnknown, EventTookNoBits, ClockWentBack}
@@ -99,7 +97,7 @@ module _ (A : ℕ → Type 0) where
 
 -- Events
 
-module _ (t : Asked) (only : HeaderOnly t) (c : StreamClass) (i : ℕ) (found : t.stream i ≡ some c) (j v : ℕ) where
+module _ (t : Asked) (only : HeaderOnly t) (c : StreamClass) (i : ℕ) (found : t.stream i ≡ Some c) (j v : ℕ) where
   -- the stream class id is j; the last clock is v or more, where there is a clock
   abbrev NotBefore : ℕ → Type 0
   NotBefore n = c.timed ≡ true → v ≤ n
@@ -145,8 +143,8 @@ module _ (t : Asked) (only : HeaderOnly t) (c : StreamClass) (i : ℕ) (found : 
       → Keeps (with_event k l x (λ d. mark event_class_found 0 l ⨾ read_root e (common_number c) c.common ⨾ read_root e first_root d.specific
       ⨾ read_root e (payload_number d) d.payload))
   unfolding with_event
-  class-fine e k l none q = refusing AnyEntry AnyStop AnyRefusal stops (EventClassUnknown k l) tt
-  class-fine e k l (some d) q =
+  class-fine e k l None q = refusing AnyEntry AnyStop AnyRefusal stops (EventClassUnknown k l) tt
+  class-fine e k l (Some d) q =
       mark-fine event_class_found 0 l ⨾ᶠ root-fine e (common_number c) c.common (only.common i c found)
       ⨾ᶠ root-fine e first_root d.specific (only.specific k l d q)
       ⨾ᶠ root-fine e (payload_number d) d.payload (only.payload k l d q)
@@ -183,7 +181,7 @@ module _ (t : Asked) (only : HeaderOnly t) (c : StreamClass) (i : ℕ) (found : 
 
 -- Packets
 
-module _ (t : Asked) (b : List ℕ) (p : BitPlace) (rest : ℕ) (i : Stated) (s : State) (es : List Entry) (u : State)
+module _ (t : Asked) (b : List ℕ) (p : BitPlace) (rest : ℕ) (i : Option ℕ) (s : State) (es : List Entry) (u : State)
     (r : Ran t b p rest i s es u) where
   pub ends-behind : u.place.0 ≡ p.0 + total_of rest r.s₂
   ends-behind = ap (λ x. x.0)
@@ -213,14 +211,14 @@ module _ (t : Asked) (b : List ℕ) (p : BitPlace) (rest : ℕ) (i : Stated) (s 
     ends-class = whole-fine.0
 
     -- the class is the one of that id
-    pub ends_found : t.stream u.said.stream ≡ some r.c
+    pub ends_found : t.stream u.said.stream ≡ Some r.c
     ends_found = ap t.stream ends-class ∙ r.found
 
     pub ends-no-earlier : r.c.timed ≡ true → s.last ≤ u.last
     ends-no-earlier = whole-fine.1
 
     -- whichever packet was the first, if it is of that class
-    pub any-first : (i' : Stated) → differs u.said.stream i' ≡ false → Ran t b p rest i' s es u
+    pub any-first : (i' : Option ℕ) → differs u.said.stream i' ≡ false → Ran t b p rest i' s es u
     any-first i' q = record {
       es₁ = r.es₁;
       s₁ = r.s₁;
@@ -239,13 +237,13 @@ module _ (t : Asked) (b : List ℕ) (p : BitPlace) (rest : ℕ) (i : Stated) (s 
 
   -- Lengths that are stated, one at least, or what stands for them
 
-  stated : (x y : Stated) (rest' : ℕ)
+  stated : (x y : Option ℕ) (rest' : ℕ)
       → (or_else x y rest ≡ rest) ⊎ ((or_else x y rest ≡ or_else x y rest') × (or_else y x rest ≡ or_else y x rest'))
   unfolding or_else
-  stated (As m) (As n) rest' = inr (refl, refl)
-  stated (As m) Missing rest' = inr (refl, refl)
-  stated Missing (As n) rest' = inr (refl, refl)
-  stated Missing Missing rest' = inl refl
+  stated (Some m) (Some n) rest' = inr (refl, refl)
+  stated (Some m) None rest' = inr (refl, refl)
+  stated None (Some n) rest' = inr (refl, refl)
+  stated None None rest' = inl refl
 
   -- a packet that does not end just there looks at no such number
   pub any-rest : (rest' : ℕ) → (u.place.0 ≡ p.0 + rest → ⊥) → Ran t b p rest' i s es u

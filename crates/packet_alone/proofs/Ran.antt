@@ -1,15 +1,14 @@
 -- A packet that goes through, part by part: header, class, context, lengths and events, with the state behind each. It is taken apart and
 -- put together once, so that whatever else is said of such a packet is said of its parts.
+use Rattle.std.specs.Prelude.{Option, None, Some}
 use mathlib.Core.Path.{◌≡◌, refl, sym, ap, ◌∙◌}
 use Prim.Native.Nat.{ℕ, ◌+◌, ◌-◌, ◌*◌}
 use native.Mathlib.Omega.{arith}
 use mathlib.Core.List.{List, ◌∷◌, ◌++◌}
 use mathlib.Core.Bool.{Bool, false}
-use mathlib.Core.Option.{Option, none, some}
 use lib.ListN.{length}
 use lib.Dec.{ltb}
 use Rattle.rules.specs.declared.BitPlace.{BitPlace}
-use Rattle.rules.specs.declared.Stated.{Stated}
 use Rattle.rules.specs.declared.Entry.{Entry}
 use Rattle.rules.specs.declared.Refusal.TheVariants.{StreamClassChanged, LengthsContradict, ClocksContradict}
 use Rattle.rules.specs.Limits.{words_per_entry}
@@ -33,7 +32,7 @@ pub record RanContent (t : Asked) (c : StreamClass) (b : List ℕ) (p : BitPlace
   pub events : events_of t c b p total content (less s) ≡ go rest u
   pub list : es ≡ entry lengths_settled s.place total content 0 ∷ rest
 
-pub record Ran (t : Asked) (b : List ℕ) (p : BitPlace) (rest : ℕ) (i : Stated) (s : State) (es : List Entry) (u : State) : Type 0 where
+pub record Ran (t : Asked) (b : List ℕ) (p : BitPlace) (rest : ℕ) (i : Option ℕ) (s : State) (es : List Entry) (u : State) : Type 0 where
   -- the header
   pub es₁ : List Entry
   pub s₁ : State
@@ -42,7 +41,7 @@ pub record Ran (t : Asked) (b : List ℕ) (p : BitPlace) (rest : ℕ) (i : State
   pub same : differs s₁.said.stream i ≡ false
   pub room : ltb s₁.room words_per_entry ≡ false
   pub c : StreamClass
-  pub found : t.stream s₁.said.stream ≡ some c
+  pub found : t.stream s₁.said.stream ≡ Some c
   -- the context
   pub es₂ : List Entry
   pub s₂ : State
@@ -97,7 +96,7 @@ module _ (t : Asked) (b : List ℕ) (p : BitPlace) where
         ∙ pass-mark lengths_settled total content (events_of t c b p total content) s r.rest u r.events
         ∙ ap (λ l. go l u) (sym r.list)
 
-  module _ (rest : ℕ) (i : Stated) where
+  module _ (rest : ℕ) (i : Option ℕ) where
     abbrev differing : State → Bool
     differing s = differs s.said.stream i
 
@@ -133,8 +132,8 @@ module _ (t : Asked) (b : List ℕ) (p : BitPlace) where
 
         by : (o : Option StreamClass) → t.stream s₁.said.stream ≡ o
             → with_stream s₁.said.stream o (of_class t b p rest s₁.said.stream) s₁ ≡ go h.second u → Ran t b p rest i s es u
-        by none f g = unfold with_stream refuse in let z : ◌≡◌ {A = ℕ} 0 1 = cc in absurd (omega arith)
-        by (some c) f g =
+        by None f g = unfold with_stream refuse in let z : ◌≡◌ {A = ℕ} 0 1 = cc in absurd (omega arith)
+        by (Some c) f g =
             let m = marked stream_class_found 0 s₁.said.stream (behind c) s₁ h.second u (unfold with_stream in g) in
             let k = split (read_root (to_end t b p) first_root c.context) (content_step t b p rest c) (less s₁) m.0 u m.1 in
             record {
@@ -159,7 +158,7 @@ module _ (t : Asked) (b : List ℕ) (p : BitPlace) where
         ∙ join (read_root (to_end t b p) first_root t.header) compared (start_packet s) r.es₁ r.s₁ _ u r.header later
         ∙ ap (λ l. go l u) (sym r.list)
       where
-        found : streamed r.s₁ ≡ with_stream r.s₁.said.stream (some r.c) (of_class t b p rest r.s₁.said.stream) r.s₁
+        found : streamed r.s₁ ≡ with_stream r.s₁.said.stream (Some r.c) (of_class t b p rest r.s₁.said.stream) r.s₁
         found = ap (λ o. with_stream r.s₁.said.stream o (of_class t b p rest r.s₁.said.stream) r.s₁) r.found
 
         inside : behind r.c (less r.s₁) ≡ go (r.es₂ ++ r.es₃) u
@@ -168,7 +167,7 @@ module _ (t : Asked) (b : List ℕ) (p : BitPlace) where
             r.context
             (run-content r.c (total_of rest r.s₂) (content_of rest r.s₂) r.s₂ r.es₃ u r.content)
 
-        whole : with_stream r.s₁.said.stream (some r.c) (of_class t b p rest r.s₁.said.stream) r.s₁
+        whole : with_stream r.s₁.said.stream (Some r.c) (of_class t b p rest r.s₁.said.stream) r.s₁
             ≡ go (entry stream_class_found r.s₁.place 0 r.s₁.said.stream 0 ∷ (r.es₂ ++ r.es₃)) u
         whole = unfold with_stream in pass-mark stream_class_found 0 r.s₁.said.stream (behind r.c) r.s₁ _ u inside
 
@@ -177,13 +176,13 @@ module _ (t : Asked) (b : List ℕ) (p : BitPlace) where
             ∙ whole
 
 -- entry 1 and what is behind it
-pub record RanWhole (t : Asked) (b : List ℕ) (k : ℕ) (i : Stated) (s : State) (es : List Entry) (u : State) : Type 0 where
+pub record RanWhole (t : Asked) (b : List ℕ) (k : ℕ) (i : Option ℕ) (s : State) (es : List Entry) (u : State) : Type 0 where
   pub room : ltb s.room words_per_entry ≡ false
   pub others : List Entry
   pub behind : packet t b s.place (8 * length b - s.place.0) i (less s) ≡ go others u
   pub list : es ≡ entry packet_starts s.place 0 k 0 ∷ others
 
-module _ (t : Asked) (b : List ℕ) (k : ℕ) (i : Stated) (s : State) (es : List Entry) (u : State) where
+module _ (t : Asked) (b : List ℕ) (k : ℕ) (i : Option ℕ) (s : State) (es : List Entry) (u : State) where
   abbrev rests : Step
   rests = packet t b s.place (8 * length b - s.place.0) i
 

@@ -1,24 +1,21 @@
 -- An accepted table has the role of the stream class id in packet headers alone (12 refuses others), so that no field behind a header
 -- changes the stream class id that the header said. In order: roles of a class; what an accepted table's classes are, along the parse;
 -- readings.
+use Rattle.std.specs.Prelude.{Option, None, Some}
+use Rattle.rules.specs.declared.ByteLength.{ByteLength}
 use mathlib.Core.Path.{◌≡◌, refl, sym, ap, ◌∙◌, subst}
 use Prim.Native.Nat.{ℕ, zero, suc, ◌+◌, ◌*◌, ◌^◌, ◌≤◌}
 use native.Mathlib.Omega.{arith}
 use mathlib.Core.List.{List, [], ◌∷◌, ◌++◌}
 use mathlib.Core.Bool.{Bool, true, false, not, ◌&&◌, ◌||◌}
-use mathlib.Core.Option.{Option, none, some}
 use lib.ListN.{length, get_or}
 use lib.Dec.{ltb, leb, eqb}
 use borrow.Author.Tests.{eqb-true}
 use Rattle.rules.specs.declared.Order.{Order}
-use Rattle.rules.specs.declared.LastOrder.{LastOrder}
-use Rattle.rules.specs.declared.LastOrder.TheVariants.{Was}
 use Rattle.rules.specs.declared.Content.{Content}
 use Rattle.rules.specs.declared.Content.TheVariants.{Unset, Flag, Unsigned, Signed}
 use Rattle.rules.specs.declared.Leb.{Leb}
 use Rattle.rules.specs.declared.Leb.TheVariants.{Value, Past, Large}
-use Rattle.rules.specs.declared.Ended.{Ended}
-use Rattle.rules.specs.declared.Ended.TheVariants.{After, Never}
 use Rattle.rules.specs.declared.Entry.{Entry}
 use Rattle.rules.specs.declared.Refusal.{Refusal}
 use Rattle.rules.specs.declared.Refusal.TheVariants.{OrderChanged, NoZeroByte, SlotUnset, SlotOfWrongSort, NotText}
@@ -89,16 +86,16 @@ abbrev mutual
   OtherOptions (an_option rs c os) = Others c × OtherOptions os
 
 abbrev pub OtherRoot : Option Class → Type 0
-OtherRoot none = Unit {0}
-OtherRoot (some c) = Others c
+OtherRoot None = Unit {0}
+OtherRoot (Some c) = Others c
 
 -- the roots that are read behind a header
 pub record HeaderOnly (t : Asked) : Type 0 where
-  pub context : (i : ℕ) (c : StreamClass) → t.stream i ≡ some c → OtherRoot c.context
-  pub header : (i : ℕ) (c : StreamClass) → t.stream i ≡ some c → OtherRoot c.header
-  pub common : (i : ℕ) (c : StreamClass) → t.stream i ≡ some c → OtherRoot c.common
-  pub specific : (i j : ℕ) (d : EventClass) → t.event i j ≡ some d → OtherRoot d.specific
-  pub payload : (i j : ℕ) (d : EventClass) → t.event i j ≡ some d → OtherRoot d.payload
+  pub context : (i : ℕ) (c : StreamClass) → t.stream i ≡ Some c → OtherRoot c.context
+  pub header : (i : ℕ) (c : StreamClass) → t.stream i ≡ Some c → OtherRoot c.header
+  pub common : (i : ℕ) (c : StreamClass) → t.stream i ≡ Some c → OtherRoot c.common
+  pub specific : (i j : ℕ) (d : EventClass) → t.event i j ≡ Some d → OtherRoot d.specific
+  pub payload : (i j : ℕ) (d : EventClass) → t.event i j ≡ Some d → OtherRoot d.payload
 
 -- A sound record's role
 
@@ -191,9 +188,9 @@ module _ (f : Spot → Parser Class) (h : (z : Spot) (x : List ℕ) → Yields O
   unfolding selected
   selected-others i p c g = by p.0
     where
-      by : (o : Option Sign) → Others (elim o [ none ↦ flagged i c | some s ↦ optional i s p.1 c ])
-      by none = g
-      by (some s) = g
+      by : (o : Option Sign) → Others (elim o [ None ↦ flagged i c | Some s ↦ optional i s p.1 c ])
+      by None = g
+      by (Some s) = g
 
   yields-shape : (q : Ids) (z : Spot) (y : Says) (s : Shape) (x : List ℕ) → Other (role_of y.role)
       → Yields Others (parse_shape q f z y s x)
@@ -211,10 +208,10 @@ module _ (f : Spot → Parser Class) (h : (z : Spot) (x : List ℕ) → Yields O
   yields-shape q z y elements x r = yields-then Others _ (f inside x) _ (h inside x) (λ c x p. p)
   yields-shape q z y elements_of x r = yields-then Others _ (f inside x) _ (h inside x) (λ c x p. p)
   yields-shape q z y option? x r =
-      yields-then Whatever _ (parse_ranges q [] y.count none x) _ (yields-any (parse_ranges q [] y.count none x)) (λ rs x u.
+      yields-then Whatever _ (parse_ranges q [] y.count None x) _ (yields-any (parse_ranges q [] y.count None x)) (λ rs x u.
       yields-then Others _ (f inside x) _ (h inside x) (λ c x p. selected-others y.reads rs c p))
   yields-shape q z y options x r =
-      yields-then (λ os. OtherOptions os.1) _ (parse_options q f y.count (none, []) x) _ (yields-options q y.count (none, []) x)
+      yields-then (λ os. OtherOptions os.1) _ (parse_options q f y.count (None, []) x) _ (yields-options q y.count (None, []) x)
       (λ os x p. p)
 
 yields-class : (q : Ids) (u : Under) → 1 ≤ u.root → (left : ℕ) (z : Spot) (x : List ℕ) → Yields Others (parse_class q u left z x)
@@ -254,8 +251,8 @@ yields-roots q timed u? (n ∷ ns) x = by (leb (size x) (length x) && is_root n 
   where
     by : (b : Bool) → ((y : List ℕ) → Yields (OtherRoots ns) (parse_roots q timed u? ns y)) → Yields (OtherRoots (n ∷ ns)) (elim b [
       | true ↦ then (parse_class q (record { root = n; timed = timed; uuid = u? }) 8 top (behind x)) λ c x. then
-          (parse_roots q timed u? ns x) λ cs x. good (some c ∷ cs) x
-      | false ↦ then (parse_roots q timed u? ns x) λ cs x. good (none ∷ cs) x
+          (parse_roots q timed u? ns x) λ cs x. good (Some c ∷ cs) x
+      | false ↦ then (parse_roots q timed u? ns x) λ cs x. good (None ∷ cs) x
     ])
     by true rec =
         yields-then (λ c. 1 ≤ n → Others c) _ (parse_class q (record { root = n; timed = timed; uuid = u? }) 8 top (behind x)) _
@@ -345,22 +342,22 @@ yields-table x = by (missing x || ltb 65536 (length x))
     by true = tt
     by false = first (first_fault (ltb (length x) (size x)) (record_of x))
 
-stream-others : (cs : List StreamClass) (i : ℕ) (c : StreamClass) → OtherStreams cs → find_stream cs i ≡ some c → OtherStream c
+stream-others : (cs : List StreamClass) (i : ℕ) (c : StreamClass) → OtherStreams cs → find_stream cs i ≡ Some c → OtherStream c
 unfolding find_stream
 stream-others [] i c h p = let z : ◌≡◌ {A = ℕ} 0 1 = cc in absurd (omega arith)
 stream-others (d ∷ cs) i c h p = by (eqb d.id i) p (λ q. stream-others cs i c h.1 q)
   where
-    by : (b : Bool) → elim b [ true ↦ some d | false ↦ find_stream cs i ] ≡ some c → (find_stream cs i ≡ some c → OtherStream c)
+    by : (b : Bool) → elim b [ true ↦ Some d | false ↦ find_stream cs i ] ≡ Some c → (find_stream cs i ≡ Some c → OtherStream c)
         → OtherStream c
     by true p r = let q : d ≡ c = cc in subst OtherStream q h.0
     by false p r = r p
 
-event-others : (cs : List EventClass) (i j : ℕ) (c : EventClass) → OtherEvents cs → find_event cs i j ≡ some c → OtherEvent c
+event-others : (cs : List EventClass) (i j : ℕ) (c : EventClass) → OtherEvents cs → find_event cs i j ≡ Some c → OtherEvent c
 unfolding find_event
 event-others [] i j c h p = let z : ◌≡◌ {A = ℕ} 0 1 = cc in absurd (omega arith)
 event-others (d ∷ cs) i j c h p = by (eqb d.stream i && eqb d.id j) p (λ q. event-others cs i j c h.1 q)
   where
-    by : (b : Bool) → elim b [ true ↦ some d | false ↦ find_event cs i j ] ≡ some c → (find_event cs i j ≡ some c → OtherEvent c)
+    by : (b : Bool) → elim b [ true ↦ Some d | false ↦ find_event cs i j ] ≡ Some c → (find_event cs i j ≡ Some c → OtherEvent c)
         → OtherEvent c
     by true p r = let q : d ≡ c = cc in subst OtherEvent q h.0
     by false p r = r p
@@ -436,14 +433,14 @@ module _ (j : ℕ) where
   unfolding store with_slots
   keeps-store i x = keeps-change _ (λ s. refl)
 
-  keeps-order : (o : LastOrder) → Keeps (change (with_order o))
+  keeps-order : (o : Option Order) → Keeps (change (with_order o))
   unfolding with_order
   keeps-order o = keeps-change _ (λ s. refl)
 
   keeps-clock : (l : ℕ) (o : Option ℕ) → Keeps (new_clock l o)
   unfolding new_clock
-  keeps-clock l none = keeps-refuse ClockTooLarge
-  keeps-clock l (some c) = shown ⨾ᵏ keeps-change (with_clock c) (λ s. unfold with_clock in refl)
+  keeps-clock l None = keeps-refuse ClockTooLarge
+  keeps-clock l (Some c) = shown ⨾ᵏ keeps-change (with_clock c) (λ s. unfold with_clock in refl)
     where
       shown : Keeps (λ s. listed (entry clock_advanced s.place l c 0) s.place s)
       shown = unfold listed in record { at = λ s h. ((tt, tt), h) }
@@ -484,7 +481,7 @@ module _ (j : ℕ) where
     keeps-fixed m k n o a i r w = keeps-due (fitted e a 0 (tested _ OrderChanged (fitted e a n (record {
       at = λ s h.
           (let v : ℕ = bits o e.bytes (aligned e a s).0 n in
-          keeps-field e m (kind_of k) a n (value_of k n v) ⨾ᵏ keeps-order (Was o) ⨾ᵏ keeps-store i (slot_of k n v)
+          keeps-field e m (kind_of k) a n (value_of k n v) ⨾ᵏ keeps-order (Some o) ⨾ᵏ keeps-store i (slot_of k n v)
           ⨾ᵏ keeps-role r w n (value_of k n v)).at s h;
     }))))
 
@@ -498,11 +495,11 @@ module _ (j : ℕ) where
     unfolding as_text
     keeps-as_text x = keeps-check _ NotText
 
-    keeps-zero : (m : ℕ) (x : Ended) → Keeps (read_zero e m x)
+    keeps-zero : (m : ℕ) (x : Option ByteLength) → Keeps (read_zero e m x)
     unfolding read_zero
-    keeps-zero m (After n) =
+    keeps-zero m (Some n) =
         record { at = λ s h. (keeps-as_text (bytes_at e (aligned e 8 s) n.0)).at s h } ⨾ᵏ keeps-field e m 23 8 (8 * (n.0 + 1)) n.0
-    keeps-zero m Never = keeps-refuse NoZeroByte
+    keeps-zero m None = keeps-refuse NoZeroByte
 
     keeps-text : (m k n : ℕ) → Keeps (read_text e m k n)
     unfolding read_text
@@ -606,5 +603,5 @@ module _ (j : ℕ) where
 
     pub keeps-root : (m : ℕ) (c : Option Class) → OtherRoot c → Keeps (read_root e m c)
     unfolding read_root
-    keeps-root m none w = keeps-pass
-    keeps-root m (some c) w = keeps-read m c w
+    keeps-root m None w = keeps-pass
+    keeps-root m (Some c) w = keeps-read m c w

@@ -1,16 +1,15 @@
 -- A packet that goes through goes through at another place in another stream, where the bytes are the same; also from a lower last clock.
 -- What it lists is moved, and the state behind it too.
+use Rattle.std.specs.Prelude.{Option}
 use mathlib.Core.Path.{◌≡◌, refl, sym, ap, ◌∙◌}
 use Prim.Native.Nat.{ℕ, ◌+◌, ◌-◌, ◌*◌, ◌%◌, ◌≤◌}
 use native.Mathlib.Omega.{arith}
 use mathlib.Core.List.{List, ◌∷◌, ◌++◌}
 use mathlib.Core.Bool.{false, not}
-use mathlib.Core.Option.{Option}
 use lib.ListN.{length}
 use lib.Dec.{ltb, eqb}
 use borrow.Author.Tests.{ltb-false}
 use Rattle.rules.specs.declared.BitPlace.{BitPlace}
-use Rattle.rules.specs.declared.Stated.{Stated}
 use Rattle.rules.specs.declared.Entry.{Entry}
 use Rattle.rules.specs.Place.{bit_place, further}
 use Rattle.rules.specs.Entry.{entry, stream_class_found}
@@ -108,7 +107,7 @@ module _ (t : Asked) (b b' : List ℕ) (p p' : BitPlace) (y : Like (to_end t b p
             ∙ ap (λ z. read_events t c n' (bit_place z) 0 (p.0 + content - s.place.0) (far n n' l (less s))) (sym to)
             ∙ w.goes ∙ ap (λ z. go z (far e e' w.l u)) entries
 
-  module _ (rest : ℕ) (i : Stated) (s : State) (es : List Entry) (u : State) (d : Between e s.place.0) (r : Ran t b p rest i s es u)
+  module _ (rest : ℕ) (i : Option ℕ) (s : State) (es : List Entry) (u : State) (d : Between e s.place.0) (r : Ran t b p rest i s es u)
       (low : Low r.c l) where
     abbrev total : ℕ
     total = total_of rest r.s₂

@@ -1,8 +1,7 @@
 -- A packet behind its entry 1, as `read_packet` has it; what stands for lengths that are not stated is a number of its own, `rest`. In
 -- order: the environments of a packet; its parts, from the events up; the packet.
-use Rattle.std.specs.Prelude.{ℕ, ◌+◌, ◌-◌, ◌*◌, ◌%◌, List, Bool, not, ◌||◌, length, ltb, eqb}
+use Rattle.std.specs.Prelude.{ℕ, ◌+◌, ◌-◌, ◌*◌, ◌%◌, List, Bool, not, ◌||◌, length, ltb, eqb, Option}
 use Rattle.rules.specs.declared.BitPlace.{BitPlace}
-use Rattle.rules.specs.declared.Stated.{Stated}
 use Rattle.rules.specs.declared.Refusal.TheVariants.{StreamClassChanged}
 use Rattle.rules.specs.Limits.{words_per_entry}
 use Rattle.rules.specs.Place.{bit_place, further}
@@ -55,7 +54,7 @@ of_class t b p rest i c = mark stream_class_found 0 i ⨾ read_root (to_end t b 
 abbrev pub of_stream : Asked → List ℕ → BitPlace → ℕ → State → Step
 of_stream t b p rest s = with_stream s.said.stream (t.stream s.said.stream) (of_class t b p rest s.said.stream)
 
-abbrev pub packet : Asked → List ℕ → BitPlace → ℕ → Stated → Step
+abbrev pub packet : Asked → List ℕ → BitPlace → ℕ → Option ℕ → Step
 packet t b p rest i =
     change start_packet
     ⨾ read_root (to_end t b p) first_root t.header

@@ -1,4 +1,5 @@
 -- A packet behind its lookup as the code takes it: each stop, and the part that is left behind the context and behind entry 3.
+use Rattle.std.specs.Prelude.{Option, Ok, Err}
 use mathlib.Core.Path.{◌≡◌, refl, ap, sym, ◌∙◌}
 use mathlib.Core.List.{List, [], ◌∷◌, ◌++◌}
 use mathlib.Core.Bool.{Bool, true, false}
@@ -17,11 +18,9 @@ use Rattle.rules.specs.Step.{Out}
 use Rattle.rules.specs.Packet.{read_root, first_root, read_events, read_content, above, or_else}
 use Rattle.listing.specs.declared.Progress.{Progress}
 use Rattle.frame.specs.declared.Frame.{Frame}
-use Rattle.listing.specs.declared.Went.TheVariants.{On, Stopped}
 use Rattle.listing.specs.Did.{Did, full}
 use Rattle.frame.specs.Framed.{Framed, env_of}
 use Rattle.listing.proofs.Parts.{Part}
-use Rattle.class_layout.specs.declared.TablePlace.{TablePlace}
 use Rattle.class_layout.specs.Fragments.{asked_at, stream_class_at}
 use Rattle.laws.specs.Kept.{LeavesUnset}
 use Rattle.field_read.specs.declared.Field.{Field}
@@ -109,7 +108,7 @@ ContentLeft t b p class st l ws r ys total content =
 
 -- the context's root as the code has it
 module _ (t b : List ℕ) (p : BitPlace) (class : ℕ) (st : Progress) (l : Slots) (ws : List ℕ) (u : List ℕ) (v : u ≡ (asked_at t).uuid)
-    (f : Frame) (e : f ≡ whole_frame b p) (x : TablePlace) (k : class_of t x ≡ (stream_class_at t class).context)
+    (f : Frame) (e : f ≡ whole_frame b p) (x : Option ℕ) (k : class_of t x ≡ (stream_class_at t class).context)
     (n : Numbered t x first_root) {r : Field} {ys : List ℕ}
     (d : FieldReads (read_root (env_of b u f) (number_of t x) (class_of t x)) st l r ws ys) where
   abbrev Founded : Out
@@ -123,18 +122,18 @@ module _ (t b : List ℕ) (p : BitPlace) (class : ℕ) (st : Progress) (l : Slot
       r.used r.state r.slots ws ys
   context = rw (v, e, k) at numbered
 
-  pub context-framed : Framed b (whole_frame b p) st.place → r.went ≡ On → Framed b (whole_frame b p) r.state.place
+  pub context-framed : Framed b (whole_frame b p) st.place → r.went ≡ Ok tt → Framed b (whole_frame b p) r.state.place
   context-framed h on = root-framed b (asked_at t).uuid (whole_frame b p) first_root (stream_class_at t class).context l on context h
 
-  pub context-unset : LeavesUnset (stream_class_at t class).context → r.went ≡ On → packet_slots l ≡ l → packet_slots r.slots ≡ r.slots
+  pub context-unset : LeavesUnset (stream_class_at t class).context → r.went ≡ Ok tt → packet_slots l ≡ l → packet_slots r.slots ≡ r.slots
   context-unset keeps on h =
       root-unset b (asked_at t).uuid (whole_frame b p) first_root (stream_class_at t class).context l on context keeps h
 
-  pub context-stopped : (w : Stop) → r.went ≡ Stopped w → RanDid Founded st (stopped_ran w r.used st) ws ys
+  pub context-stopped : (w : Stop) → r.went ≡ Err w → RanDid Founded st (stopped_ran w r.used st) ws ys
   unfolding behind_found
   context-stopped w off = first-stopped _ _ refl context w off
 
-  pub context-part : r.went ≡ On → (total content : ℕ) → total ≡ total_of f p r.state → content ≡ content_of f p r.state
+  pub context-part : r.went ≡ Ok tt → (total content : ℕ) → total ≡ total_of f p r.state → content ≡ content_of f p r.state
       → ContentLeft t b p class st l ws r ys total content
   unfolding behind_found
   context-part on total content h j = part_same _ _ (rw (h, j, e) refl) (part-first _ _ refl context on)

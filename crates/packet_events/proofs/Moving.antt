@@ -1,10 +1,10 @@
 -- An event that goes on has moved, and has not left the frame.
+use Rattle.std.specs.Prelude.{Option, None, Some}
 use mathlib.Core.Path.{◌≡◌, refl, subst}
 use Prim.Native.Nat.{ℕ, ◌+◌, ◌≤◌, ◌<◌}
 use native.Mathlib.Omega.{arith}
 use mathlib.Core.List.{List}
 use mathlib.Core.Bool.{Bool, true, false}
-use mathlib.Core.Option.{Option, none, some}
 use mathlib.Core.Logic.{⊎_elim}
 use lib.Dec.{eqb}
 use borrow.Author.Tests.{eqb-false}
@@ -68,8 +68,8 @@ module _ (e : Env) (q : ℕ) where
     here-look : (s : State) (o : Option EventClass) (s' : State) → Here s'
         → Onward Here (with_event c.id s.said.event o (λ d. mark 5 0 s.said.event ⨾ parts_of e c d) s')
     unfolding with_event refuse mark listed parts_of
-    here-look s none s' h = tt
-    here-look s (some d) s' h =
+    here-look s None s' h = tt
+    here-look s (Some d) s' h =
         row Here (mark 5 0 s.said.event) _ s' h (λ s h. row Here (read_root e _ c.common) _ s (here-root _ c.common s h)
         (λ s h. row Here (read_root e _ d.specific) _ s (here-root _ d.specific s h) (λ s h. here-root _ d.payload s h)))
 

@@ -1,4 +1,5 @@
 -- A packet's events, round by round: what the loop keeps, one event, and entry 7.
+use Rattle.std.specs.Prelude.{Ok, Err, Result, ⊤}
 use mathlib.Core.Path.{◌≡◌, refl, ap, sym, ◌∙◌}
 use Prim.Native.Nat.{ℕ, zero, suc, ◌+◌, ◌-◌, ◌≤◌, ◌<◌}
 use native.Mathlib.Omega.{arith}
@@ -21,8 +22,6 @@ use Rattle.rules.specs.Table.{StreamClass, Asked}
 use Rattle.rules.specs.Packet.{mark, start_event, read_event, read_events, end_packet}
 use Rattle.frame.specs.declared.Frame.{Frame}
 use Rattle.listing.specs.declared.Progress.{Progress}
-use Rattle.listing.specs.declared.Went.{Went}
-use Rattle.listing.specs.declared.Went.TheVariants.{On, Stopped}
 use Rattle.frame.specs.Framed.{Framed, env_of}
 use Rattle.listing.specs.Did.{Did, full, out_of, at_place}
 use Rattle.listing.proofs.Checks.{room-first, no-room-first}
@@ -47,7 +46,7 @@ module _ (a : Asked) (c : StreamClass) (b u : List ℕ) (f : Frame) (to : BitPla
     pub few : n ≤ st.place.0
     pub part : Part o (read_events a c (env_of b u f) to n left) ws₀ ws used st slots
 
-went_on : (o : Out) (es : List Entry) (went : Went) (st : Progress) (l : Slots) (room : ℕ) → o ≡ out_of es went st l room → went ≡ On
+went_on : (o : Out) (es : List Entry) (went : Result ⊤ Stop) (st : Progress) (l : Slots) (room : ℕ) → o ≡ out_of es went st l room → went ≡ Ok tt
     → o ≡ go es (full st l room)
 unfolding out_of
 went_on o es went st l room e on = e ∙ rw (on) refl
@@ -134,16 +133,16 @@ module _ (a : Asked) (c : StreamClass) (b u : List ℕ) (f : Frame) (to : BitPla
       pub round_room : used + r.used ≤ length ws₀
       round_room = back-room (read_event a c (env_of b u f) n) turn did-here
 
-      pub round-stops : (v : Stop) (came : Progress) → r.went ≡ Stopped v → RanDid o came (stopped_ran v (used + r.used) came) ws₀ (merged used ws ys)
+      pub round-stops : (v : Stop) (came : Progress) → r.went ≡ Err v → RanDid o came (stopped_ran v (used + r.used) came) ws₀ (merged used ws ys)
       round-stops v came off = record { slots = given; did = part-stop (read_event a c (env_of b u f) n) Rest turn did-here v came given off }
 
-      pub round-moved : r.went ≡ On → (st.place.0 < r.state.place.0) × (r.state.place.0 ≤ f.bound.0)
+      pub round-moved : r.went ≡ Ok tt → (st.place.0 < r.state.place.0) × (r.state.place.0 ≤ f.bound.0)
       round-moved on =
           onward-out (MovedOn (env_of b u f) (full st w.slots (length (lent used ws)))) _ did-here.listed (full r.state did.slots (length (lent used ws) - r.used))
           (went_on _ _ _ _ _ _ did-here.out on)
           (event-moves (env_of b u f) (full st w.slots (length (lent used ws))) a c n w.framed.begun w.framed.within)
 
-      pub round-goes : r.went ≡ On → Rounding a c b u f to o given ws₀ (merged used ws ys) (used + r.used) r.state (n + 1)
+      pub round-goes : r.went ≡ Ok tt → Rounding a c b u f to o given ws₀ (merged used ws ys) (used + r.used) r.state (n + 1)
       round-goes on =
           let p = round-moved on in
           let h = w.framed in
@@ -180,7 +179,7 @@ module _ (a : Asked) (c : StreamClass) (b u : List ℕ) (f : Frame) (to : BitPla
 
       pub end-listed : (came : Progress) (ys : List ℕ) → words_per_entry ≤ length ws - used
           → ys ≡ words (entry packet_ends to (to.0 - st.place.0) n 0 ∷ []) ++ drop words_per_entry (lent used ws)
-          → RanDid o came (record { went = On; used = used + words_per_entry; state = at_place to st }) ws₀ (merged used ws ys)
+          → RanDid o came (record { went = Ok tt; used = used + words_per_entry; state = at_place to st }) ws₀ (merged used ws ys)
       unfolding end_packet listed
       end-listed came ys h e =
           let long : words_per_entry ≤ length (lent used ws) = omega (arith, lent-room used ws) in

@@ -1,7 +1,7 @@
 -- Fields of an accepted table have a bit or more: where a class stands whole, its lengths are 1 to 64.
+use Rattle.std.specs.Prelude.{Option, None, Some}
 use mathlib.Core.Path.{◌≡◌, refl, subst}
 use mathlib.Core.List.{List, [], ◌∷◌}
-use mathlib.Core.Option.{Option, none, some}
 use Prim.Native.Nat.{ℕ, zero, suc, ◌+◌, ◌≤◌}
 use native.Mathlib.Omega.{arith}
 use Rattle.rules.specs.Limits.{depth_limit}
@@ -10,8 +10,6 @@ use Rattle.rules.specs.Record.{Shape, bit_field, leb_field, signed_leb_field, ze
 use Rattle.rules.specs.Record.{elements_of, option?, options, u8}
 use Rattle.rules.specs.Table.{StreamClass, Asked}
 use Rattle.laws.proofs.Law.{Any, Fits, FitMembers, FitOptions, FitRoot}
-use Rattle.class_layout.specs.declared.TablePlace.{TablePlace}
-use Rattle.class_layout.specs.declared.TablePlace.TheVariants.{At, Nothing}
 use Rattle.class_layout.specs.Trees.{Stood, shape_of, optional_of, members_at, options_at, option_class, class_in, stood_at, class_at}
 use Rattle.class_layout.specs.Trees.{WholeMembers, WholeOptions, WholeIn, IsWhole}
 use Rattle.class_layout.specs.Fragments.{asked_at, stream_class_at, find_stream_at, fragments_of, map_option, root_class, root_place}
@@ -66,28 +64,28 @@ unfolding IsWhole stood_at
 whole-fits t zero p w = absurd w
 whole-fits t (suc d) p w = shape-fits t (IsWhole d t) (stood_at d t) (λ q v. whole-fits t d q v) p (shape_of (u8 t p)) w.parts
 
-found-fits : (t : List ℕ) (x : TablePlace) → RootStands t x → FitRoot Positive Any Any (class_of t x)
+found-fits : (t : List ℕ) (x : Option ℕ) → RootStands t x → FitRoot Positive Any Any (class_of t x)
 unfolding RootStands class_of
-found-fits t Nothing w = tt
-found-fits t (At p) w = whole-fits t depth_limit p w
+found-fits t None w = tt
+found-fits t (Some p) w = whole-fits t depth_limit p w
 
 root-fits : (t : List ℕ) (o i : ℕ) → Fragment t o → FitRoot Positive Any Any (root_class t o i)
 unfolding root_class
 root-fits t o i h = by (root_place t o i) refl
   where
     by : (p : Option ℕ) → root_place t o i ≡ p → FitRoot Positive Any Any (map_option (class_at depth_limit t) p)
-    by none e = unfold map_option in tt
-    by (some p) e = unfold map_option in whole-fits t depth_limit p (h.roots i p e)
+    by None e = unfold map_option in tt
+    by (Some p) e = unfold map_option in whole-fits t depth_limit p (h.roots i p e)
 
-context-fits : (t s : List ℕ) → Sized t s → (i : ℕ) (c : StreamClass) → (asked_at t).stream i ≡ some c
+context-fits : (t s : List ℕ) → Sized t s → (i : ℕ) (c : StreamClass) → (asked_at t).stream i ≡ Some c
     → FitRoot Positive Any Any c.context
 unfolding asked_at
 context-fits t s h i c e = by (find_stream_at t (fragments_of t) i) refl e
   where
-    by : (o : Option ℕ) → find_stream_at t (fragments_of t) i ≡ o → map_option (stream_class_at t) o ≡ some c
+    by : (o : Option ℕ) → find_stream_at t (fragments_of t) i ≡ o → map_option (stream_class_at t) o ≡ Some c
         → FitRoot Positive Any Any c.context
-    by none q e = let z : ◌≡◌ {A = ℕ} 0 1 = unfold map_option in cc in absurd (omega arith)
-    by (some o) q e =
+    by None q e = let z : ◌≡◌ {A = ℕ} 0 1 = unfold map_option in cc in absurd (omega arith)
+    by (Some o) q e =
         let j : stream_class_at t o ≡ c = unfold map_option in cc in
         subst (λ c. FitRoot Positive Any Any c.context) j
         (unfold stream_class_at in root-fits t o 0 (first_holds (SizedFragment t s) (is_stream t i) (fragments_of t) o q h.each).1.stands)
@@ -95,9 +93,9 @@ context-fits t s h i c e = by (find_stream_at t (fragments_of t) i) refl e
 -- what a packet reads before its lengths are known
 pub record Fit (t : Asked) : Type 0 where
   pub header : FitRoot Positive Any Any t.header
-  pub context : (i : ℕ) (c : StreamClass) → t.stream i ≡ some c → FitRoot Positive Any Any c.context
+  pub context : (i : ℕ) (c : StreamClass) → t.stream i ≡ Some c → FitRoot Positive Any Any c.context
 
-pub lent_fits : (t : List ℕ) (x : Notes) (u : List ℕ) (h : TablePlace) (b : List ℕ) → Lent t x u h b → Fit (asked_at t)
+pub lent_fits : (t : List ℕ) (x : Notes) (u : List ℕ) (h : Option ℕ) (b : List ℕ) → Lent t x u h b → Fit (asked_at t)
 lent_fits t x u h b g = record {
   header = subst (FitRoot Positive Any Any) g.header (found-fits t h g.stands);
   context = context-fits t x.sizes g.ready.noted.sized;

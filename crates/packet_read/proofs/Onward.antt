@@ -1,18 +1,16 @@
 -- A packet that goes on has taken a byte or more, and ends at a whole byte of the stream: where a length is stated, the place has moved,
 -- and the content reaches it (34); where none is, the packet runs to the stream's end.
+use Rattle.std.specs.Prelude.{Option, None, Some}
 use mathlib.Core.Path.{◌≡◌, refl, sym, ap, ◌∙◌, subst}
 use mathlib.Core.Logic.{inl, inr}
 use mathlib.Core.List.{List, [], ◌∷◌}
 use mathlib.Core.Bool.{Bool, true, false}
-use mathlib.Core.Option.{Option, none, some}
 use Prim.Native.Nat.{ℕ, zero, suc, ◌+◌, ◌-◌, ◌*◌, ◌%◌, ◌≤◌, ◌<◌}
 use native.Mathlib.Omega.{arith}
 use lib.ListN.{length}
 use lib.Dec.{ltb}
 use borrow.Author.Tests.{ltb-true, ltb-false}
 use Rattle.rules.specs.declared.BitPlace.{BitPlace}
-use Rattle.rules.specs.declared.Stated.{Stated}
-use Rattle.rules.specs.declared.Stated.TheVariants.{Missing}
 use Rattle.rules.specs.Limits.{words_per_entry}
 use Rattle.rules.specs.Place.{further}
 use Rattle.rules.specs.Class.{Class}
@@ -103,7 +101,7 @@ module _ (t : Asked) (w : Fit t) (b : List ℕ) (p : BitPlace) (l : p.0 < 8 * le
       by : Moved e s.place.0 s.said → 0 < total_at s
       by (inl x) =
           let q : total_at s ≡ 8 * length b - p.0 = unfold or_else in
-          ap (λ y. or_else y s.said.content (8 * length b - p.0)) x.0 ∙ ap (λ y. or_else Missing y (8 * length b - p.0)) x.1 in
+          ap (λ y. or_else y s.said.content (8 * length b - p.0)) x.0 ∙ ap (λ y. or_else None y (8 * length b - p.0)) x.1 in
           omega arith
       by (inr x) = omega (arith, n.reach, n.order, x)
 
@@ -150,13 +148,13 @@ module _ (t : Asked) (w : Fit t) (b : List ℕ) (p : BitPlace) (l : p.0 < 8 * le
       onward-after (Inside e) _ (read_root e first_root c.context s) _ (root-inside e first_root c.context f s a)
       (λ s a. content-onward c s a)
 
-  header-onward : (i : Stated) (s : State) → Inside e s → Ends (behind_header t b p i s)
+  header-onward : (i : Option ℕ) (s : State) → Inside e s → Ends (behind_header t b p i s)
   header-onward i s a = same (differs s.said.stream i) refl
     where
       look : differs s.said.stream i ≡ false → words_per_entry ≤ s.room → (x : Option StreamClass) → t.stream s.said.stream ≡ x
           → Ends (behind_header t b p i s)
-      look d r none h = subst Ends (sym (header-unknown t b p i s d r h)) tt
-      look d r (some c) h = subst Ends (sym (header-marked t b p i s d r c h))
+      look d r None h = subst Ends (sym (header-unknown t b p i s d r h)) tt
+      look d r (Some c) h = subst Ends (sym (header-marked t b p i s d r c h))
           (onward-onto (Behind b p.0) (entry stream_class_found s.place 0 s.said.stream 0 ∷ []) (behind_found t b p c (less s))
           (found-onward c (w.context s.said.stream c h) (less s) (record { from = a.from; to = a.to; kept = a.kept })))
 
@@ -168,7 +166,7 @@ module _ (t : Asked) (w : Fit t) (b : List ℕ) (p : BitPlace) (l : p.0 < 8 * le
       same true h = subst Ends (sym (header-differs t b p i s h)) tt
       same false h = room h (ltb s.room words_per_entry) refl
 
-pub packet-onward : (t : Asked) → Fit t → (b : List ℕ) (k : ℕ) (i : Stated) (s : State) → s.place.0 < 8 * length b → s.place.0 % 8 ≡ 0
+pub packet-onward : (t : Asked) → Fit t → (b : List ℕ) (k : ℕ) (i : Option ℕ) (s : State) → s.place.0 < 8 * length b → s.place.0 % 8 ≡ 0
     → Onward (Behind b s.place.0) (read_packet t b k i s)
 packet-onward t w b k i s l z = room (ltb s.room words_per_entry) refl
   where

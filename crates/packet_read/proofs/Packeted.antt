@@ -1,11 +1,10 @@
 -- A packet's steps, of the rules' states: where each stops, and what is left behind entries 1 and 2.
+use Rattle.std.specs.Prelude.{None, Some, Option}
 use mathlib.Core.Path.{◌≡◌, ap, ◌∙◌}
 use mathlib.Core.List.{List, [], ◌∷◌}
 use mathlib.Core.Bool.{true, false}
-use mathlib.Core.Option.{none, some}
 use Prim.Native.Nat.{ℕ, ◌≤◌, ◌<◌}
 use Rattle.rules.specs.declared.BitPlace.{BitPlace}
-use Rattle.rules.specs.declared.Stated.{Stated}
 use Rattle.rules.specs.declared.Refusal.TheVariants.{ListFull, StreamClassChanged, StreamClassUnknown}
 use Rattle.rules.specs.Limits.{words_per_entry}
 use Rattle.rules.specs.Verdict.{stop_at}
@@ -23,7 +22,7 @@ use Rattle.listing.proofs.Marks.{check-stop, check-on, due-stop, mark_on, change
 pub started : (c : Clock) → c.value ≡ 0 → c ≡ record { value = 0 }
 started c e = ap (λ v. record { value = v }) e
 
-module _ (t : Asked) (b : List ℕ) (p : BitPlace) (i : Stated) (s : State) where
+module _ (t : Asked) (b : List ℕ) (p : BitPlace) (i : Option ℕ) (s : State) where
   pub header-differs : differs s.said.stream i ≡ true → behind_header t b p i s ≡ stop [] (stop_at StreamClassChanged s.place)
   unfolding behind_header
   header-differs h = check-stop _ StreamClassChanged _ s h
@@ -34,20 +33,20 @@ module _ (t : Asked) (b : List ℕ) (p : BitPlace) (i : Stated) (s : State) wher
     header-full h = check-on _ StreamClassChanged _ s same ∙ due-stop _ s h
 
     module _ (room : words_per_entry ≤ s.room) where
-      pub header-unknown : t.stream s.said.stream ≡ none
+      pub header-unknown : t.stream s.said.stream ≡ None
           → behind_header t b p i s ≡ stop [] (stop_at (StreamClassUnknown s.said.stream) s.place)
       unfolding behind_header with_stream refuse
       header-unknown h = check-on _ StreamClassChanged _ s same ∙ room-first _ s room
           ∙ ap (λ x. with_stream s.said.stream x (λ c. mark stream_class_found 0 s.said.stream ⨾ behind_found t b p c) s) h
 
-      pub header-marked : (c : StreamClass) → t.stream s.said.stream ≡ some c
+      pub header-marked : (c : StreamClass) → t.stream s.said.stream ≡ Some c
           → behind_header t b p i s ≡ onto (entry stream_class_found s.place 0 s.said.stream 0 ∷ []) (behind_found t b p c (less s))
       unfolding behind_header with_stream
       header-marked c h = check-on _ StreamClassChanged _ s same ∙ room-first _ s room
           ∙ ap (λ x. with_stream s.said.stream x (λ c. mark stream_class_found 0 s.said.stream ⨾ behind_found t b p c) s) h
           ∙ mark_on stream_class_found 0 s.said.stream _ s
 
-module _ (t : Asked) (b : List ℕ) (k : ℕ) (i : Stated) (s : State) where
+module _ (t : Asked) (b : List ℕ) (k : ℕ) (i : Option ℕ) (s : State) where
   abbrev pub behind_start : Step
   behind_start = read_root (packet_env t b s.place) first_root t.header ⨾ behind_header t b s.place i
 

@@ -1,8 +1,6 @@
 -- A packet's steps apart: what comes behind its header; the states in which packets start; and the lent things that they go by.
-use Rattle.std.specs.Prelude.{◌≡◌, List, ℕ, ◌*◌, ◌%◌, ◌≤◌, length}
+use Rattle.std.specs.Prelude.{◌≡◌, List, ℕ, ◌*◌, ◌%◌, ◌≤◌, length, None, Option}
 use Rattle.rules.specs.declared.BitPlace.{BitPlace}
-use Rattle.rules.specs.declared.LastOrder.TheVariants.{Nothing}
-use Rattle.rules.specs.declared.Stated.{Stated}
 use Rattle.rules.specs.declared.Refusal.TheVariants.{StreamClassChanged}
 use Rattle.rules.specs.Limits.{stream_limit}
 use Rattle.rules.specs.Place.{bit_place}
@@ -13,7 +11,6 @@ use Rattle.rules.specs.Table.{Asked}
 use Rattle.rules.specs.Packet.{mark, first_root, differs, with_stream, nothing_said}
 use Rattle.listing.specs.declared.Progress.{Progress}
 use Rattle.listing.specs.Did.{full}
-use Rattle.class_layout.specs.declared.TablePlace.{TablePlace}
 use Rattle.class_layout.specs.Fragments.{asked_at}
 use Rattle.class_layout.specs.Notes.{Notes}
 use Rattle.outcome.specs.declared.Ran.{Ran}
@@ -23,7 +20,7 @@ use Rattle.event_turns.specs.Ready.{Ready}
 use Rattle.packet_content.specs.Pieces.{behind_found}
 
 -- behind the header: 32, the lookup and the rest
-unfoldable pub behind_header : Asked → List ℕ → BitPlace → Stated → Step
+unfoldable pub behind_header : Asked → List ℕ → BitPlace → Option ℕ → Step
 behind_header t b p i =
     check (λ s. differs s.said.stream i) StreamClassChanged
     ⨾ due
@@ -31,14 +28,14 @@ behind_header t b p i =
 
 -- the state of a packet that starts
 unfoldable pub fresh_state : Progress → Progress
-fresh_state st = record { place = st.place; order = Nothing; clock = record { value = 0 }; last = st.last; said = nothing_said }
+fresh_state st = record { place = st.place; order = None; clock = record { value = 0 }; last = st.last; said = nothing_said }
 
 -- the state in which a reading begins
 unfoldable pub first_state : Progress
-first_state = record { place = bit_place 0; order = Nothing; clock = record { value = 0 }; last = 0; said = nothing_said }
+first_state = record { place = bit_place 0; order = None; clock = record { value = 0 }; last = 0; said = nothing_said }
 
 -- the trace class's header and UUID, and a stream that is not too long
-pub record Lent (t : List ℕ) (x : Notes) (u : List ℕ) (h : TablePlace) (b : List ℕ) : Type 0 where
+pub record Lent (t : List ℕ) (x : Notes) (u : List ℕ) (h : Option ℕ) (b : List ℕ) : Type 0 where
   pub ready : Ready t x
   pub stands : RootStands t h
   pub header : class_of t h ≡ (asked_at t).header

@@ -12,18 +12,17 @@ ghost use Rattle.packet_content.specs.Pieces.{whole_frame, Readable};
 ghost use Rattle.class_lookup.specs.Index.{Hints};
 ghost use Rattle.packet_read.specs.Pieces.{behind_header, fresh_state, Lent, Starts, PacketDid};
 
-use class_layout::TablePlace;
 use class_lookup::find_stream_class;
 use clock::Clock;
 use contradictions::differs;
+use listing::Progress;
 use listing::entry::{is_full, write};
-use listing::{Progress, Went};
 use numbers::entries;
 use numbers::limits::WORDS_PER_ENTRY;
 use outcome::{Ran, refused, stopped, with_last};
 use packet_content::{read_of_stream, whole_frame};
 use packet_root::read_root;
-use rules::{BitPlace, Content, Entry, LastOrder, Refusal, Said, Slot, Stated};
+use rules::{BitPlace, Content, Entry, Refusal, Said, Slot};
 
 // The packet that begins at a state, the numberth; the first one's stream class id if it is not the first.
 pub fn read_packet(
@@ -32,10 +31,10 @@ pub fn read_packet(
     aligns: &[u32],
     index: &[u32],
     uuid: &[u8],
-    header: TablePlace,
+    header: Option<usize>,
     stream: &[u8],
     number: u64,
-    first: Stated,
+    first: Option<u64>,
     begun: Progress,
     list: &mut [u64],
 ) -> Ran
@@ -72,15 +71,9 @@ pub fn read_packet(
         &mut list[WORDS_PER_ENTRY..],
     );
     let used = WORDS_PER_ENTRY + h.used;
-    let went = h.went;
-    match went {
-        Went::Stopped(stop) => {
-            return stopped(stop, used, begun);
-        }
-        Went::On => {}
+    if let Err(stop) = h.went {
+        return stopped(stop, used, begun);
     }
-    let state = h.state;
-    let slots = h.slots;
     let r = read_behind_header(
         table,
         sizes,
@@ -90,8 +83,8 @@ pub fn read_packet(
         stream,
         place,
         first,
-        state,
-        slots,
+        h.state,
+        h.slots,
         &mut list[used..],
     );
     with_last(used, r, begun)
@@ -106,7 +99,7 @@ fn read_behind_header(
     uuid: &[u8],
     stream: &[u8],
     start: BitPlace,
-    first: Stated,
+    first: Option<u64>,
     st: Progress,
     slots: [Slot; 64],
     list: &mut [u64],
@@ -127,8 +120,8 @@ fn read_behind_header(
         return refused(Refusal::ListFull, place, 0, st);
     }
     match find_stream_class(table, sizes, id) {
-        TablePlace::Nothing => refused(Refusal::StreamClassUnknown(id), place, 0, st),
-        TablePlace::At(class) => {
+        None => refused(Refusal::StreamClassUnknown(id), place, 0, st),
+        Some(class) => {
             write(
                 list,
                 Entry {
@@ -162,13 +155,11 @@ fn read_behind_header(
 fn fresh(st: Progress) -> Progress
     ensures { result ≡ fresh_state st }
 {
-    let place = st.place;
     Progress {
-        place,
-        order: LastOrder::Nothing,
+        order: None,
         clock: Clock::start(),
-        last: st.last,
         said: nothing_said(),
+        ..st
     }
 }
 
@@ -177,9 +168,9 @@ pub fn nothing_said() -> Said
 {
     Said {
         stream: 0,
-        total: Stated::Missing,
-        content: Stated::Missing,
-        ending: Stated::Missing,
+        total: None,
+        content: None,
+        ending: None,
         event: 0,
     }
 }

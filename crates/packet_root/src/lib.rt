@@ -7,11 +7,10 @@ ghost use Rattle.class_layout.specs.Notes.{notes, Prepared};
 ghost use Rattle.field_read.specs.Reads.{FieldReads};
 ghost use Rattle.event_turns.specs.Roots.{class_of, number_of, RootStands};
 
-use class_layout::TablePlace;
 use field_read::Field;
 use field_read::walk::walk_members;
 use frame::Frame;
-use listing::{Progress, Went};
+use listing::Progress;
 use numbers::limits::DEPTH_LIMIT;
 use rules::Slot;
 
@@ -23,7 +22,7 @@ pub fn read_root(
     uuid: &[u8],
     stream: &[u8],
     frame: Frame,
-    root: TablePlace,
+    root: Option<usize>,
     st: Progress,
     slots: [Slot; 64],
     list: &mut [u64],
@@ -37,13 +36,13 @@ pub fn read_root(
         st slots result list.old list.new }
 {
     match root {
-        TablePlace::Nothing => Field {
-            went: Went::On,
+        None => Field {
+            went: Ok(()),
             used: 0,
             state: st,
             slots,
         },
-        TablePlace::At(at) => walk_members(
+        Some(at) => walk_members(
             table,
             sizes,
             aligns,

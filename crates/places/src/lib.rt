@@ -1,5 +1,6 @@
 // Places in bits and lengths in bytes: aligning, going on, and the only functions that go from one of the two types to the other.
-// A stream of 536,870,911 bytes has no place above 2 to the 32, so that all of its places are far below what the functions ask.
+// A stream of 536,870,911 bytes has no place above 2 to the 32, so that all of its places are far below what the functions ask. None is a
+// `From`, which may neither ask anything nor drop bits.
 #![tactic(auto)]
 
 ghost use Rattle.std.specs.Prelude.{◌≡◌, ◌+◌, ◌*◌, ◌/◌, ◌^◌, ◌<◌, ◌≤◌};
@@ -15,6 +16,7 @@ pub fn align(place: BitPlace, start: BitPlace, exponent: u64) -> BitPlace
     BitPlace(aligned(place.0, start.0, exponent))
 }
 
+// By hand: `next_multiple_of` asks first whether anything is left over, a test and a move more for each field.
 fn aligned(place: u64, start: u64, exponent: u64) -> u64
     requires { (start ≤ place) × (exponent ≤ 6) × (place + 64 ≤ 2 ^ 64) }
     ensures { result ≡ align_from start (2 ^ exponent) place }

@@ -1,4 +1,5 @@
 -- Demand 1, and what less room does: of every call that meets the contract.
+use Rattle.std.specs.Prelude.{None, Err}
 use mathlib.Core.Path.{◌≡◌, refl, sym, ap, subst, ◌∙◌}
 use mathlib.Core.Logic.{◌⊎◌, inl, inr}
 use Prim.Native.Nat.{ℕ, ◌+◌, ◌-◌, ◌*◌, ◌/◌, ◌≤◌, ◌<◌}
@@ -15,11 +16,9 @@ use Rattle.rules.specs.declared.Refusal.TheVariants.{StreamClassChanged, StreamC
 use Rattle.rules.specs.declared.Refusal.TheVariants.{ClockTooLarge, EventClassUnknown, EventTookNoBits, ClockWentBack, ListFull, NotText}
 use Rattle.rules.specs.declared.Verdict.{Verdict}
 use Rattle.rules.specs.declared.Verdict.TheVariants.{Accepted, TableRefused, Refused}
-use Rattle.rules.specs.declared.Checked.TheVariants.{Refused as CheckRefused}
 use Rattle.rules.specs.Limits.{words_per_entry}
 use Rattle.rules.specs.Entry.{words}
-use Rattle.rules.specs.Verdict.{stop_at, refusal_number, refusal_first, refusal_second, number_of, place_of, first_of, second_of}
-use Rattle.rules.specs.declared.Stated.TheVariants.{Missing}
+use Rattle.rules.specs.Verdict.{stop_at, refusal_number, refusal_first, refusal_second, number_of, place_of, first_of, second_of, table_fault}
 use Rattle.rules.specs.Limits.{stream_limit}
 use Rattle.rules.specs.Place.{bit_place}
 use Rattle.rules.specs.Step.{Out, stop, go}
@@ -124,14 +123,14 @@ stream-not-20 t b room = by (eqb (length b) 0 || ltb stream_limit (length b))
     of : Bool → Reading
     of c = elim c [
       | true ↦ record { entries = []; verdict = Refused (stop_at StreamSize (bit_place 0)) }
-      | false ↦ ended (read_packets t b 0 Missing (length b) (begin room))
+      | false ↦ ended (read_packets t b 0 None (length b) (begin room))
     ]
 
     by : (c : Bool) → number_of (of c).verdict ≡ 20 → ⊥
     by true h = unfold number_of refusal_number in omega arith
     by false h = ended-not-20 _ h
 
-placed-bad : (x b : List ℕ) (n : ℕ) (y : List ℕ) → checked x ≡ CheckRefused n (byte_of x y) → (1 ≤ n) × (n ≤ 15)
+placed-bad : (x b : List ℕ) (n : ℕ) (y : List ℕ) → checked x ≡ Err (table_fault n (byte_of x y)) → (1 ≤ n) × (n ≤ 15)
     → Placed x b (record { entries = []; verdict = TableRefused n (byte_of x y) })
 unfolding number_of place_of result_of first_of byte_of
 placed-bad x b n y k h = record {
@@ -147,7 +146,7 @@ placed x b room = by (parse x) refl
     by (bad n y) e =
         let q : read_all x b room ≡ record { entries = []; verdict = TableRefused n (byte_of x y) } =
         unfold read_all read_parsed in rw (e, read_all) refl in
-        let k : checked x ≡ CheckRefused n (byte_of x y) = unfold checked checked_of in rw (e, checked) refl in
+        let k : checked x ≡ Err (table_fault n (byte_of x y)) = unfold checked checked_of in rw (e, checked) refl in
         subst (Placed x b) (sym q) (placed-bad x b n y k (refused-number x n y e))
     by (good t y) e =
         let w = the_laws x t y e in

@@ -1,19 +1,17 @@
 -- Packets stand on their own. Along the packets of an accepted stream: those before the removed one read as they did, since they end
 -- before the streams part; then it is passed over; those behind it go on by `Onwards`. In order: a round of the packet loop; what the
 -- list shows of a packet; the stream without it; the reading; all of it; figures.
+use Rattle.std.specs.Prelude.{None, Some, Option}
 use mathlib.Core.Path.{◌≡◌, refl, sym, ap, ◌∙◌, subst}
 use mathlib.Core.Logic.{◌⊎◌, inl, inr, ⊎_elim}
 use Prim.Native.Nat.{ℕ, zero, suc, ◌+◌, ◌-◌, ◌*◌, ◌/◌, ◌%◌, ◌≤◌, ◌<◌}
 use native.Mathlib.Omega.{arith}
 use mathlib.Core.List.{List, [], ◌++◌, map, append_assoc}
 use mathlib.Core.Bool.{Bool, true, false, ◌||◌}
-use mathlib.Core.Option.{none, some}
 use lib.ListN.{length, take, drop, length-drop, length-append, take-append-drop}
 use lib.Seq.{length-take-le, drop-drop, drop_at}
 use lib.Dec.{ltb, eqb}
 use borrow.Author.Tests.{ltb-true, ltb-false, lt-ltb, le-ltb, ne_eqb}
-use Rattle.rules.specs.declared.Stated.{Stated}
-use Rattle.rules.specs.declared.Stated.TheVariants.{Missing, As}
 use Rattle.rules.specs.declared.Entry.{Entry}
 use Rattle.rules.specs.declared.Refusal.TheVariants.{StreamSize}
 use Rattle.rules.specs.declared.Verdict.TheVariants.{Accepted, Refused}
@@ -50,13 +48,13 @@ use Rattle.promises.proofs.Cut.{before-skip, from-skip, packet-passed, before_at
 module _ (t : Asked) (w : Fitting Positive (λ r. Any) Any t) (only : HeaderOnly t) (b : List ℕ) where
   -- A round of the packet loop: it is over, or a packet is read and the loop goes on behind it
 
-  record Round (k : ℕ) (i : Stated) (left : ℕ) (s : State) (es : List Entry) (u : State) : Type 0 where
+  record Round (k : ℕ) (i : Option ℕ) (left : ℕ) (s : State) (es : List Entry) (u : State) : Type 0 where
     first : List Entry
     middle : State
     second : List Entry
     place : s.place.0 < 8 * length b
     goes : read_packet t b k i s ≡ go first middle
-    goes_on : read_packets t b (k + 1) (As middle.said.stream) left middle ≡ go second u
+    goes_on : read_packets t b (k + 1) (Some middle.said.stream) left middle ≡ go second u
     list : es ≡ first ++ second
     packet : Whole t b k i s first middle
 
@@ -64,14 +62,14 @@ module _ (t : Asked) (w : Fitting Positive (λ r. Any) Any t) (only : HeaderOnly
   unfolding pass
   nothing s es u q = let f : [] ≡ es = cc in sym f
 
-  round : (k : ℕ) (i : Stated) (left : ℕ) (s : State) (es : List Entry) (u : State) → s.place.0 % 8 ≡ 0
+  round : (k : ℕ) (i : Option ℕ) (left : ℕ) (s : State) (es : List Entry) (u : State) → s.place.0 % 8 ≡ 0
       → read_packets t b k i (suc left) s ≡ go es u
       → (es ≡ []) ⊎ Round k i left s es u
   unfolding read_packets
   round k i left s es u z q = by (ltb s.place.0 (8 * length b)) refl q
     where
       next : Step
-      next s = read_packets t b (k + 1) (As s.said.stream) left s
+      next s = read_packets t b (k + 1) (Some s.said.stream) left s
 
       by : (x : Bool) → ltb s.place.0 (8 * length b) ≡ x → elim x [ true ↦ (read_packet t b k i ⨾ next) s | false ↦ pass s ] ≡ go es u
           → (es ≡ []) ⊎ Round k i left s es u
@@ -89,12 +87,12 @@ module _ (t : Asked) (w : Fitting Positive (λ r. Any) Any t) (only : HeaderOnly
             packet = whole-packet t w b k i s g.first g.middle (ltb-true _ _ h) z g.goes;
           })
 
-  none_left : (k : ℕ) (i : Stated) (s : State) (es : List Entry) (u : State) → read_packets t b k i zero s ≡ go es u → es ≡ []
+  none_left : (k : ℕ) (i : Option ℕ) (s : State) (es : List Entry) (u : State) → read_packets t b k i zero s ≡ go es u → es ≡ []
   unfolding read_packets
   none_left k i s es u q = nothing s es u q
 
   -- what the list shows of its first packet and of those behind it
-  module _ (k : ℕ) (i : Stated) (left : ℕ) (s : State) (es : List Entry) (u : State) (r : Round k i left s es u) where
+  module _ (k : ℕ) (i : Option ℕ) (left : ℕ) (s : State) (es : List Entry) (u : State) (r : Round k i left s es u) where
     abbrev others : List Entry
     others = r.packet.others
 
@@ -129,7 +127,7 @@ module _ (t : Asked) (w : Fitting Positive (λ r. Any) Any t) (only : HeaderOnly
     before_here = ap (before_packet k) r.list ∙ before_at s.place k r.first others r.packet.list r.packet.none r.second
 
   -- a list begins with its first packet
-  from_first : (left k : ℕ) (i : Stated) (s : State) (es : List Entry) (u : State) → s.place.0 % 8 ≡ 0
+  from_first : (left k : ℕ) (i : Option ℕ) (s : State) (es : List Entry) (u : State) → s.place.0 % 8 ≡ 0
       → read_packets t b k i left s ≡ go es u → from_packet k es ≡ es
   from_first left k i s es u z q = by left q
     where
@@ -141,17 +139,17 @@ module _ (t : Asked) (w : Fitting Positive (λ r. Any) Any t) (only : HeaderOnly
       by (suc left) q = ⊎_elim empty (from-here k i left s es u) (round k i left s es u z q)
 
   -- each packet takes a byte or more
-  bytes-taken : (left k : ℕ) (i : Stated) (s : State) (es : List Entry) (u : State) → s.place.0 % 8 ≡ 0 → s.place.0 ≤ 8 * length b
+  bytes-taken : (left k : ℕ) (i : Option ℕ) (s : State) (es : List Entry) (u : State) → s.place.0 % 8 ≡ 0 → s.place.0 ≤ 8 * length b
       → read_packets t b k i left s ≡ go es u → s.place.0 + 8 * packets_in es ≤ 8 * length b
   bytes-taken zero k i s es u z l q =
       let e : packets_in es ≡ 0 = ap packets_in (none_left k i s es u q) ∙ (unfold packets_in in refl) in
       omega arith
   bytes-taken (suc left) k i s es u z l q =
-      by (round k i left s es u z q) (λ m fs z l q. bytes-taken left (k + 1) (As m.said.stream) m fs u z l q)
+      by (round k i left s es u z q) (λ m fs z l q. bytes-taken left (k + 1) (Some m.said.stream) m fs u z l q)
     where
       by : (es ≡ []) ⊎ Round k i left s es u
           → ((m : State) (fs : List Entry) → m.place.0 % 8 ≡ 0 → m.place.0 ≤ 8 * length b
-          → read_packets t b (k + 1) (As m.said.stream) left m ≡ go fs u
+          → read_packets t b (k + 1) (Some m.said.stream) left m ≡ go fs u
           → m.place.0 + 8 * packets_in fs ≤ 8 * length b) → s.place.0 + 8 * packets_in es ≤ 8 * length b
       by (inl e) rec =
           let n : packets_in es ≡ 0 = ap packets_in e ∙ (unfold packets_in in refl) in
@@ -172,7 +170,7 @@ module _ (t : Asked) (w : Fitting Positive (λ r. Any) Any t) (only : HeaderOnly
     -- the others take a byte or more each
     leaves : s.place.0 + total_in (from_packet n es) + 8 * packets_in es ≤ 8 * length b + 8
 
-  found_here : (k : ℕ) (i : Stated) (left : ℕ) (s : State) (es : List Entry) (u : State) → s.place.0 % 8 ≡ 0 → Round k i left s es u
+  found_here : (k : ℕ) (i : Option ℕ) (left : ℕ) (s : State) (es : List Entry) (u : State) → s.place.0 % 8 ≡ 0 → Round k i left s es u
       → PacketShown k s es
   found_here k i left s es u z r =
       let p : place_in (from_packet k es) ≡ s.place.0 = place_here k i left s es u r in
@@ -193,7 +191,7 @@ module _ (t : Asked) (w : Fitting Positive (λ r. Any) Any t) (only : HeaderOnly
             omega arith;
       }
 
-  found-later : (n k : ℕ) (i : Stated) (left : ℕ) (s : State) (es : List Entry) (u : State) → (k ≡ n → ⊥) → (r : Round k i left s es u)
+  found-later : (n k : ℕ) (i : Option ℕ) (left : ℕ) (s : State) (es : List Entry) (u : State) → (k ≡ n → ⊥) → (r : Round k i left s es u)
       → PacketShown n r.middle r.second → PacketShown n s es
   found-later n k i left s es u d r f =
       let g : from_packet n es ≡ from_packet n r.second = from-later k i left s es u r n d in
@@ -217,17 +215,17 @@ module _ (t : Asked) (w : Fitting Positive (λ r. Any) Any t) (only : HeaderOnly
         leaves = omega arith;
       }
 
-  found : (left n k : ℕ) (i : Stated) (s : State) (es : List Entry) (u : State) → s.place.0 % 8 ≡ 0
+  found : (left n k : ℕ) (i : Option ℕ) (s : State) (es : List Entry) (u : State) → s.place.0 % 8 ≡ 0
       → read_packets t b k i left s ≡ go es u → k ≤ n
       → n < k + packets_in es → PacketShown n s es
   found zero n k i s es u z q l h =
       let e : packets_in es ≡ 0 = ap packets_in (none_left k i s es u q) ∙ (unfold packets_in in refl) in
       absurd (omega arith)
   found (suc left) n k i s es u z q l h =
-      by (round k i left s es u z q) (λ m fs z q l h. found left n (k + 1) (As m.said.stream) m fs u z q l h)
+      by (round k i left s es u z q) (λ m fs z q l h. found left n (k + 1) (Some m.said.stream) m fs u z q l h)
     where
       by : (es ≡ []) ⊎ Round k i left s es u
-          → ((m : State) (fs : List Entry) → m.place.0 % 8 ≡ 0 → read_packets t b (k + 1) (As m.said.stream) left m ≡ go fs u
+          → ((m : State) (fs : List Entry) → m.place.0 % 8 ≡ 0 → read_packets t b (k + 1) (Some m.said.stream) left m ≡ go fs u
           → k + 1 ≤ n
           → n < k + 1 + packets_in fs → PacketShown n m fs) → PacketShown n s es
       by (inl e) rec =
@@ -269,13 +267,13 @@ module _ (t : Asked) (w : Fitting Positive (λ r. Any) Any t) (only : HeaderOnly
             ∙ ap (drop m) (sym (drop_at shared (drop ((place + total) / 8) b) (place / 8) shared-length))
             ∙ drop-drop m (place / 8) b' ∙ ap (λ n. drop n b') y
 
-    record Removed (n k : ℕ) (i : Stated) (left : ℕ) (s : State) (es : List Entry) (u : State) : Type 0 where
+    record Removed (n k : ℕ) (i : Option ℕ) (left : ℕ) (s : State) (es : List Entry) (u : State) : Type 0 where
       u' : State
       goes : read_packets t b' k i left s ≡ go (before_packet n es ++ map (lower total) (from_packet (suc n) es)) u'
       end : u'.place.0 + total ≡ u.place.0
 
     -- the packet itself
-    removed-here : (k : ℕ) (i : Stated) (left : ℕ) (s : State) (es : List Entry) (u : State) → s.place.0 % 8 ≡ 0
+    removed-here : (k : ℕ) (i : Option ℕ) (left : ℕ) (s : State) (es : List Entry) (u : State) → s.place.0 % 8 ≡ 0
         → 8 * length b ≤ s.place.0 + 8 * suc left
         → Round k i left s es u → place_in (from_packet k es) ≡ place → total_in (from_packet k es) ≡ total → Removed k k i (suc left) s es u
     removed-here k i left s es u z f r p q =
@@ -293,10 +291,10 @@ module _ (t : Asked) (w : Fitting Positive (λ r. Any) Any t) (only : HeaderOnly
         class-is : j ≡ r.packet.ran.s₁.said.stream
         class-is = ends-class t b s.place _ i (less s) r.packet.others r.middle r.packet.ran only
 
-        class-found : t.stream j ≡ some r.packet.ran.c
+        class-found : t.stream j ≡ Some r.packet.ran.c
         class-found = ends_found t b s.place _ i (less s) r.packet.others r.middle r.packet.ran only
 
-        o : Onwards t total ((place + total) / 8) (k + 1) k (As j) i r.middle s
+        o : Onwards t total ((place + total) / 8) (k + 1) k (Some j) i r.middle s
         o = record {
           place = to;
           whole = r.packet.whole;
@@ -307,14 +305,14 @@ module _ (t : Asked) (w : Fitting Positive (λ r. Any) Any t) (only : HeaderOnly
           first = refl;
           same = ap (λ n. differs n i) class-is ∙ r.packet.ran.same;
           last = λ c h timed.
-              let e : some r.packet.ran.c ≡ some c = sym class-found ∙ h in
+              let e : Some r.packet.ran.c ≡ Some c = sym class-found ∙ h in
               let g : r.packet.ran.c ≡ c = cc in
               ends-no-earlier t b s.place _ i (less s) r.packet.others r.middle r.packet.ran only (ap (λ d. d.timed) g
               ∙ timed);
         }
 
         x : Rest t w only b b' total ((place + total) / 8) gap k i left s r.second u
-        x = onward-packets t w only b b' total ((place + total) / 8) gap left (k + 1) k (As j) i r.middle s r.second u o r.goes_on
+        x = onward-packets t w only b b' total ((place + total) / 8) gap left (k + 1) k (Some j) i r.middle s r.second u o r.goes_on
 
         rounds : read_packets t b' k i (suc left) s ≡ read_packets t b' k i left s
         rounds =
@@ -325,21 +323,21 @@ module _ (t : Asked) (w : Fitting Positive (λ r. Any) Any t) (only : HeaderOnly
         later =
             let e : suc k ≡ k + 1 = omega arith in
             from-later k i left s es u r (suc k) (λ d. omega arith) ∙ ap (λ n. from_packet n r.second) e
-            ∙ from_first left (k + 1) (As j) r.middle r.second u r.packet.whole r.goes_on
+            ∙ from_first left (k + 1) (Some j) r.middle r.second u r.packet.whole r.goes_on
 
         list : before_packet k es ++ map (lower total) (from_packet (suc k) es) ≡ map (lower total) r.second
         list = ap (λ l. l ++ map (lower total) (from_packet (suc k) es)) (before_here k i left s es u r) ∙ ap (map (lower total)) later
 
     -- a packet before it
-    removed-later : (n k : ℕ) (i : Stated) (left : ℕ) (s : State) (es : List Entry) (u : State) → s.place.0 % 8 ≡ 0 → k < n
+    removed-later : (n k : ℕ) (i : Option ℕ) (left : ℕ) (s : State) (es : List Entry) (u : State) → s.place.0 % 8 ≡ 0 → k < n
         → (r : Round k i left s es u)
-        → r.middle.place.0 ≤ place → Removed n (k + 1) (As r.middle.said.stream) left r.middle r.second u
+        → r.middle.place.0 ≤ place → Removed n (k + 1) (Some r.middle.said.stream) left r.middle r.second u
         → Removed n k i (suc left) s es u
     unfolding read_packets
     removed-later n k i left s es u z h r l x = record { u' = x.u'; goes = ap whole test ∙ both; end = x.end }
       where
         next : Step
-        next s = read_packets t b' (k + 1) (As s.said.stream) left s
+        next s = read_packets t b' (k + 1) (Some s.said.stream) left s
 
         whole : Bool → Out
         whole y = elim y [ true ↦ (read_packet t b' k i ⨾ next) s | false ↦ pass s ]
@@ -370,7 +368,7 @@ module _ (t : Asked) (w : Fitting Positive (λ r. Any) Any t) (only : HeaderOnly
         both : (read_packet t b' k i ⨾ next) s ≡ go (before_packet n es ++ map (lower total) (from_packet (suc n) es)) x.u'
         both = join (read_packet t b' k i) next s r.first r.middle _ x.u' there x.goes ∙ ap (λ l. go l x.u') list
 
-    removed : (left n k : ℕ) (i : Stated) (s : State) (es : List Entry) (u : State) → s.place.0 % 8 ≡ 0
+    removed : (left n k : ℕ) (i : Option ℕ) (s : State) (es : List Entry) (u : State) → s.place.0 % 8 ≡ 0
         → 8 * length b ≤ s.place.0 + 8 * left
         → read_packets t b k i left s ≡ go es u → k ≤ n → n < k + packets_in es → place_in (from_packet n es) ≡ place
         → total_in (from_packet n es) ≡ total
@@ -379,13 +377,13 @@ module _ (t : Asked) (w : Fitting Positive (λ r. Any) Any t) (only : HeaderOnly
         let e : packets_in es ≡ 0 = ap packets_in (none_left k i s es u q) ∙ (unfold packets_in in refl) in
         absurd (omega arith)
     removed (suc left) n k i s es u z f q l h p c =
-        by (round k i left s es u z q) (λ m fs z f q l h p c. removed left n (k + 1) (As m.said.stream) m fs u z f q l h p c)
+        by (round k i left s es u z q) (λ m fs z f q l h p c. removed left n (k + 1) (Some m.said.stream) m fs u z f q l h p c)
       where
         by : (es ≡ []) ⊎ Round k i left s es u
             → ((m : State) (fs : List Entry) → m.place.0 % 8 ≡ 0 → 8 * length b ≤ m.place.0 + 8 * left
-            → read_packets t b (k + 1) (As m.said.stream) left m ≡ go fs u
+            → read_packets t b (k + 1) (Some m.said.stream) left m ≡ go fs u
             → k + 1 ≤ n → n < k + 1 + packets_in fs → place_in (from_packet n fs) ≡ place → total_in (from_packet n fs) ≡ total
-            → Removed n (k + 1) (As m.said.stream) left m fs u) → Removed n k i (suc left) s es u
+            → Removed n (k + 1) (Some m.said.stream) left m fs u) → Removed n k i (suc left) s es u
         by (inl e) rec =
             let d : packets_in es ≡ 0 = ap packets_in e ∙ (unfold packets_in in refl) in
             absurd (omega arith)
@@ -397,7 +395,7 @@ module _ (t : Asked) (w : Fitting Positive (λ r. Any) Any t) (only : HeaderOnly
                 let v : from_packet n es ≡ from_packet n r.second = from-later k i left s es u r n (λ d. omega arith) in
                 let a : place_in (from_packet n r.second) ≡ place = ap place_in (sym v) ∙ p in
                 let y : PacketShown n r.middle r.second =
-                found left n (k + 1) (As r.middle.said.stream) r.middle r.second u r.packet.whole r.goes_on
+                found left n (k + 1) (Some r.middle.said.stream) r.middle r.second u r.packet.whole r.goes_on
                 (omega arith) m in
                 let d : r.middle.place.0 ≤ place_in (from_packet n r.second) = y.from in
                 removed-later n k i left s es u z g r (omega arith)
@@ -422,7 +420,7 @@ module _ (t : Asked) (w : Fitting Positive (λ r. Any) Any t) (only : HeaderOnly
               Accepted (bit_place (8 * length b - total_in (from_packet n r.entries)));
         }
 
-    module _ (es : List Entry) (u : State) (q : read_packets t b 0 Missing (length b) (begin room) ≡ go es u)
+    module _ (es : List Entry) (u : State) (q : read_packets t b 0 None (length b) (begin room) ≡ go es u)
         (size : eqb (length b) 0 || ltb stream_limit (length b) ≡ false) (two : 1 < packets_in es) (one : n < packets_in es) where
       abbrev place : ℕ
       place = place_in (from_packet n es)
@@ -439,13 +437,13 @@ module _ (t : Asked) (w : Fitting Positive (λ r. Any) Any t) (only : HeaderOnly
       whole-start = refl
 
       f : PacketShown n (begin room) es
-      f = found (length b) n 0 Missing (begin room) es u whole-start q (omega arith) (omega arith)
+      f = found (length b) n 0 None (begin room) es u whole-start q (omega arith) (omega arith)
 
       abbrev left : List ℕ
       left = take (place / 8) b ++ drop ((place + total) / 8) b
 
-      x : Removed place total f.whole f.whole-total f.takes f.in_stream n 0 Missing (length b) (begin room) es u
-      x = removed place total f.whole f.whole-total f.takes f.in_stream (length b) n 0 Missing (begin room) es u whole-start
+      x : Removed place total f.whole f.whole-total f.takes f.in_stream n 0 None (length b) (begin room) es u
+      x = removed place total f.whole f.whole-total f.takes f.in_stream (length b) n 0 None (begin room) es u whole-start
           (omega arith) q
           (omega arith) (omega arith) refl refl
 
@@ -464,14 +462,14 @@ module _ (t : Asked) (w : Fitting Positive (λ r. Any) Any t) (only : HeaderOnly
 
       ends : u.place.0 ≡ 8 * length b
       ends = subst (Onward (λ s. s.place.0 ≡ 8 * length b)) q
-          (go-packets t w b 0 Missing (length b) (begin room) whole-start (omega (arith, at_zero)) (omega arith)).1
+          (go-packets t w b 0 None (length b) (begin room) whole-start (omega (arith, at_zero)) (omega arith)).1
 
       -- as many rounds as it has bytes
-      rounds : read_packets t left 0 Missing (length left) (begin room) ≡ read_packets t left 0 Missing (length b) (begin room)
+      rounds : read_packets t left 0 None (length left) (begin room) ≡ read_packets t left 0 None (length b) (begin room)
       rounds =
           let e : length b ≡ length left + total / 8 = omega (arith, left-length, f.whole-total) in
-          sym (ap (λ m. read_packets t left 0 Missing m (begin room)) e
-          ∙ packet-rounds t w left 0 Missing (length left) (total / 8) (begin room) whole-start (omega arith))
+          sym (ap (λ m. read_packets t left 0 None m (begin room)) e
+          ∙ packet-rounds t w left 0 None (length left) (total / 8) (begin room) whole-start (omega arith))
 
       end-place : x.u'.place ≡ bit_place (8 * length b - total)
       end-place =
@@ -485,7 +483,7 @@ module _ (t : Asked) (w : Fitting Positive (λ r. Any) Any t) (only : HeaderOnly
       without =
           ap (λ y. elim y [
             | true ↦ record { entries = []; verdict = Refused (stop_at StreamSize (bit_place 0)) }
-            | false ↦ ended (read_packets t left 0 Missing (length left) (begin room))
+            | false ↦ ended (read_packets t left 0 None (length left) (begin room))
           ]) left-size
           ∙ ap ended (rounds ∙ x.goes)
           ∙ ap (λ p. record { entries = before_packet n es ++ map (lower total) (from_packet (suc n) es); verdict = Accepted p }) end-place
@@ -493,7 +491,7 @@ module _ (t : Asked) (w : Fitting Positive (λ r. Any) Any t) (only : HeaderOnly
     stream-without : Without (read_stream t b room)
     stream-without = by (eqb (length b) 0 || ltb stream_limit (length b)) refl
       where
-        of : (o : Out) → read_packets t b 0 Missing (length b) (begin room) ≡ o → eqb (length b) 0 || ltb stream_limit (length b) ≡ false
+        of : (o : Out) → read_packets t b 0 None (length b) (begin room) ≡ o → eqb (length b) 0 || ltb stream_limit (length b) ≡ false
             → Without (ended o)
         of (stop es v) q h z = unfold ended number_of in absurd (omega (arith, (refusal_number-bounds v.why).0))
         of (go es u) q h z = unfold ended in λ two one. without es u q h two one
@@ -501,7 +499,7 @@ module _ (t : Asked) (w : Fitting Positive (λ r. Any) Any t) (only : HeaderOnly
         reading : Bool → Reading
         reading y = elim y [
           | true ↦ record { entries = []; verdict = Refused (stop_at StreamSize (bit_place 0)) }
-          | false ↦ ended (read_packets t b 0 Missing (length b) (begin room))
+          | false ↦ ended (read_packets t b 0 None (length b) (begin room))
         ]
 
         is : read_stream t b room ≡ reading (eqb (length b) 0 || ltb stream_limit (length b))
@@ -509,7 +507,7 @@ module _ (t : Asked) (w : Fitting Positive (λ r. Any) Any t) (only : HeaderOnly
 
         by : (y : Bool) → eqb (length b) 0 || ltb stream_limit (length b) ≡ y → Without (read_stream t b room)
         by true h = subst Without (sym (is ∙ ap reading h)) (unfold number_of refusal_number in λ z. absurd (omega arith))
-        by false h = subst Without (sym (is ∙ ap reading h)) (of (read_packets t b 0 Missing (length b) (begin room)) refl h)
+        by false h = subst Without (sym (is ∙ ap reading h)) (of (read_packets t b 0 None (length b) (begin room)) refl h)
 
 -- All of it
 

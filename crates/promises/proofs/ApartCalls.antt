@@ -5,7 +5,7 @@ use Prim.Native.Nat.{ℕ, ◌-◌, ◌*◌, ◌<◌}
 use mathlib.Core.List.{List}
 use lib.ListN.{length}
 use Rattle.rules.specs.declared.Entry.{Entry}
-use Rattle.rules.specs.declared.Result.{Result}
+use Rattle.rules.specs.declared.Report.{Report}
 use Rattle.rules.specs.declared.Verdict.TheVariants.{Accepted}
 use Rattle.rules.specs.Place.{bit_place}
 use Rattle.rules.specs.Verdict.{number_of, place_of, first_of, second_of}
@@ -47,7 +47,7 @@ module _ (x b b' : List ℕ) (c d : Call) (h : Contract x b c) (h' : Contract x 
 pub apart-calls : ApartOfCalls
 apart-calls x b b' c d h h' k z two one e n = removed x b b' c d h h' k z two one e n
 
-pub two-streams : (x b b' : List ℕ) (r : Result) (ws ws' : List ℕ) (r' : Result) (vs vs' : List ℕ) → Ensured x b r ws ws'
+pub two-streams : (x b b' : List ℕ) (r : Report) (ws ws' : List ℕ) (r' : Report) (vs vs' : List ℕ) → Ensured x b r ws ws'
     → Ensured x b' r' vs vs'
     → TwoStreams x b b' (call r ws ws') (call r' vs vs')
 two-streams x b b' r ws ws' r' vs vs' e f =

@@ -1,6 +1,6 @@
 -- Inside a packet the place stays between the packet's start and the bound; and behind a stated length it has moved.
+use Rattle.std.specs.Prelude.{Option}
 use Prim.Native.Nat.{ℕ, ◌≤◌}
-use mathlib.Core.Option.{Option}
 use Rattle.rules.specs.declared.Refusal.{Refusal}
 use Rattle.rules.specs.Verdict.{stop_at}
 use Rattle.rules.specs.Step.{State, Step}

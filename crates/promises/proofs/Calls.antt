@@ -1,10 +1,10 @@
 -- Calls that meet the contract: their lists hold the rules' entries, and the demands hold of them.
+use Rattle.std.specs.Prelude.{None, Some}
 use mathlib.Core.Path.{◌≡◌, refl, sym, ap, subst, ◌∙◌}
 use Prim.Native.Nat.{ℕ, ◌*◌, ◌≤◌, ◌<◌}
 use native.Mathlib.Omega.{arith}
 use mathlib.Core.List.{List, [], ◌∷◌, ◌++◌, append_assoc}
 use mathlib.Core.Bool.{Bool}
-use mathlib.Core.Option.{none, some}
 use lib.ListN.{length, take, drop, take-append-drop}
 use lib.Seq.{length-take-le, take-length, take_at}
 use Rattle.rules.specs.declared.Entry.{Entry}
@@ -73,7 +73,7 @@ module _ (ks : ℕ → Bool) (ke : ℕ → ℕ → Bool) (x b : List ℕ) (c d :
   short-list : d.after ≡ list_after short d.before
   short-list = k.list ∙ ap (λ z. list_after (read_all (leave ks ke x) b z) d.before) n
 
-  pub calls_same : missed ks ke (listed_by c) ≡ none → (d.result ≡ c.result) × (d.after ≡ words_of c.result.entries c ++ came_behind c.result.entries d)
+  pub calls_same : missed ks ke (listed_by c) ≡ None → (d.result ≡ c.result) × (d.after ≡ words_of c.result.entries c ++ came_behind c.result.entries d)
   unfolding list_after
   calls_same q =
       let e : short ≡ whole = m.same (ap (missed ks ke) (sym (lists-entries x b c h)) ∙ q) in
@@ -83,10 +83,10 @@ module _ (ks : ℕ → Bool) (ke : ℕ → ℕ → Bool) (x b : List ℕ) (c d :
         rw (entry-count x b c h, a) (short-list ∙ ap (λ z. list_after z d.before) e),
       )
 
-  pub calls-cut : (l : Lost) → missed ks ke (listed_by c) ≡ some l → (d.result ≡ refused_at l) × (d.after ≡ words_of l.index c ++ came_behind l.index d)
+  pub calls-cut : (l : Lost) → missed ks ke (listed_by c) ≡ Some l → (d.result ≡ refused_at l) × (d.after ≡ words_of l.index c ++ came_behind l.index d)
   unfolding list_after result_of number_of place_of first_of second_of missed
   calls-cut l q =
-      let s : missed ks ke whole.entries ≡ some l = ap (missed ks ke) (sym (lists-entries x b c h)) ∙ q in
+      let s : missed ks ke whole.entries ≡ Some l = ap (missed ks ke) (sym (lists-entries x b c h)) ∙ q in
       let i : l.index < length whole.entries = first-index _ _ 0 whole.entries l s in
       let j : length (take l.index whole.entries) ≡ l.index = length-take-le l.index whole.entries (omega arith) in
       let w = lists-words x b c h l.index (omega arith) in

@@ -1,6 +1,8 @@
 -- Every clock of a reading's list is the least one, and a stamp is refused where the least one needs more than 64 bits. A law of steps:
 -- from the state's clock the entries tick; the clock behind them is the state's; and where 36 stops the step, it is behind the entry of a
 -- stamp that does not fit. In order: the new clock; refusals; entries; steps; fields; packets; readings.
+use Rattle.std.specs.Prelude.{Option, None, Some}
+use Rattle.rules.specs.declared.ByteLength.{ByteLength}
 use mathlib.Core.Path.{◌≡◌, refl, sym, ap, subst, ◌∙◌}
 use Prim.Native.Nat.{ℕ, zero, suc, ◌+◌, ◌-◌, ◌*◌, ◌%◌, ◌^◌, ◌<◌, ◌≤◌}
 use native.Mathlib.Nat.{mod-lt, mod-add-mod}
@@ -8,20 +10,15 @@ use native.Mathlib.Omega.{arith}
 use lib.Pow.{pow_pos}
 use mathlib.Core.List.{List, [], ◌∷◌, ◌++◌}
 use mathlib.Core.Bool.{Bool, true, false, ◌||◌}
-use mathlib.Core.Option.{Option, none, some}
 use lib.ListN.{length}
 use lib.Dec.{ltb, eqb}
 use borrow.Author.Tests.{ltb-true, ltb-false, ne_eqb}
 use Rattle.rules.specs.declared.BitPlace.{BitPlace}
-use Rattle.rules.specs.declared.Stated.{Stated}
-use Rattle.rules.specs.declared.Stated.TheVariants.{Missing, As}
 use Rattle.rules.specs.declared.Order.{Order}
 use Rattle.rules.specs.declared.Content.{Content}
 use Rattle.rules.specs.declared.Content.TheVariants.{Unsigned, Signed}
 use Rattle.rules.specs.declared.Leb.{Leb}
 use Rattle.rules.specs.declared.Leb.TheVariants.{Value, Past, Large}
-use Rattle.rules.specs.declared.Ended.{Ended}
-use Rattle.rules.specs.declared.Ended.TheVariants.{After, Never}
 use Rattle.rules.specs.declared.Entry.{Entry}
 use Rattle.rules.specs.declared.Refusal.{Refusal}
 use Rattle.rules.specs.declared.Refusal.TheVariants.{StreamSize, PastBound, OrderChanged, LebTooLarge, NoZeroByte, SlotUnset}
@@ -69,7 +66,7 @@ advance-low c l v =
     let b : v + 2 ^ l - c % 2 ^ l ≡ v + (2 ^ l - c % 2 ^ l) = omega arith in
     rw (a, b) (mod-add-mod v (2 ^ l) (2 ^ l - c % 2 ^ l))
 
-some-some : (a b : ℕ) → some a ≡ some b → a ≡ b
+some-some : (a b : ℕ) → Some a ≡ Some b → a ≡ b
 some-some a b h = cc
 
 -- what a stamp adds gives the least value
@@ -77,11 +74,11 @@ advance-least : (c l v : ℕ) → Least c l (v % 2 ^ l) (c + advance c l v)
 advance-least c l v =
     subst (Least c l (v % 2 ^ l)) (ap (λ z. c + z) (advance-low c l v)) (new-clock.is-least c l (v % 2 ^ l) (mod-lt v (pow_pos l)))
 
-pub after-least : (c l v n : ℕ) → clock_after c l v ≡ some n → Least c l (v % 2 ^ l) n × (n < 2 ^ 64)
+pub after-least : (c l v n : ℕ) → clock_after c l v ≡ Some n → Least c l (v % 2 ^ l) n × (n < 2 ^ 64)
 unfolding clock_after
 after-least c l v n h = by (ltb (c + advance c l v) (2 ^ 64)) refl h
   where
-    by : (b : Bool) → ltb (c + advance c l v) (2 ^ 64) ≡ b → elim b [ true ↦ some (c + advance c l v) | false ↦ none ] ≡ some n
+    by : (b : Bool) → ltb (c + advance c l v) (2 ^ 64) ≡ b → elim b [ true ↦ Some (c + advance c l v) | false ↦ None ] ≡ Some n
         → Least c l (v % 2 ^ l) n × (n < 2 ^ 64)
     by true e k =
         let p : c + advance c l v ≡ n = some-some _ _ k in
@@ -90,12 +87,12 @@ after-least c l v n h = by (ltb (c + advance c l v) (2 ^ 64)) refl h
     by false e k = let z : ◌≡◌ {A = ℕ} 0 1 = cc in absurd (omega arith)
 
 -- and where there is none, the least value does not fit
-pub after_none : (c l v : ℕ) → clock_after c l v ≡ none → Least c l (v % 2 ^ l) (c + advance c l v) × (2 ^ 64 ≤ c + advance c l v)
+pub after_none : (c l v : ℕ) → clock_after c l v ≡ None → Least c l (v % 2 ^ l) (c + advance c l v) × (2 ^ 64 ≤ c + advance c l v)
 unfolding clock_after
 after_none c l v h = by (ltb (c + advance c l v) (2 ^ 64)) refl h
   where
     by : (b : Bool) → ltb (c + advance c l v) (2 ^ 64) ≡ b
-        → ◌≡◌ {A = Option ℕ} (elim b [ true ↦ some (c + advance c l v) | false ↦ none ]) none
+        → ◌≡◌ {A = Option ℕ} (elim b [ true ↦ Some (c + advance c l v) | false ↦ None ]) None
         → Least c l (v % 2 ^ l) (c + advance c l v) × (2 ^ 64 ≤ c + advance c l v)
     by true e k = let z : ◌≡◌ {A = ℕ} 0 1 = cc in absurd (omega arith)
     by false e k = (advance-least c l v, ltb-false _ _ e)
@@ -263,7 +260,7 @@ at-clock l p f k = record { at = λ s g. by s g (ltb s.room words_per_entry) }
 
     new : (s : State) → s.place.0 ≡ p.place.0 + p.bits → (o : Option ℕ) → clock_after s.clock l p.value ≡ o
         → TickOut s.clock p (new_clock l o s)
-    new s g none e = unfold new_clock refuse last_of clocks_behind in
+    new s g None e = unfold new_clock refuse last_of clocks_behind in
         let x = after_none s.clock l p.value e in (
           tt,
           λ q. record {
@@ -274,7 +271,7 @@ at-clock l p f k = record { at = λ s g. by s g (ltb s.room words_per_entry) }
             past = x.1;
           },
         )
-    new s g (some c) e = unfold new_clock ◌⨾◌ listed after change onto with_clock clocks_behind clock_behind in
+    new s g (Some c) e = unfold new_clock ◌⨾◌ listed after change onto with_clock clocks_behind clock_behind in
         let x = after-least s.clock l p.value c e in
         (((λ q. record { place = g; bits = k; least = x.0; fits = x.1 }), tt), refl)
 
@@ -369,11 +366,11 @@ module _ (e : Env) where
   unfolding as_text refusal_number
   tick-as_text x = tick-check _ NotText (λ q. omega arith)
 
-  tick-zero : (m : ℕ) (x : Ended) → Tick (read_zero e m x)
+  tick-zero : (m : ℕ) (x : Option ByteLength) → Tick (read_zero e m x)
   unfolding read_zero refusal_number
-  tick-zero m (After n) =
+  tick-zero m (Some n) =
       record { at = λ v s. (tick-as_text (bytes_at e (aligned e 8 s) n.0)).at v s } ⨾ᵗ tick-field e m 23 8 _ _ (omega arith)
-  tick-zero m Never = tick-refuse NoZeroByte (λ q. omega arith)
+  tick-zero m None = tick-refuse NoZeroByte (λ q. omega arith)
 
   tick-law : Law e AnyRecord Any Any Any Tick Tick
   unfolding from_slot refusal_number
@@ -422,8 +419,8 @@ module _ (e : Env) where
 module _ (t : Asked) where
   tick-found : (i j : ℕ) (x : Option EventClass) (f : EventClass → Step) → ((d : EventClass) → Tick (f d)) → Tick (with_event i j x f)
   unfolding with_event refusal_number
-  tick-found i j none f h = tick-refuse (EventClassUnknown i j) (λ q. omega arith)
-  tick-found i j (some d) f h = h d
+  tick-found i j None f h = tick-refuse (EventClassUnknown i j) (λ q. omega arith)
+  tick-found i j (Some d) f h = h d
 
   tick-event : (c : StreamClass) (e : Env) (n : ℕ) → Tick (read_event t c e n)
   unfolding read_event start_event with_last refusal_number
@@ -472,10 +469,10 @@ module _ (t : Asked) where
 
   tick-stream : (i : ℕ) (x : Option StreamClass) (f : StreamClass → Step) → ((c : StreamClass) → Tick (f c)) → Tick (with_stream i x f)
   unfolding with_stream refusal_number
-  tick-stream i none f h = tick-refuse (StreamClassUnknown i) (λ q. omega arith)
-  tick-stream i (some c) f h = h c
+  tick-stream i None f h = tick-refuse (StreamClassUnknown i) (λ q. omega arith)
+  tick-stream i (Some c) f h = h c
 
-  tick-packet : (b : List ℕ) (k : ℕ) (i : Stated) → Tick (read_packet t b k i)
+  tick-packet : (b : List ℕ) (k : ℕ) (i : Option ℕ) → Tick (read_packet t b k i)
   unfolding read_packet refusal_number
   tick-packet b k i = record {
     at = λ v s₀.
@@ -488,13 +485,13 @@ module _ (t : Asked) where
         })).at v s₀;
   }
 
-  tick-packets : (b : List ℕ) (k : ℕ) (i : Stated) (left : ℕ) → Tick (read_packets t b k i left)
+  tick-packets : (b : List ℕ) (k : ℕ) (i : Option ℕ) (left : ℕ) → Tick (read_packets t b k i left)
   unfolding read_packets
   tick-packets b k i zero = tick-pass
   tick-packets b k i (suc left) = record {
     at = λ v s.
         tick-if s.clock v (ltb s.place.0 (8 * length b)) _ _
-        ((tick-packet b k i ⨾ᵗ record { at = λ v s. (tick-packets b (k + 1) (As s.said.stream) left).at v s }).at v s)
+        ((tick-packet b k i ⨾ᵗ record { at = λ v s. (tick-packets b (k + 1) (Some s.said.stream) left).at v s }).at v s)
         (tick-pass.at v s);
   }
 
@@ -516,10 +513,10 @@ stream-ticks t b room p = by (eqb (length b) 0 || ltb stream_limit (length b))
   where
     by : (x : Bool) → Ticked p (elim x as (λ z. Reading) [
       | true ↦ record { entries = []; verdict = Refused (stop_at StreamSize (bit_place 0)) }
-      | false ↦ ended (read_packets t b 0 Missing (length b) (begin room))
+      | false ↦ ended (read_packets t b 0 None (length b) (begin room))
     ])
     by true = (tt, λ q. absurd (omega arith))
-    by false = unfold begin in ended-ticks p _ ((tick-packets t b 0 Missing (length b)).at p (begin room))
+    by false = unfold begin in ended-ticks p _ ((tick-packets t b 0 None (length b)).at p (begin room))
 
 reading-ticked : (x b : List ℕ) (room : ℕ) (e : Entry) → Ticked e (read_all x b room)
 unfolding read_all number_of

@@ -1,19 +1,17 @@
 -- The counts of a reading's list are its own: each entry 4 has its number in the packet, and each entry 7 the number of events; and no
 -- entry has kind 0, so that a list of zeros shows each of them. A law of steps, from a count n. In order: entries; quiet steps; steps;
 -- packets; readings.
+use Rattle.std.specs.Prelude.{Option, None, Some}
 use mathlib.Core.Path.{◌≡◌, refl, sym, ap, subst, ◌∙◌}
 use mathlib.Core.Logic.{inl, inr}
 use Prim.Native.Nat.{ℕ, zero, suc, ◌+◌, ◌-◌, ◌*◌, ◌≤◌}
 use native.Mathlib.Omega.{arith}
 use mathlib.Core.List.{List, [], ◌∷◌, ◌++◌}
 use mathlib.Core.Bool.{Bool, true, false, ◌||◌}
-use mathlib.Core.Option.{Option, none, some}
 use lib.ListN.{length, get_or}
 use lib.Dec.{ltb, eqb}
 use borrow.Author.Tests.{ne_eqb}
 use Rattle.rules.specs.declared.BitPlace.{BitPlace}
-use Rattle.rules.specs.declared.Stated.{Stated}
-use Rattle.rules.specs.declared.Stated.TheVariants.{Missing, As}
 use Rattle.rules.specs.declared.Entry.{Entry}
 use Rattle.rules.specs.declared.Refusal.TheVariants.{StreamSize, StreamClassChanged, StreamClassUnknown}
 use Rattle.rules.specs.declared.Refusal.TheVariants.{LengthsContradict, ClocksContradict, EventClassUnknown}
@@ -127,8 +125,8 @@ quiet-mark k n v h = record { at = λ s. each-listed Quiet _ s.place s h }
 quiet-found : (i j : ℕ) (x : Option EventClass) (f : EventClass → Step) → ((d : EventClass) → Each Quiet (f d))
     → Each Quiet (with_event i j x f)
 unfolding with_event
-quiet-found i j none f h = each-refuse Quiet (EventClassUnknown i j)
-quiet-found i j (some d) f h = h d
+quiet-found i j None f h = each-refuse Quiet (EventClassUnknown i j)
+quiet-found i j (Some d) f h = h d
 
 infixr 20 ◌⨾q◌
 ◌⨾q◌ : {m n : Step} → Each Quiet m → Each Quiet n → Each Quiet (m ⨾ n)
@@ -250,10 +248,10 @@ module _ (t : Asked) where
   counted-stream : (i : ℕ) (x : Option StreamClass) (f : StreamClass → Step) → ((c : StreamClass) → Counted 0 (f c))
       → Counted 0 (with_stream i x f)
   unfolding with_stream
-  counted-stream i none f h = counted-quiet 0 (each-refuse Quiet (StreamClassUnknown i))
-  counted-stream i (some c) f h = h c
+  counted-stream i None f h = counted-quiet 0 (each-refuse Quiet (StreamClassUnknown i))
+  counted-stream i (Some c) f h = h c
 
-  counted-packet : (n : ℕ) (b : List ℕ) (k : ℕ) (i : Stated) → Counted n (read_packet t b k i)
+  counted-packet : (n : ℕ) (b : List ℕ) (k : ℕ) (i : Option ℕ) → Counted n (read_packet t b k i)
   unfolding read_packet
   counted-packet n b k i = record {
     at = λ s₀.
@@ -268,13 +266,13 @@ module _ (t : Asked) where
         }).at s₀;
   }
 
-  counted-packets : (n : ℕ) (b : List ℕ) (k : ℕ) (i : Stated) (left : ℕ) → Counted n (read_packets t b k i left)
+  counted-packets : (n : ℕ) (b : List ℕ) (k : ℕ) (i : Option ℕ) (left : ℕ) → Counted n (read_packets t b k i left)
   unfolding read_packets ◌⨾◌
   counted-packets n b k i zero = counted-quiet n (each-pass Quiet)
   counted-packets n b k i (suc left) = record {
     at = λ s. counted_if n (ltb s.place.0 (8 * length b)) _ _
-        (any-after n (read_packet t b k i s) (λ s. read_packets t b (k + 1) (As s.said.stream) left s) ((counted-packet n b k i).at s)
-        (λ j. record { at = λ s. (counted-packets j b (k + 1) (As s.said.stream) left).at s }))
+        (any-after n (read_packet t b k i s) (λ s. read_packets t b (k + 1) (Some s.said.stream) left s) ((counted-packet n b k i).at s)
+        (λ j. record { at = λ s. (counted-packets j b (k + 1) (Some s.said.stream) left).at s }))
         ((counted-quiet n (each-pass Quiet)).at s);
   }
 
@@ -290,14 +288,14 @@ unfolding read_stream
 stream-fine t b room = by (eqb (length b) 0 || ltb stream_limit (length b))
   where
     packets : Out
-    packets = read_packets t b 0 Missing (length b) (begin room)
+    packets = read_packets t b 0 None (length b) (begin room)
 
     by : (x : Bool) → Fine 0 (elim x as (λ z. Reading) [
       | true ↦ record { entries = []; verdict = Refused (stop_at StreamSize (bit_place 0)) }
       | false ↦ ended packets
     ]).entries
     by true = (tt, tt)
-    by false = subst (Fine 0) (sym (ended-list packets)) ((counted-packets t 0 b 0 Missing (length b)).at (begin room))
+    by false = subst (Fine 0) (sym (ended-list packets)) ((counted-packets t 0 b 0 None (length b)).at (begin room))
 
 reading-fine : (x b : List ℕ) (room : ℕ) → Fine 0 (read_all x b room).entries
 unfolding read_all

@@ -1,18 +1,16 @@
 -- Demand 3, proved: a short table's step is the whole table's, cut at the first finding of a class left out.
+use Rattle.std.specs.Prelude.{Option, None, Some, Ok}
 use mathlib.Core.Path.{◌≡◌, refl, sym, ap, ◌∙◌, subst}
 use mathlib.Core.Logic.{◌⊎◌, inl, inr}
 use Prim.Native.Nat.{ℕ, zero, suc, ◌+◌, ◌*◌, ◌-◌}
 use native.Mathlib.Omega.{arith}
 use mathlib.Core.List.{List, [], ◌∷◌}
 use mathlib.Core.Bool.{Bool, true, false, not, ◌&&◌, ◌||◌}
-use mathlib.Core.Option.{Option, none, some}
 use lib.ListN.{length, take}
 use lib.Dec.{ltb, eqb}
 use borrow.Author.Tests.{eqb-true, ne_eqb}
 use Rattle.rules.specs.declared.Entry.{Entry}
 use Rattle.rules.specs.declared.BitPlace.{BitPlace}
-use Rattle.rules.specs.declared.Stated.{Stated}
-use Rattle.rules.specs.declared.Stated.TheVariants.{Missing, As}
 use Rattle.rules.specs.declared.Refusal.TheVariants.{StreamSize, StreamClassChanged, StreamClassUnknown, LengthsContradict}
 use Rattle.rules.specs.declared.Refusal.TheVariants.{ClocksContradict, EventClassUnknown, EventTookNoBits, ClockWentBack}
 use Rattle.rules.specs.declared.Stop.{Stop}
@@ -25,7 +23,6 @@ use Rattle.rules.specs.Place.{bit_place, byte_length, further}
 use Rattle.rules.specs.Step.{State, Out, stop, go, Step, onto, after, ◌⨾◌, refuse, listed, with_last}
 use Rattle.rules.specs.Table.{StreamClass, EventClass, Asked, Table, asked, find_stream, find_event}
 use Rattle.rules.specs.Field.{Env}
-use Rattle.rules.specs.declared.Checked.TheVariants.{Accepted}
 use Rattle.rules.specs.Parse.{Parsed, bad, good, parse, checked_of, checked}
 use Rattle.rules.specs.Read.{Reading, ended, begin, read_stream, read_all, read_parsed}
 use Rattle.rules.specs.Packet.{read_event, read_events, read_content, read_packet, read_packets, with_event}
@@ -44,25 +41,25 @@ use Rattle.promises.proofs.Edited.{editions}
 use Rattle.promises.specs.Missing.{gone_stream, gone_event, Lost, lost, later, front}
 use Rattle.promises.specs.Missing.{first_lost, missed, Good, Demand3, shortened, Demand3≡}
 
-pub found-id : (cs : List StreamClass) (i : ℕ) (c : StreamClass) → find_stream cs i ≡ some c → c.id ≡ i
+pub found-id : (cs : List StreamClass) (i : ℕ) (c : StreamClass) → find_stream cs i ≡ Some c → c.id ≡ i
 unfolding find_stream
 found-id [] i c h = let z : ◌≡◌ {A = ℕ} 0 1 = cc in absurd (omega arith)
 found-id (d ∷ cs) i c h = by (eqb d.id i) refl h (found-id cs i c)
   where
-    by : (b : Bool) → eqb d.id i ≡ b → elim b [ true ↦ some d | false ↦ find_stream cs i ] ≡ some c
-        → (find_stream cs i ≡ some c → c.id ≡ i) → c.id ≡ i
+    by : (b : Bool) → eqb d.id i ≡ b → elim b [ true ↦ Some d | false ↦ find_stream cs i ] ≡ Some c
+        → (find_stream cs i ≡ Some c → c.id ≡ i) → c.id ≡ i
     by true e h r = let p : d ≡ c = cc in ap (λ x. x.id) (sym p) ∙ eqb-true d.id i e
     by false e h r = r h
 
 -- of a class: it stays, and the short table finds what the full one finds; or it is left out where it was found, and none is found
 abbrev pub KeptOrGone : {A : Type 0} → Bool → Option A → Option A → Type 0
-KeptOrGone {A} out full short = ((out ≡ false) × (short ≡ full)) ⊎ (((a : A) → full ≡ some a → out ≡ true) × (short ≡ none))
+KeptOrGone {A} out full short = ((out ≡ false) × (short ≡ full)) ⊎ (((a : A) → full ≡ Some a → out ≡ true) × (short ≡ None))
 
 module _ (gs : ℕ → Bool) (ge : ℕ → ℕ → Bool) where
   -- an outcome cut at the first finding of a class left out
   cut_at : Option Lost → Out → Out
-  cut_at none o = o
-  cut_at (some l) o = stop (take l.index (list_of o)) l.refusal
+  cut_at None o = o
+  cut_at (Some l) o = stop (take l.index (list_of o)) l.refusal
 
   cut : ℕ → Out → Out
   cut i o = cut_at (first_lost gs ge i (list_of o)) o
@@ -73,8 +70,8 @@ module _ (gs : ℕ → Bool) (ge : ℕ → ℕ → Bool) where
   latest i (e ∷ es) = latest (under i e) es
 
   front_out : Option Stop → Entry → Out → Out
-  front_out none e o = onto (e ∷ []) o
-  front_out (some v) e o = stop [] v
+  front_out None e o = onto (e ∷ []) o
+  front_out (Some v) e o = stop [] v
 
   cut-go : (i : ℕ) (s : State) → cut i (go [] s) ≡ go [] s
   unfolding cut cut_at first_lost list_of
@@ -89,17 +86,17 @@ module _ (gs : ℕ → Bool) (ge : ℕ → ℕ → Bool) where
   cut-cons i e (stop fs v) = by (lost gs ge i e) (first_lost gs ge (under i e) fs)
     where
       by : (x : Option Stop) (y : Option Lost) → cut_at (front gs ge x y) (stop (e ∷ fs) v) ≡ front_out x e (cut_at y (stop fs v))
-      by none none = refl
-      by none (some l) = refl
-      by (some w) none = refl
-      by (some w) (some l) = refl
+      by None None = refl
+      by None (Some l) = refl
+      by (Some w) None = refl
+      by (Some w) (Some l) = refl
   cut-cons i e (go fs s) = by (lost gs ge i e) (first_lost gs ge (under i e) fs)
     where
       by : (x : Option Stop) (y : Option Lost) → cut_at (front gs ge x y) (go (e ∷ fs) s) ≡ front_out x e (cut_at y (go fs s))
-      by none none = refl
-      by none (some l) = refl
-      by (some w) none = refl
-      by (some w) (some l) = refl
+      by None None = refl
+      by None (Some l) = refl
+      by (Some w) None = refl
+      by (Some w) (Some l) = refl
 
   cut-go-cons : (i : ℕ) (e : Entry) (es : List Entry) (s : State)
       → cut i (go (e ∷ es) s) ≡ front_out (lost gs ge i e) e (cut (under i e) (go es s))
@@ -109,17 +106,17 @@ module _ (gs : ℕ → Bool) (ge : ℕ → ℕ → Bool) where
   -- a step's outcome that is cut, and what comes behind it
   after_front : (x : Option Stop) (e : Entry) (o : Out) (n : Step) → after (front_out x e o) n ≡ front_out x e (after o n)
   unfolding front_out after onto
-  after_front none e (stop fs v) n = refl
-  after_front none e (go fs s) n = onto-cons e fs (n s)
-  after_front (some v) e o n = refl
+  after_front None e (stop fs v) n = refl
+  after_front None e (go fs s) n = onto-cons e fs (n s)
+  after_front (Some v) e o n = refl
 
   stop-after : (i : ℕ) (es : List Entry) (v : Stop) (n : Step) → after (cut i (stop es v)) n ≡ cut i (stop es v)
   unfolding cut after cut_at
   stop-after i es v n = by (first_lost gs ge i (list_of (stop es v)))
     where
       by : (x : Option Lost) → after (cut_at x (stop es v)) n ≡ cut_at x (stop es v)
-      by none = refl
-      by (some l) = refl
+      by None = refl
+      by (Some l) = refl
 
   go-after : (i : ℕ) (es : List Entry) (s : State) (n n' : Step) → n' s ≡ cut (latest i es) (n s)
       → after (cut i (go es s)) n' ≡ cut i (onto es (n s))
@@ -141,15 +138,15 @@ module _ (gs : ℕ → Bool) (ge : ℕ → ℕ → Bool) where
   abbrev Calm : Entry → Type 0
   Calm e = (eqb e.kind 2 ≡ false) × (eqb e.kind 5 ≡ false)
 
-  calm-lost : (i : ℕ) (e : Entry) → Calm e → lost gs ge i e ≡ none
+  calm-lost : (i : ℕ) (e : Entry) → Calm e → lost gs ge i e ≡ None
   unfolding lost
   calm-lost i e h = by (eqb e.kind 2) (eqb e.kind 5) h.0 h.1
     where
       by : (a b : Bool) → a ≡ false → b ≡ false
           → ◌≡◌ {A = Option Stop} (elim (a && gs e.value) [
-            | true ↦ some (stop_at (StreamClassUnknown e.value) e.place)
-            | false ↦ elim (b && ge i e.value) [ true ↦ some (stop_at (EventClassUnknown i e.value) e.place) | false ↦ none ]
-          ]) none
+            | true ↦ Some (stop_at (StreamClassUnknown e.value) e.place)
+            | false ↦ elim (b && ge i e.value) [ true ↦ Some (stop_at (EventClassUnknown i e.value) e.place) | false ↦ None ]
+          ]) None
       by true b p q = absurd (clash (sym p))
       by false true p q = absurd (clash (sym q))
       by false false p q = refl
@@ -158,7 +155,7 @@ module _ (gs : ℕ → Bool) (ge : ℕ → ℕ → Bool) where
   unfolding under
   calm-under i e h = simp (h, under)
 
-  calm-first : (i : ℕ) (es : List Entry) → All Calm es → first_lost gs ge i es ≡ none
+  calm-first : (i : ℕ) (es : List Entry) → All Calm es → first_lost gs ge i es ≡ None
   unfolding first_lost front later
   calm-first i [] h = refl
   calm-first i (e ∷ es) h = rw (calm-lost i e h.0, calm-under i e h.0.0, calm-first i es h.1, first_lost)
@@ -232,7 +229,7 @@ module _ (gs : ℕ → Bool) (ge : ℕ → ℕ → Bool) where
   -- the lookup of an event class
 
   event-entry : (i j : ℕ) (p : BitPlace) (b : Bool) → ge i j ≡ b
-      → lost gs ge i (entry 5 p 0 j 0) ≡ elim b [ true ↦ some (stop_at (EventClassUnknown i j) p) | false ↦ none ]
+      → lost gs ge i (entry 5 p 0 j 0) ≡ elim b [ true ↦ Some (stop_at (EventClassUnknown i j) p) | false ↦ None ]
   unfolding lost
   event-entry i j p true h = rw (h, lost) refl
   event-entry i j p false h = rw (h, lost) refl
@@ -244,24 +241,24 @@ module _ (gs : ℕ → Bool) (ge : ℕ → ℕ → Bool) where
   event-both : (i j : ℕ) (n : EventClass → Step) → ((d : EventClass) → Each Calm (n d)) → ge i j ≡ false → (x : Option EventClass)
       → Sim i (with_event i j x (λ d. mark 5 0 j ⨾ n d)) (with_event i j x (λ d. mark 5 0 j ⨾ n d))
   unfolding with_event refuse mark listed ◌⨾◌ after front_out
-  event-both i j n c h none = record { at = λ s. sym (cut-stop i (stop_at (EventClassUnknown i j) s.place)) }
-  event-both i j n c h (some d) = record {
+  event-both i j n c h None = record { at = λ s. sym (cut-stop i (stop_at (EventClassUnknown i j) s.place)) }
+  event-both i j n c h (Some d) = record {
     at = λ s. sym (cut-cons i (entry 5 s.place 0 j 0) (n d _)
         ∙ rw (event-entry i j s.place false h, event-under i j s.place, calm-cut i (n d _) ((c d).at _)) refl);
   }
 
-  event-less : (i j : ℕ) (n : EventClass → Step) (x : Option EventClass) → ((d : EventClass) → x ≡ some d → ge i j ≡ true)
-      → Sim i (with_event i j x (λ d. mark 5 0 j ⨾ n d)) (with_event i j none (λ d. mark 5 0 j ⨾ n d))
+  event-less : (i j : ℕ) (n : EventClass → Step) (x : Option EventClass) → ((d : EventClass) → x ≡ Some d → ge i j ≡ true)
+      → Sim i (with_event i j x (λ d. mark 5 0 j ⨾ n d)) (with_event i j None (λ d. mark 5 0 j ⨾ n d))
   unfolding with_event refuse mark listed ◌⨾◌ after front_out
-  event-less i j n none h = record { at = λ s. sym (cut-stop i (stop_at (EventClassUnknown i j) s.place)) }
-  event-less i j n (some d) h = record {
+  event-less i j n None h = record { at = λ s. sym (cut-stop i (stop_at (EventClassUnknown i j) s.place)) }
+  event-less i j n (Some d) h = record {
     at = λ s. sym (cut-cons i (entry 5 s.place 0 j 0) (n d _) ∙ rw (event-entry i j s.place true (h d refl)) refl);
   }
 
   -- the lookup of a stream class
 
   stream-entry : (j i : ℕ) (p : BitPlace) (b : Bool) → gs i ≡ b
-      → lost gs ge j (entry 2 p 0 i 0) ≡ elim b [ true ↦ some (stop_at (StreamClassUnknown i) p) | false ↦ none ]
+      → lost gs ge j (entry 2 p 0 i 0) ≡ elim b [ true ↦ Some (stop_at (StreamClassUnknown i) p) | false ↦ None ]
   unfolding lost
   stream-entry j i p true h = rw (h, lost) refl
   stream-entry j i p false h = rw (h, lost) refl
@@ -271,21 +268,21 @@ module _ (gs : ℕ → Bool) (ge : ℕ → ℕ → Bool) where
   stream-under j i p = refl
 
   stream-both : (j i : ℕ) (n n' : StreamClass → Step) → gs i ≡ false → (x : Option StreamClass)
-      → ((c : StreamClass) → x ≡ some c → Sim i (n c) (n' c))
+      → ((c : StreamClass) → x ≡ Some c → Sim i (n c) (n' c))
       → Sim j (with_stream i x (λ c. mark 2 0 i ⨾ n c)) (with_stream i x (λ c. mark 2 0 i ⨾ n' c))
   unfolding with_stream refuse mark listed ◌⨾◌ after front_out
-  stream-both j i n n' h none g = record { at = λ s. sym (cut-stop j (stop_at (StreamClassUnknown i) s.place)) }
-  stream-both j i n n' h (some c) g = record {
+  stream-both j i n n' h None g = record { at = λ s. sym (cut-stop j (stop_at (StreamClassUnknown i) s.place)) }
+  stream-both j i n n' h (Some c) g = record {
     at = λ s. sym (cut-cons j (entry 2 s.place 0 i 0) (n c _)
         ∙ rw (stream-entry j i s.place false h, stream-under j i s.place)
         (ap (onto (entry 2 s.place 0 i 0 ∷ [])) (sym ((g c refl).at _))));
   }
 
-  stream-less : (j i : ℕ) (n n' : StreamClass → Step) (x : Option StreamClass) → ((c : StreamClass) → x ≡ some c → gs i ≡ true)
-      → Sim j (with_stream i x (λ c. mark 2 0 i ⨾ n c)) (with_stream i none (λ c. mark 2 0 i ⨾ n' c))
+  stream-less : (j i : ℕ) (n n' : StreamClass → Step) (x : Option StreamClass) → ((c : StreamClass) → x ≡ Some c → gs i ≡ true)
+      → Sim j (with_stream i x (λ c. mark 2 0 i ⨾ n c)) (with_stream i None (λ c. mark 2 0 i ⨾ n' c))
   unfolding with_stream refuse mark listed ◌⨾◌ after front_out
-  stream-less j i n n' none h = record { at = λ s. sym (cut-stop j (stop_at (StreamClassUnknown i) s.place)) }
-  stream-less j i n n' (some c) h = record {
+  stream-less j i n n' None h = record { at = λ s. sym (cut-stop j (stop_at (StreamClassUnknown i) s.place)) }
+  stream-less j i n n' (Some c) h = record {
     at = λ s. sym (cut-cons j (entry 2 s.place 0 i 0) (n c _) ∙ rw (stream-entry j i s.place true (h c refl)) refl);
   }
 
@@ -307,8 +304,8 @@ module _ (gs : ℕ → Bool) (ge : ℕ → ℕ → Bool) where
   other-with : (i j : ℕ) (x : Option EventClass) (f : EventClass → Step) → ((d : EventClass) → Each Other (f d))
       → Each Other (with_event i j x f)
   unfolding with_event
-  other-with i j none f h = each-refuse Other (EventClassUnknown i j)
-  other-with i j (some d) f h = h d
+  other-with i j None f h = each-refuse Other (EventClassUnknown i j)
+  other-with i j (Some d) f h = h d
 
   calm-end : (to : BitPlace) (n : ℕ) → Each Calm (end_packet to n)
   unfolding end_packet
@@ -317,13 +314,13 @@ module _ (gs : ℕ → Bool) (ge : ℕ → ℕ → Bool) where
   -- the reading, layer by layer: two tables, of which the short one finds what stays of what the full one finds
 
   pub record Less (full : Asked) (stream' : ℕ → Option StreamClass) (event' : ℕ → ℕ → Option EventClass) : Type 0 where
-    pub ids : (i : ℕ) (c : StreamClass) → full.stream i ≡ some c → c.id ≡ i
+    pub ids : (i : ℕ) (c : StreamClass) → full.stream i ≡ Some c → c.id ≡ i
     pub streams : (i : ℕ)
         → ((gs i ≡ false) × (stream' i ≡ full.stream i))
-        ⊎ (((c : StreamClass) → full.stream i ≡ some c → gs i ≡ true) × (stream' i ≡ none))
+        ⊎ (((c : StreamClass) → full.stream i ≡ Some c → gs i ≡ true) × (stream' i ≡ None))
     pub events : (i j : ℕ)
         → ((ge i j ≡ false) × (event' i j ≡ full.event i j))
-        ⊎ (((d : EventClass) → full.event i j ≡ some d → ge i j ≡ true) × (event' i j ≡ none))
+        ⊎ (((d : EventClass) → full.event i j ≡ Some d → ge i j ≡ true) × (event' i j ≡ None))
 
   module _ (full : Asked) (stream' : ℕ → Option StreamClass) (event' : ℕ → ℕ → Option EventClass) (L : Less full stream' event') where
     abbrev pub less : Asked
@@ -409,7 +406,7 @@ module _ (gs : ℕ → Bool) (ge : ℕ → ℕ → Bool) where
         subst (λ z. Sim z (read_content full c b p total content) (read_content less c b p total content)) h
         (sim-content c b p total content)
 
-    sim-packet : (b : List ℕ) (k : ℕ) (i : Stated) (j : ℕ) → Sim j (read_packet full b k i) (read_packet less b k i)
+    sim-packet : (b : List ℕ) (k : ℕ) (i : Option ℕ) (j : ℕ) → Sim j (read_packet full b k i) (read_packet less b k i)
     unfolding read_packet
     sim-packet b k i j = record {
       at = λ s₀.
@@ -421,13 +418,13 @@ module _ (gs : ℕ → Bool) (ge : ℕ → ℕ → Bool) where
           }).at s₀;
     }
 
-    sim-packets : (b : List ℕ) (k : ℕ) (i : Stated) (left : ℕ) (j : ℕ) → Sim j (read_packets full b k i left) (read_packets less b k i left)
+    sim-packets : (b : List ℕ) (k : ℕ) (i : Option ℕ) (left : ℕ) (j : ℕ) → Sim j (read_packets full b k i left) (read_packets less b k i left)
     unfolding read_packets
     sim-packets b k i zero j = same j (each-pass Calm)
     sim-packets b k i (suc left) j = record {
       at = λ s.
           sim-if j (ltb s.place.0 (8 * length b)) _ _ _ _
-          ((sim-after j (sim-packet b k i j) (λ j'. record { at = λ s. (sim-packets b (k + 1) (As s.said.stream) left j').at s })).at s)
+          ((sim-after j (sim-packet b k i j) (λ j'. record { at = λ s. (sim-packets b (k + 1) (Some s.said.stream) left j').at s })).at s)
           ((same j (each-pass Calm)).at s);
     }
 
@@ -436,13 +433,13 @@ module _ (gs : ℕ → Bool) (ge : ℕ → ℕ → Bool) where
     ended-cut i (stop es v) = by (first_lost gs ge i es)
       where
         by : (x : Option Lost) → ended (cut_at x (stop es v)) ≡ shortened x (ended (stop es v))
-        by none = refl
-        by (some l) = refl
+        by None = refl
+        by (Some l) = refl
     ended-cut i (go es s) = by (first_lost gs ge i es)
       where
         by : (x : Option Lost) → ended (cut_at x (go es s)) ≡ shortened x (ended (go es s))
-        by none = refl
-        by (some l) = refl
+        by None = refl
+        by (Some l) = refl
 
     -- under any stream class id at the start
     pub sim-from : (j : ℕ) (b : List ℕ) (room : ℕ)
@@ -453,14 +450,14 @@ module _ (gs : ℕ → Bool) (ge : ℕ → ℕ → Bool) where
         of : Bool → Asked → Reading
         of x t = elim x [
           | true ↦ record { entries = []; verdict = Refused (stop_at StreamSize (bit_place 0)) }
-          | false ↦ ended (read_packets t b 0 Missing (length b) (begin room))
+          | false ↦ ended (read_packets t b 0 None (length b) (begin room))
         ]
 
         by : (x : Bool) → of x less ≡ shortened (first_lost gs ge j (of x full).entries) (of x full)
         by true = unfold first_lost shortened in refl
         by false =
-            ap ended ((sim-packets b 0 Missing (length b) j).at (begin room))
-            ∙ ended-cut j (read_packets full b 0 Missing (length b) (begin room))
+            ap ended ((sim-packets b 0 None (length b) j).at (begin room))
+            ∙ ended-cut j (read_packets full b 0 None (length b) (begin room))
 
     pub sim-stream : (b : List ℕ) (room : ℕ)
         → read_stream less b room ≡ shortened (first_lost gs ge 0 (read_stream full b room).entries) (read_stream full b room)
@@ -468,8 +465,8 @@ module _ (gs : ℕ → Bool) (ge : ℕ → ℕ → Bool) where
 
 -- over bytes
 
-or-none : {A : Type 0} (x : Option A) (a : A) → x ≡ none → x ≡ some a → ⊥
-or-none x a h k = let p : none ≡ some a = sym h ∙ k in let z : ◌≡◌ {A = ℕ} 0 1 = cc in omega arith
+or-none : {A : Type 0} (x : Option A) (a : A) → x ≡ None → x ≡ Some a → ⊥
+or-none x a h k = let p : None ≡ Some a = sym h ∙ k in let z : ◌≡◌ {A = ℕ} 0 1 = cc in omega arith
 
 module _ (ks : ℕ → Bool) (ke : ℕ → ℕ → Bool) (t : Table) where
   -- what the short table finds
@@ -513,7 +510,7 @@ pub good-says : (x : List ℕ) → Good x → Says x
 unfolding checked
 good-says x h = by (parse x) refl h
   where
-    by : (p : Parsed Table) → parse x ≡ p → checked_of x p ≡ Accepted (byte_length (length x)) → Says x
+    by : (p : Parsed Table) → parse x ≡ p → checked_of x p ≡ Ok (byte_length (length x)) → Says x
     by (bad n y) e k = unfold checked_of in let z : ◌≡◌ {A = ℕ} 0 1 = cc in absurd (omega arith)
     by (good t y) e k = record { table = t; rest = y; parsed = e }
 
@@ -527,14 +524,14 @@ demand-3≡ ks ke x h b room =
     let s = good-says x h in
     rw (editions ks ke x s.table s.rest s.parsed, s.parsed, read_all) (left_out ks ke s.table 0 b room)
 
-shortened-cut : (o : Option Lost) (l : Lost) (r r' : Reading) → o ≡ some l → r' ≡ shortened o r
+shortened-cut : (o : Option Lost) (l : Lost) (r r' : Reading) → o ≡ Some l → r' ≡ shortened o r
     → (r'.entries ≡ take l.index r.entries) × (r'.verdict ≡ Refused l.refusal)
 unfolding shortened
 shortened-cut o l r r' h k =
-    let p : r' ≡ shortened (some l) r = k ∙ ap (λ z. shortened z r) h in
+    let p : r' ≡ shortened (Some l) r = k ∙ ap (λ z. shortened z r) h in
     (ap (λ z. z.entries) p, ap (λ z. z.verdict) p)
 
-shortened_same : (o : Option Lost) (r r' : Reading) → o ≡ none → r' ≡ shortened o r → r' ≡ r
+shortened_same : (o : Option Lost) (r r' : Reading) → o ≡ None → r' ≡ shortened o r → r' ≡ r
 unfolding shortened
 shortened_same o r r' h k = k ∙ ap (λ z. shortened z r) h
 

@@ -1,11 +1,11 @@
 -- The fragments of an accepted table: the first one, and what is behind it; and the walk over homes, which goes over both. In order: a
 -- fragment in front of others; the preamble in front of them all; the walk.
+use Rattle.std.specs.Prelude.{Option}
 use mathlib.Core.Path.{◌≡◌, refl, sym, ap, ◌∙◌, subst}
 use Prim.Native.Nat.{ℕ, zero, suc, ◌≤◌}
 use native.Mathlib.Omega.{arith}
 use mathlib.Core.List.{List, [], ◌∷◌, ◌++◌}
 use mathlib.Core.Bool.{Bool, true, false, ◌||◌}
-use mathlib.Core.Option.{Option}
 use lib.ListN.{length, length-append, take}
 use lib.Dec.{ltb}
 use borrow.Author.Tests.{ltb-false}

@@ -1,11 +1,11 @@
 -- The walk over homes, where the parser accepts: it looks at no byte behind the records that it goes over. By what was set before them, it
 -- either goes over them all, and tells what they set, of the trees that the parser gives (Settings); or it stops at one of them.
+use Rattle.std.specs.Prelude.{Option, None, Some}
 use mathlib.Core.Path.{◌≡◌, refl, sym, ap, ◌∙◌, subst}
 use Prim.Native.Nat.{ℕ, zero, suc, ◌+◌, ◌≤◌}
 use native.Mathlib.Omega.{arith}
 use mathlib.Core.List.{List, [], ◌∷◌, ◌++◌, append_assoc}
 use mathlib.Core.Bool.{Bool, true, false, not, ◌&&◌}
-use mathlib.Core.Option.{Option, none, some}
 use lib.ListN.{length, length-append, take}
 use lib.Seq.{take_at}
 use lib.Dec.{ltb, leb}
@@ -311,21 +311,21 @@ module _ (q : Ids) (p : Spot → Parser Class) (f : Walk)
 
   -- an array
   gone-elements : (d : Says) (k : Shape) (array : Class → Class) (x : List ℕ) (c : Class) (y : List ℕ)
-      → ((e : Class) (o : Home) (p : Place) → settings (array e) o p ≡ settings e (some p) (0 ∷ p))
+      → ((e : Class) (o : Home) (p : Place) → settings (array e) o p ≡ settings e (Some p) (0 ∷ p))
       → then (p inside x) (λ e x. good (array e) x) ≡ good c y
       → Gone (λ h x. out (f (across h) x)) (Unless d.sets (OfClass c)) x y
   gone-elements d k array x c y s h =
       let l = last_of (p inside x) array c y h in
       subst (λ c. Gone (λ h x. out (f (across h) x)) (Unless d.sets (OfClass c)) x y) l.made
       (gone-out f (OfClass l.a) (Unless d.sets (OfClass (array l.a))) x y
-      (λ h g t n o p. subst (Tells h _ o) (sym (s l.a o p)) (tells-out h g o (some p) _ (t (some p) (0 ∷ p))))
+      (λ h g t n o p. subst (Tells h _ o) (sym (s l.a o p)) (tells-out h g o (Some p) _ (t (Some p) (0 ∷ p))))
       (rec inside x l.a y l.first))
 
   selected-sets : (i : ℕ) (g : Option Sign) (rs : List Range) (c : Class) (o : Home) (p : Place)
       → settings (selected i (g, rs) c) o p ≡ settings c o (0 ∷ p)
   unfolding selected settings
-  selected-sets i none rs c o p = refl
-  selected-sets i (some g) rs c o p = refl
+  selected-sets i None rs c o p = refl
+  selected-sets i (Some g) rs c o p = refl
 
   gone-shape : (s : Spot) (d : Says) (k : Shape) (x : List ℕ) (c : Class) (y : List ℕ) → parse_shape q p s d k x ≡ good c y
       → Gone (walk_shape f d k) (Unless d.sets (OfClass c)) x y
@@ -346,19 +346,19 @@ module _ (q : Ids) (p : Spot → Parser Class) (f : Walk)
   gone-shape s d elements x c y h = gone-elements d elements (static_array d.count d.align) x c y (λ e o p. refl) h
   gone-shape s d elements_of x c y h = gone-elements d elements_of (dynamic_array d.reads d.align) x c y (λ e o p. refl) h
   gone-shape s d option? x c y h =
-      let t = through (parse_ranges q [] d.count none x) _ c y h in
+      let t = through (parse_ranges q [] d.count None x) _ c y h in
       let l = last_of (p inside t.x) _ c y t.second in
       subst (λ c. Gone (walk_shape f d option?) (Unless d.sets (OfClass c)) x y) l.made
       (gone-as (λ h x. onward h (walk_ranges d.count h x) f) (OfClass l.a)
       (Unless d.sets (OfClass (selected d.reads t.a l.a))) x y
       (λ h g u n o p. subst (Tells h g o) (sym (selected-sets d.reads t.a.0 t.a.1 l.a o p)) (u o (0 ∷ p)))
-      (gone-ranged d.count [] none x t.x y t.a l.a t.first l.first))
+      (gone-ranged d.count [] None x t.x y t.a l.a t.first l.first))
   gone-shape s d options x c y h =
-      let l = last_of (parse_options q p d.count (none, []) x) _ c y h in
+      let l = last_of (parse_options q p d.count (None, []) x) _ c y h in
       subst (λ c. Gone (walk_options f d.count) (Unless d.sets (OfClass c)) x y) l.made
       (gone-as (walk_options f d.count) (OfOptions l.a.1)
       (Unless d.sets (OfClass (variant d.reads (the_sign l.a.0) l.a.1))) x y
-      (λ h g t n o p. t o p 0) (gone-options d.count (none, []) x l.a y l.first))
+      (λ h g t n o p. t o p 0) (gone-options d.count (None, []) x l.a y l.first))
 
   -- a class's record, whole, and what it holds
   gone-body : (walk : Walk) (s : Spot) (r : Record) (x w : List ℕ) (c : Class) (y : List ℕ) → record_of w ≡ r → Whole w → x ≡ w ++ behind x
@@ -423,7 +423,7 @@ stopped (suc m) h (b ∷ z) s =
 
 -- what is told of roots, the first of which has the number n
 abbrev pub OfRoots : List (Option Class) → Telling
-OfRoots cs h g = (n : ℕ) → Tells h g none (of_roots n cs)
+OfRoots cs h g = (n : ℕ) → Tells h g None (of_roots n cs)
 
 -- the roots u, whatever is behind them, if it is no root; each takes a byte or more
 pub data RootsEnd (cs : List (Option Class)) (h : Homes) (u : List ℕ) : Type 0 where
@@ -437,7 +437,7 @@ record RootsGone (cs : List (Option Class)) (x y : List ℕ) : Type 0 where
   ends : (h : Homes) → RootsEnd cs h u
 
 -- a root that is not there says nothing
-no-root : (cs : List (Option Class)) (h : Homes) (u : List ℕ) → RootsEnd cs h u → RootsEnd (none ∷ cs) h u
+no-root : (cs : List (Option Class)) (h : Homes) (u : List ℕ) → RootsEnd cs h u → RootsEnd (None ∷ cs) h u
 unfolding of_roots of_root
 no-root cs h u (over g t p) = over g (λ n. t (n + 1)) p
 no-root cs h u (within v p) = within v p
@@ -468,16 +468,16 @@ module _ (w : List ℕ) (hw : Whole w) (is : is_any_root (record_of w) ≡ true)
         ∙ g m (omega (arith, whole-one w hw, simp length-append at l))
 
     roots-behind : (a : Homes) → OfClass c h a → ((z : List ℕ) → walk_class 8 h (u ++ z) ≡ walked a z) → RootsEnd cs (both a h) v
-        → RootsEnd (some c ∷ cs) h all
+        → RootsEnd (Some c ∷ cs) h all
     unfolding onward more of_roots of_root
     roots-behind a s p (over b r t) =
-        over (both a b) (λ n. tells-onward h a b none (settings c none (n ∷ [])) _ (s none (n ∷ [])) (r (n + 1)))
+        over (both a b) (λ n. tells-onward h a b None (settings c None (n ∷ [])) _ (s None (n ∷ [])) (r (n + 1)))
         (λ m z l s. to-class m z _ (λ m l. ap (λ o. onward h o (walk_roots m)) (p (v ++ z)) ∙ ap (more a) (t m z l s)) l)
     roots-behind a s p (within y t) =
         within y (λ m z l s. to-class m z _ (λ m l.
         ap (λ o. onward h o (walk_roots m)) (p (v ++ z)) ∙ ap (more a) (t m z l s)) l)
 
-    roots-more : Ends (walk_class 8) (OfClass c) h u → RootsEnd (some c ∷ cs) h all
+    roots-more : Ends (walk_class 8) (OfClass c) h u → RootsEnd (Some c ∷ cs) h all
     unfolding onward
     roots-more (passes a s p) = roots-behind a s p (k (both a h))
     roots-more (halts y p) =
@@ -498,23 +498,23 @@ module _ (timed u? : Bool) (q : Ids) where
       by true h = absurd (one-bad q root_fault 9 x cs y h)
       by false h =
           subst (λ cs. RootsGone cs x y) (good-is [] cs x y h)
-          (record { u = []; split = good-rest _ _ x y h; ends = λ h. over no_homes (λ n. tells_none h none) (λ m z l s. stopped m h z s) })
+          (record { u = []; split = good-rest _ _ x y h; ends = λ h. over no_homes (λ n. tells_none h None) (λ m z l s. stopped m h z s) })
   gone-roots (n ∷ ns) x cs y h = by (λ x cs y h. gone-roots ns x cs y h) (leb (size x) (length x) && is_root n (record_of x)) refl h
     where
       U : Under
       U = record { root = n; timed = timed; uuid = u? }
 
       rest : Class → Parser (List (Option Class))
-      rest c x = then (parse_roots q timed u? ns x) (λ cs x. good (some c ∷ cs) x)
+      rest c x = then (parse_roots q timed u? ns x) (λ cs x. good (Some c ∷ cs) x)
 
       by : Others ns → (b : Bool) → (leb (size x) (length x) && is_root n (record_of x)) ≡ b
           → elim b as (λ _. Parsed (List (Option Class))) [
             | true ↦ then (parse_class q U 8 top (behind x)) rest
-            | false ↦ then (parse_roots q timed u? ns x) (λ cs x. good (none ∷ cs) x)
+            | false ↦ then (parse_roots q timed u? ns x) (λ cs x. good (None ∷ cs) x)
           ] ≡ good cs y
           → RootsGone cs x y
       by rec false e h =
-          let l = last_of (parse_roots q timed u? ns x) (λ cs. none ∷ cs) cs y h in
+          let l = last_of (parse_roots q timed u? ns x) (λ cs. None ∷ cs) cs y h in
           let r = rec x l.a y l.first in
           subst (λ cs. RootsGone cs x y) l.made
           (record { u = r.u; split = r.split; ends = λ h. no-root l.a h r.u (r.ends h) })
@@ -525,7 +525,7 @@ module _ (timed u? : Bool) (q : Ids) where
           let w = take (size x) x in
           let hw = first-whole x th fits in
           let t = through (parse_class q U 8 top (behind x)) rest cs y h in
-          let l = last_of (parse_roots q timed u? ns t.x) (λ cs. some t.a ∷ cs) cs y t.second in
+          let l = last_of (parse_roots q timed u? ns t.x) (λ cs. Some t.a ∷ cs) cs y t.second in
           let k = gone-class q U 8 top (behind x) t.a t.x t.first in
           let r = rec t.x l.a y l.first in
           let is : is_any_root (record_of w) ≡ true = ap is_any_root (first-record x th fits) ∙ root-any n (record_of x) ir in

@@ -1,12 +1,12 @@
 -- What the walk over homes told of the fragments before stands for those behind: of the header for stream classes, and of a stream class
 -- for its event classes. So one home a slot holds with one fragment more in front, of each kind.
+use Rattle.std.specs.Prelude.{Option, None}
 use mathlib.Core.Path.{◌≡◌, refl, sym, ap, ◌∙◌, subst}
 use mathlib.Core.Logic.{◌⊎◌, inl, inr}
 use Prim.Native.Nat.{ℕ, zero, suc, ◌+◌}
 use native.Mathlib.Omega.{arith}
 use mathlib.Core.List.{List, [], ◌∷◌, ◌++◌}
 use mathlib.Core.Bool.{Bool, true, false, not, ◌||◌}
-use mathlib.Core.Option.{Option, none}
 use lib.ListN.{length}
 use lib.Dec.{eqb}
 use borrow.Author.Tests.{eqb-true, eq-eqb, ne_eqb}
@@ -39,7 +39,7 @@ left-within k l a i = in_left a k l i
 -- the first k of some roots, as the table takes them
 firsts : ℕ → List (Option Class) → List (Option Class)
 firsts zero cs = []
-firsts (suc k) [] = none ∷ firsts k []
+firsts (suc k) [] = None ∷ firsts k []
 firsts (suc k) (c ∷ cs) = c ∷ firsts k cs
 
 firsts-within : (k n : ℕ) (cs : List (Option Class)) → Within (of_roots n (firsts k cs)) (of_roots n cs)
@@ -84,18 +84,18 @@ closed q = q.trace || not (eqb (length q.streams) 0)
 -- of a stream class that was gone over
 pub record Before (ids : List ℕ) (l : List (ℕ × Homes)) (s : StreamClass) : Type 0 where
   pub known : among s.id ids ≡ true
-  pub covers : Covers (homes_of l s.id) none (of_stream s)
+  pub covers : Covers (homes_of l s.id) None (of_stream s)
   pub one : OneHome (of_stream s)
 
 -- the table's header c: it is still to come, in t, or was gone over
 pub data Header (shut : Bool) (h : Homes) (t : Table) (c : Option Class) : Type 0 where
   ahead : shut ≡ false → c ≡ t.header → Header shut h t c
-  gone : shut ≡ true → Covers h none (of_header c) → OneHome (of_header c) → Header shut h t c
+  gone : shut ≡ true → Covers h None (of_header c) → OneHome (of_header c) → Header shut h t c
 
 -- so it is of the fragments t that are still to come
 pub record Rest (shut : Bool) (ids : List ℕ) (h : Homes) (l : List (ℕ × Homes)) (t : Table) : Type 0 where
   pub fresh : (s : StreamClass) → In s t.streams → among s.id ids ≡ false
-  pub no_header : shut ≡ true → t.header ≡ none
+  pub no_header : shut ≡ true → t.header ≡ None
   pub header : OneHome (of_header t.header)
   pub packet : (c : Option Class) → Header shut h t c → (s : StreamClass) → In s t.streams → OneHome (of_packet c s)
   pub stream : (s : StreamClass) → In s t.streams → OneHome (of_stream s)
@@ -106,20 +106,20 @@ one-nothing : OneHome []
 unfolding In
 one-nothing a b i j e = absurd i
 
-no_one : (c : Option Class) → c ≡ none → OneHome (of_header c)
+no_one : (c : Option Class) → c ≡ None → OneHome (of_header c)
 unfolding of_roots of_root
 no_one c e = subst (λ c. OneHome (of_header c)) (sym e) one-nothing
 
-no-covers : (h : Homes) (c : Option Class) → c ≡ none → Covers h none (of_header c)
+no-covers : (h : Homes) (c : Option Class) → c ≡ None → Covers h None (of_header c)
 unfolding of_roots of_root
-no-covers h c e = subst (λ c. Covers h none (of_header c)) (sym e) (covers-nothing h none)
+no-covers h c e = subst (λ c. Covers h None (of_header c)) (sym e) (covers-nothing h None)
 
 pub rest-none : (shut : Bool) (ids : List ℕ) (h : Homes) (l : List (ℕ × Homes)) → Rest shut ids h l no_table
 unfolding no_table In
 rest-none shut ids h l = record {
   fresh = λ s i. absurd i;
   no_header = λ e. refl;
-  header = no_one none refl;
+  header = no_one None refl;
   packet = λ c k s i. absurd i;
   stream = λ s i. absurd i;
   later = λ s b e i. absurd i;
@@ -128,7 +128,7 @@ rest-none shut ids h l = record {
 
 -- a fragment's roots on their own: what the walk told of them, with nothing before
 tells-alone : (h k : Homes) (cs : List (Option Class)) (n : ℕ) → OfRoots cs h k → OneHome (of_roots n cs)
-tells-alone h k cs n r = (r n).one [] (covers-nothing h none) one-nothing
+tells-alone h k cs n r = (r n).one [] (covers-nothing h None) one-nothing
 
 -- One fragment more in front
 
@@ -149,8 +149,8 @@ rest-trace u x ids h k l cs t r m = record {
     one : OneHome (of_header (root_of cs 0))
     one = within-one (of_header (root_of cs 0)) (of_roots 0 cs) (first_one 0 cs) (tells-alone no_homes k cs 0 r)
 
-    covers : Covers k none (of_header (root_of cs 0))
-    covers = within-covers k none (of_header (root_of cs 0)) (of_roots 0 cs) (first_one 0 cs) (r 0).own
+    covers : Covers k None (of_header (root_of cs 0))
+    covers = within-covers k None (of_header (root_of cs 0)) (of_roots 0 cs) (first_one 0 cs) (r 0).own
 
     of : (c : Option Class) → Header false h (add (trace_class u x) cs t) c → Header true k t c
     of c (ahead e f) = subst (Header true k t) (sym f) (gone refl covers one)
@@ -177,7 +177,7 @@ module _ (i c : ℕ) (shut : Bool) (ids : List ℕ) (h k : Homes) (l : List (ℕ
   unfolding among homes_of
   stream-before = record {
     known = rw (eq-eqb i i refl) refl;
-    covers = rw (eq-eqb i i refl, homes_of) (within-covers k none (of_stream this) (of_roots 1 cs) (first_three 1 cs) (r 1).own);
+    covers = rw (eq-eqb i i refl, homes_of) (within-covers k None (of_stream this) (of_roots 1 cs) (first_three 1 cs) (r 1).own);
     one = stream-one;
   }
 
@@ -189,14 +189,14 @@ module _ (i c : ℕ) (shut : Bool) (ids : List ℕ) (h k : Homes) (l : List (ℕ
     one = b.one;
   }
 
-  packet-one : (d : Option Class) → Covers h none (of_header d) → OneHome (of_header d) → OneHome (of_packet d this)
+  packet-one : (d : Option Class) → Covers h None (of_header d) → OneHome (of_header d) → OneHome (of_packet d this)
   unfolding of_packet of_roots
   packet-one d v o =
       within-one (of_packet d this) (of_header d ++ of_roots 1 cs)
       (within_more (of_root 0 d) (of_header d) (of_roots 1 (root_of cs 0 ∷ [])) (of_roots 1 cs) (left-within (of_root 0 d) []) (first_one 1 cs))
       ((r 1).one (of_header d) v o)
 
-  header-gone : (d : Option Class) → Header shut h (add (stream_class i c) cs t) d → Covers h none (of_header d) × OneHome (of_header d)
+  header-gone : (d : Option Class) → Header shut h (add (stream_class i c) cs t) d → Covers h None (of_header d) × OneHome (of_header d)
   unfolding add
   header-gone d (ahead e f) = let z = f ∙ m.no_header refl in (no-covers h d z, no_one d z)
   header-gone d (gone e f g) = (f, g)
@@ -253,7 +253,7 @@ module _ (i j : ℕ) (shut : Bool) (ids : List ℕ) (h k : Homes) (l : List (ℕ
   event-one : (s : StreamClass) → Before ids l s → i ≡ s.id → OneHome (of_event s new)
   event-one s b e =
       within-one (of_event s new) (of_stream s ++ of_roots 4 cs) (event-within s)
-      ((r 4).one (of_stream s) (subst (λ i. Covers (homes_of l i) none (of_stream s)) (sym e) b.covers) b.one)
+      ((r 4).one (of_stream s) (subst (λ i. Covers (homes_of l i) None (of_stream s)) (sym e) b.covers) b.one)
 
   rest-event : Rest shut ids h l (add (event_class i j) cs t)
   unfolding add In

@@ -1,4 +1,5 @@
 -- The laws of the rules, gathered: each is shown in a file of its own and put together here for an accepted table.
+use Rattle.std.specs.Prelude.{None}
 use mathlib.Core.Path.{◌≡◌, refl}
 use Prim.Native.Nat.{ℕ, ◌*◌, ◌≤◌}
 use native.Mathlib.Omega.{arith}
@@ -7,7 +8,6 @@ use mathlib.Core.List.{List, []}
 use mathlib.Core.Bool.{Bool, true, false, ◌||◌}
 use lib.ListN.{length}
 use lib.Dec.{ltb, eqb}
-use Rattle.rules.specs.declared.Stated.TheVariants.{Missing}
 use Rattle.rules.specs.declared.Refusal.TheVariants.{StreamSize}
 use Rattle.rules.specs.declared.Verdict.TheVariants.{Refused}
 use Rattle.rules.specs.Limits.{stream_limit}
@@ -62,12 +62,12 @@ stream_at t w b room = by (eqb (length b) 0 || ltb stream_limit (length b))
   where
     by : (c : Bool) → EndsAt (8 * length b) (elim c [
       | true ↦ record { entries = []; verdict = Refused (stop_at StreamSize (bit_place 0)) }
-      | false ↦ ended (read_packets (asked t) b 0 Missing (length b) (begin room))
+      | false ↦ ended (read_packets (asked t) b 0 None (length b) (begin room))
     ])
     by true = unfold EndsAt number_of refusal_number place_of in (omega arith, (λ z. absurd (omega arith)), omega arith)
     by false = unfold begin in
-        ended_at (8 * length b) (read_packets (asked t) b 0 Missing (length b) (begin room))
-        (go-packets (asked t) w b 0 Missing (length b) (begin room) refl (omega arith) (omega arith))
+        ended_at (8 * length b) (read_packets (asked t) b 0 None (length b) (begin room))
+        (go-packets (asked t) w b 0 None (length b) (begin room) refl (omega arith) (omega arith))
 
 reading-at : (x : List ℕ) (t : Table) (y : List ℕ) → parse x ≡ good t y → (b : List ℕ) (room : ℕ) → EndsAt (8 * length b) (read_all x b room)
 unfolding read_all read_parsed
@@ -85,7 +85,7 @@ the_laws x t y p = record {
   fragment-rounds = λ q z more. table-rounds (length z) more q z (le_refl (length z));
   event-rounds = λ c e to n s more. event-rounds (asked t) c e to n more s;
   packet-rounds = λ b room more. unfold begin in
-      packet-rounds (asked t) (accepted-positive x t y p) b 0 Missing (length b) more (begin room) refl (omega arith);
+      packet-rounds (asked t) (accepted-positive x t y p) b 0 None (length b) more (begin room) refl (omega arith);
   fits = λ g b room. reading-words x g t y p b room;
   list-fits = λ g b room. list-words _ (reading-words x g t y p b room).0;
 }

@@ -1,4 +1,5 @@
 -- Lookups among the classes that stay: what was found is found where its ids stay, and else nothing.
+use Rattle.std.specs.Prelude.{None}
 use mathlib.Core.Path.{◌≡◌, refl, sym, ap, ◌∙◌}
 use Prim.Native.Nat.{ℕ, zero, suc, ◌≤◌}
 use native.Mathlib.Omega.{arith}
@@ -6,7 +7,6 @@ use native.Mathlib.Nat.{le_refl}
 use lib.ListN.{length, length-drop, take-append-drop}
 use mathlib.Core.List.{List, [], ◌∷◌}
 use mathlib.Core.Bool.{Bool, true, false, ◌&&◌}
-use mathlib.Core.Option.{none}
 use lib.Dec.{eqb}
 use borrow.Author.Tests.{eqb-true}
 use Rattle.rules.specs.Table.{StreamClass, EventClass, find_stream, find_event}
@@ -32,13 +32,13 @@ module _ (k : ℕ → ℕ → Bool) (i j : ℕ) where
       by false true p q r = absurd (clash (sym p ∙ ids c true h q))
       by false false p q r = simp (p, q, keep_events, find_event) r
 
-  pub gone : k i j ≡ false → (cs : List EventClass) → find_event (keep_events k cs) i j ≡ none
+  pub gone : k i j ≡ false → (cs : List EventClass) → find_event (keep_events k cs) i j ≡ None
   unfolding find_event keep_events
   gone h [] = refl
   gone h (c ∷ cs) = by (k c.stream c.id) (eqb c.stream i && eqb c.id j) refl refl (gone h cs)
     where
-      by : (x y : Bool) → k c.stream c.id ≡ x → (eqb c.stream i && eqb c.id j) ≡ y → find_event (keep_events k cs) i j ≡ none
-          → find_event (keep_events k (c ∷ cs)) i j ≡ none
+      by : (x y : Bool) → k c.stream c.id ≡ x → (eqb c.stream i && eqb c.id j) ≡ y → find_event (keep_events k cs) i j ≡ None
+          → find_event (keep_events k (c ∷ cs)) i j ≡ None
       by true true p q r = absurd (clash (sym (ids c false h q) ∙ p))
       by true false p q r = simp (p, q, keep_events, find_event) r
       by false true p q r = simp (p, keep_events) r
@@ -57,12 +57,12 @@ module _ (k : ℕ → Bool) (i : ℕ) where
       by false true p q r = absurd (clash (sym p ∙ ap k (eqb-true _ _ q) ∙ h))
       by false false p q r = simp (p, q, keep_streams, find_stream) r
 
-  pub stream-gone : k i ≡ false → (cs : List StreamClass) → find_stream (keep_streams k cs) i ≡ none
+  pub stream-gone : k i ≡ false → (cs : List StreamClass) → find_stream (keep_streams k cs) i ≡ None
   unfolding find_stream keep_streams
   stream-gone h [] = refl
   stream-gone h (c ∷ cs) = by (k c.id) (eqb c.id i) refl refl (stream-gone h cs)
     where
-      by : (x y : Bool) → k c.id ≡ x → eqb c.id i ≡ y → find_stream (keep_streams k cs) i ≡ none → find_stream (keep_streams k (c ∷ cs)) i ≡ none
+      by : (x y : Bool) → k c.id ≡ x → eqb c.id i ≡ y → find_stream (keep_streams k cs) i ≡ None → find_stream (keep_streams k (c ∷ cs)) i ≡ None
       by true true p q r = absurd (clash (sym h ∙ ap k (sym (eqb-true _ _ q)) ∙ p))
       by true false p q r = simp (p, q, keep_streams, find_stream) r
       by false true p q r = simp (p, keep_streams) r

@@ -1,17 +1,15 @@
 -- An accepted table of bytes: every word that a reading lists, and those of its verdict, are below 2 ^ 64.
 -- In order: packets; what an accepted table's bytes can say; readings.
+use Rattle.std.specs.Prelude.{Option, None, Some}
 use mathlib.Core.Path.{◌≡◌, refl, sym, subst}
 use Prim.Native.Nat.{ℕ, zero, suc, ◌+◌, ◌-◌, ◌*◌, ◌%◌, ◌≤◌}
 use native.Mathlib.Omega.{arith}
 use mathlib.Core.List.{List, [], ◌∷◌}
 use mathlib.Core.Bool.{Bool, true, false, not, ◌||◌}
-use mathlib.Core.Option.{Option, none, some}
 use lib.ListN.{length, get_or, take, drop}
 use lib.Dec.{ltb, eqb}
 use borrow.Author.Tests.{ltb-false}
 use Rattle.rules.specs.declared.BitPlace.{BitPlace}
-use Rattle.rules.specs.declared.Stated.{Stated}
-use Rattle.rules.specs.declared.Stated.TheVariants.{Missing, As}
 use Rattle.rules.specs.declared.Entry.{Entry}
 use Rattle.rules.specs.declared.Refusal.TheVariants.{StreamSize, StreamClassChanged, StreamClassUnknown, LengthsContradict}
 use Rattle.rules.specs.declared.Refusal.TheVariants.{ClocksContradict, EventClassUnknown, EventTookNoBits, ClockWentBack}
@@ -54,16 +52,16 @@ word-mark k n v a b c = record {
 }
 
 word-event : (i j : ℕ) (x : Option EventClass) (f : EventClass → Step)
-    → Word i → Word j → ((d : EventClass) → x ≡ some d → Worded (f d)) → Worded (with_event i j x f)
+    → Word i → Word j → ((d : EventClass) → x ≡ Some d → Worded (f d)) → Worded (with_event i j x f)
 unfolding with_event
-word-event i j none f a b h = naming WordEntry WordStop WordIds (EventClassUnknown i j) (λ s w. (w.place, (a, b)))
-word-event i j (some d) f a b h = h d refl
+word-event i j None f a b h = naming WordEntry WordStop WordIds (EventClassUnknown i j) (λ s w. (w.place, (a, b)))
+word-event i j (Some d) f a b h = h d refl
 
 word-stream : (i : ℕ) (x : Option StreamClass) (f : StreamClass → Step)
-    → Word i → ((d : StreamClass) → x ≡ some d → Worded (f d)) → Worded (with_stream i x f)
+    → Word i → ((d : StreamClass) → x ≡ Some d → Worded (f d)) → Worded (with_stream i x f)
 unfolding with_stream
-word-stream i none f a h = naming WordEntry WordStop WordIds (StreamClassUnknown i) (λ s w. (w.place, a))
-word-stream i (some d) f a h = h d refl
+word-stream i None f a h = naming WordEntry WordStop WordIds (StreamClassUnknown i) (λ s w. (w.place, a))
+word-stream i (Some d) f a h = h d refl
 
 word-start_event : Worded (change start_event)
 unfolding start_event
@@ -96,8 +94,8 @@ ok-if true x y h k = h refl
 ok-if false x y h k = k
 
 module _ (t : Asked) (w : Fitting To64 (λ r. Any) Word t) (numbers : Numbering (λ o. SmallRecord) t)
-    (ids : (i : ℕ) (c : StreamClass) → t.stream i ≡ some c → c.id ≡ i) where
-  word-read_event : (i : ℕ) (c : StreamClass) → t.stream i ≡ some c → Word i → (e : Env) → Env64 e → (n : ℕ) → Word n
+    (ids : (i : ℕ) (c : StreamClass) → t.stream i ≡ Some c → c.id ≡ i) where
+  word-read_event : (i : ℕ) (c : StreamClass) → t.stream i ≡ Some c → Word i → (e : Env) → Env64 e → (n : ℕ) → Word n
       → Worded (read_event t c e n)
   unfolding read_event
   word-read_event i c p j e g n h = record {
@@ -121,7 +119,7 @@ module _ (t : Asked) (w : Fitting To64 (λ r. Any) Word t) (numbers : Numbering 
             ⨾ʷ word-root e g (payload_number d) d.payload (w.event _ _ d q).1 (numbers.payload _ _ d q))).at s h;
       }
 
-  word-events : (i : ℕ) (c : StreamClass) → t.stream i ≡ some c → Word i → (e : Env) → Env64 e → (to : BitPlace) (n left : ℕ)
+  word-events : (i : ℕ) (c : StreamClass) → t.stream i ≡ Some c → Word i → (e : Env) → Env64 e → (to : BitPlace) (n left : ℕ)
       → Word to.0 → Word (n + left) → Worded (read_events t c e to n left)
   unfolding read_events
   word-events i c p j e g to n zero a h = word_end to n a (omega arith)
@@ -133,7 +131,7 @@ module _ (t : Asked) (w : Fitting To64 (λ r. Any) Word t) (numbers : Numbering 
   }
 
   module _ (b : List ℕ) (small : length b ≤ stream_limit) where
-    word-content : (i : ℕ) (c : StreamClass) → t.stream i ≡ some c → Word i → (p : BitPlace) (total content : ℕ)
+    word-content : (i : ℕ) (c : StreamClass) → t.stream i ≡ Some c → Word i → (p : BitPlace) (total content : ℕ)
         → Worded (read_content t c b p total content)
     unfolding read_content
     word-content i c q j p total content = word-due (tested WordEntry WordStop WordIds place_of _ LengthsContradict tt (record {
@@ -154,7 +152,7 @@ module _ (t : Asked) (w : Fitting To64 (λ r. Any) Word t) (numbers : Numbering 
         inner : Env
         inner = record { bytes = b; start = p; bound = further p content; uuid = t.uuid }
 
-    word-packet : (k : ℕ) (i : Stated) → Word k → (s₀ : State) → Wordy s₀ → WordedOut (read_packet t b k i s₀)
+    word-packet : (k : ℕ) (i : Option ℕ) → Word k → (s₀ : State) → Wordy s₀ → WordedOut (read_packet t b k i s₀)
     unfolding read_packet
     word-packet k i h s₀ h₀ =
         (word-due (word-mark 1 0 k (omega arith) (omega arith) h ⨾ʷ word-start_packet
@@ -172,13 +170,13 @@ module _ (t : Asked) (w : Fitting To64 (λ r. Any) Word t) (numbers : Numbering 
         g : Env64 e
         g = record { start = h₀.place; bound = omega arith }
 
-    pub word-packets : (k : ℕ) (i : Stated) (left : ℕ) → Word (k + left) → Worded (read_packets t b k i left)
+    pub word-packets : (k : ℕ) (i : Option ℕ) (left : ℕ) → Word (k + left) → Worded (read_packets t b k i left)
     unfolding read_packets
     word-packets k i zero h = word-pass
     word-packets k i (suc left) h = record {
       at = λ s x.
           ok-if (ltb s.place.0 (8 * length b)) _ _
-          (λ q. (packet ⨾ʷ record { at = λ s x. (word-packets (k + 1) (As s.said.stream) left (omega arith)).at s x }).at s x)
+          (λ q. (packet ⨾ʷ record { at = λ s x. (word-packets (k + 1) (Some s.said.stream) left (omega arith)).at s x }).at s x)
           (word-pass.at s x);
     }
       where
@@ -365,7 +363,7 @@ begin-words room = record {
 }
 
 stream-words : (t : Asked) → Fitting To64 (λ r. Any) Word t → Numbering (λ o. SmallRecord) t
-    → ((i : ℕ) (c : StreamClass) → t.stream i ≡ some c → c.id ≡ i)
+    → ((i : ℕ) (c : StreamClass) → t.stream i ≡ Some c → c.id ≡ i)
     → (b : List ℕ) (room : ℕ) → WordReading (read_stream t b room)
 unfolding read_stream
 stream-words t w numbers ids b room = by (eqb (length b) 0 || ltb stream_limit (length b)) refl
@@ -373,12 +371,12 @@ stream-words t w numbers ids b room = by (eqb (length b) 0 || ltb stream_limit (
     by : (c : Bool) → (eqb (length b) 0 || ltb stream_limit (length b)) ≡ c
         → WordReading (elim c [
           | true ↦ record { entries = []; verdict = Refused (stop_at StreamSize (bit_place 0)) }
-          | false ↦ ended (read_packets t b 0 Missing (length b) (begin room))
+          | false ↦ ended (read_packets t b 0 None (length b) (begin room))
         ])
     by true h = (tt, (omega arith, tt))
     by false h =
         let l : length b ≤ stream_limit = ltb-false stream_limit (length b) (or-false (eqb (length b) 0) (ltb stream_limit (length b)) h).1 in
-        ended-words _ ((word-packets t w numbers ids b l 0 Missing (length b) (omega arith)).at (begin room) (begin-words room))
+        ended-words _ ((word-packets t w numbers ids b l 0 None (length b) (omega arith)).at (begin room) (begin-words room))
 
 -- every word of every entry; the verdict's place and ids
 pub reading-words : (x : List ℕ) → Bytes x → (t : Table) (y : List ℕ) → parse x ≡ good t y → (b : List ℕ) (room : ℕ)

@@ -1,10 +1,10 @@
 -- A parser that accepts looks at no byte behind what it takes, and by no id of earlier records.
+use Rattle.std.specs.Prelude.{Option, None}
 use mathlib.Core.Path.{◌≡◌, refl, sym, ap, ◌∙◌, subst}
 use Prim.Native.Nat.{ℕ, zero, suc, ◌+◌, ◌-◌, ◌≤◌}
 use native.Mathlib.Omega.{arith}
 use mathlib.Core.List.{List, [], ◌∷◌, ◌++◌, append_assoc}
 use mathlib.Core.Bool.{Bool, true, false}
-use mathlib.Core.Option.{Option, none}
 use lib.ListN.{length, length-append, take, take-append-drop}
 use lib.Seq.{take_at, drop_at, length-take-le, take_all}
 use lib.Dec.{ltb}
@@ -223,9 +223,9 @@ module _ (f : Ids → Spot → Parser Class) (lf : (z : Spot) → Local (λ q x.
   local-shape z y elements = local-then _ _ (lf inside) (λ c. local-good (static_array y.count y.align c))
   local-shape z y elements_of = local-then _ _ (lf inside) (λ c. local-good (dynamic_array y.reads y.align c))
   local-shape z y option? =
-      local-then _ _ (local-ranges [] y.count none) (λ p. local-then _ _ (lf inside) (λ c. local-good (selected y.reads p c)))
+      local-then _ _ (local-ranges [] y.count None) (λ p. local-then _ _ (lf inside) (λ c. local-good (selected y.reads p c)))
   local-shape z y options =
-      local-then _ _ (local-options y.count (none, [])) (λ p. local-good (variant y.reads (the_sign p.0) p.1))
+      local-then _ _ (local-options y.count (None, [])) (λ p. local-good (variant y.reads (the_sign p.0) p.1))
 
   local-body : (z : Spot) (r : Record) → Local (λ q x. parse_body q (f q) z r x)
   unfolding parse_body

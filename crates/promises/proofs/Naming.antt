@@ -1,18 +1,16 @@
 -- Each entry of a reading names a record of its kind, in the fragment that it was read by: a law of steps, from an owner. In order:
 -- owners; entries; steps; packets; readings.
+use Rattle.std.specs.Prelude.{Option, None, Some}
 use mathlib.Core.Path.{◌≡◌, refl, sym, ap, subst, ◌∙◌}
 use mathlib.Core.Logic.{inl, inr}
 use Prim.Native.Nat.{ℕ, zero, suc, ◌+◌, ◌-◌, ◌*◌, ◌≤◌, ◌<◌}
 use native.Mathlib.Omega.{arith}
 use mathlib.Core.List.{List, [], ◌∷◌, ◌++◌}
 use mathlib.Core.Bool.{Bool, true, false, ◌||◌}
-use mathlib.Core.Option.{Option, none, some}
 use lib.ListN.{length}
 use lib.Dec.{ltb, eqb}
 use borrow.Author.Tests.{ne_eqb}
 use Rattle.rules.specs.declared.BitPlace.{BitPlace}
-use Rattle.rules.specs.declared.Stated.{Stated}
-use Rattle.rules.specs.declared.Stated.TheVariants.{Missing, As}
 use Rattle.rules.specs.declared.Entry.{Entry}
 use Rattle.rules.specs.declared.Refusal.TheVariants.{StreamSize, StreamClassChanged, StreamClassUnknown}
 use Rattle.rules.specs.declared.Refusal.TheVariants.{LengthsContradict, ClocksContradict, EventClassUnknown}
@@ -218,10 +216,10 @@ module _ (x : List ℕ) where
         (steady-plain o packet_ends _ n to (omega arith) ((λ q. omega arith), (λ q. omega arith), (λ q. omega arith), (λ q. omega arith)));
   }))
 
-  module _ (t : Asked) (numbers : Numbering (Named x) t) (ids : (i : ℕ) (c : StreamClass) → t.stream i ≡ some c → c.id ≡ i) where
-    module _ (c : StreamClass) (own : t.stream c.id ≡ some c) (e : Env) where
+  module _ (t : Asked) (numbers : Numbering (Named x) t) (ids : (i : ℕ) (c : StreamClass) → t.stream i ≡ Some c → c.id ≡ i) where
+    module _ (c : StreamClass) (own : t.stream c.id ≡ Some c) (e : Env) where
       -- the roots of an event behind its entry 5
-      of-class : (j : ℕ) (d : EventClass) → t.event c.id j ≡ some d
+      of-class : (j : ℕ) (d : EventClass) → t.event c.id j ≡ Some d
           → Naming (Is (of_stream c.id))
           (mark event_class_found 0 j ⨾ read_root e (common_number c) c.common ⨾ read_root e first_root d.specific
           ⨾ read_root e (payload_number d) d.payload) (Is (of_event c.id j))
@@ -238,9 +236,9 @@ module _ (x : List ℕ) where
           (with_event c.id j y (λ d. mark event_class_found 0 j ⨾ read_root e (common_number c) c.common
           ⨾ read_root e first_root d.specific ⨾ read_root e (payload_number d) d.payload)) (Under c.id)
       unfolding with_event
-      found-names j none p = looser (stream-under c.id)
+      found-names j None p = looser (stream-under c.id)
           (steady-is (of_stream c.id) (each-refuse (Steady (of_stream c.id)) (EventClassUnknown c.id j)))
-      found-names j (some d) p = looser (event-under c.id j) (of-class j d p)
+      found-names j (Some d) p = looser (event-under c.id j) (of-class j d p)
 
       event-names : (n : ℕ) → Naming (Under c.id) (read_event t c e n) (Under c.id)
       unfolding read_event
@@ -265,7 +263,7 @@ module _ (x : List ℕ) where
             ((event-names n ⨾ᵒ events-names to (n + 1) left).at o a s) ((end-names (Under c.id) to n).at o a s);
       }
 
-    content-names : (c : StreamClass) → t.stream c.id ≡ some c → (b : List ℕ) (p : BitPlace) (total content : ℕ)
+    content-names : (c : StreamClass) → t.stream c.id ≡ Some c → (b : List ℕ) (p : BitPlace) (total content : ℕ)
         → Naming (Is (of_stream c.id)) (read_content t c b p total content) Anyone
     unfolding read_content
     content-names c own b p total content =
@@ -284,18 +282,18 @@ module _ (x : List ℕ) where
         → Naming (Is of_trace) (with_stream v y (λ c. mark stream_class_found 0 v ⨾ read_root e first_root c.context
         ⨾ λ s. read_content t c b p (total c s) (content c s) s)) Anyone
     unfolding with_stream
-    stream-names b p total content e v none h =
+    stream-names b p total content e v None h =
         looser (λ z u. tt) (steady-is of_trace (each-refuse (Steady of_trace) (StreamClassUnknown v)))
-    stream-names b p total content e v (some c) h =
+    stream-names b p total content e v (Some c) h =
         let i : Owner = of_stream v in
-        let own : t.stream c.id ≡ some c = subst (λ z. t.stream z ≡ some c) (sym (ids v c h)) h in
+        let own : t.stream c.id ≡ Some c = subst (λ z. t.stream z ≡ Some c) (sym (ids v c h)) h in
         mark-2 v
         ⨾ᵒ steady-is i (steady-root i (Named x i) (λ n k z. z) e first_root c.context (numbers.context v c h))
         ⨾ᵒ record {
           at = λ o q s. (content-names c own b p (total c s) (content c s)).at o (q ∙ ap of_stream (sym (ids v c h))) s;
         }
 
-    packet-names : (b : List ℕ) (k : ℕ) (i : Stated) → Naming Anyone (read_packet t b k i) Anyone
+    packet-names : (b : List ℕ) (k : ℕ) (i : Option ℕ) → Naming Anyone (read_packet t b k i) Anyone
     unfolding read_packet
     packet-names b k i = record {
       at = λ o a s₀.
@@ -311,12 +309,12 @@ module _ (x : List ℕ) where
           )).at o a s₀;
     }
 
-    packets-names : (b : List ℕ) (k : ℕ) (i : Stated) (left : ℕ) → Naming Anyone (read_packets t b k i left) Anyone
+    packets-names : (b : List ℕ) (k : ℕ) (i : Option ℕ) (left : ℕ) → Naming Anyone (read_packets t b k i left) Anyone
     unfolding read_packets
     packets-names b k i zero = steady Anyone (λ o a. each-pass (Steady o))
     packets-names b k i (suc left) = record {
       at = λ o a s. by-test o Anyone (ltb s.place.0 (8 * length b)) _ _
-          ((◌⨾ᵒ◌ {C = Anyone} (packet-names b k i) (record { at = λ o a s. (packets-names b (k + 1) (As s.said.stream) left).at o a s })).at o a s)
+          ((◌⨾ᵒ◌ {C = Anyone} (packet-names b k i) (record { at = λ o a s. (packets-names b (k + 1) (Some s.said.stream) left).at o a s })).at o a s)
           ((steady Anyone (λ o a. each-pass (Steady o))).at o a s);
     }
 
@@ -332,14 +330,14 @@ module _ (x : List ℕ) where
     read_names b room = by (eqb (length b) 0 || ltb stream_limit (length b))
       where
         packets : Out
-        packets = read_packets t b 0 Missing (length b) (begin room)
+        packets = read_packets t b 0 None (length b) (begin room)
 
         by : (z : Bool) → Names x nobody (elim z as (λ y. Reading) [
           | true ↦ record { entries = []; verdict = Refused (stop_at StreamSize (bit_place 0)) }
           | false ↦ ended packets
         ]).entries
         by true = tt
-        by false = ended-names nobody packets ((packets-names b 0 Missing (length b)).at nobody tt (begin room))
+        by false = ended-names nobody packets ((packets-names b 0 None (length b)).at nobody tt (begin room))
 
   pub reading-names : (t : Table) (y : List ℕ) → parse x ≡ good t y → (b : List ℕ) (room : ℕ) → Names x nobody (read_all x b room).entries
   unfolding read_all read_parsed

@@ -1,10 +1,10 @@
 -- A table is refused by one of the paper's numbers, 1 to 15: so is each test, and so all that is parsed.
+use Rattle.std.specs.Prelude.{Option, None}
 use mathlib.Core.Path.{◌≡◌, subst}
 use Prim.Native.Nat.{ℕ, zero, suc, ◌≤◌}
 use native.Mathlib.Omega.{arith}
 use mathlib.Core.List.{List, [], ◌∷◌, ◌++◌}
 use mathlib.Core.Bool.{Bool, true, false, not, ◌&&◌, ◌||◌}
-use mathlib.Core.Option.{Option, none}
 use lib.ListN.{length}
 use lib.Dec.{ltb, leb, eqb}
 use Rattle.rules.specs.Limits.{table_limit, depth_limit}
@@ -167,8 +167,8 @@ module _ (q : Ids) (f : Spot → Parser Class) (h : (z : Spot) (x : List ℕ) �
   shape-numbered z y elements x = then-numbered (f inside x) _ (h inside x) (λ c v. tt)
   shape-numbered z y elements_of x = then-numbered (f inside x) _ (h inside x) (λ c v. tt)
   shape-numbered z y option? x =
-      then-numbered (parse_ranges q [] y.count none x) _ (ranges-numbered q [] y.count none x) (λ p v. then-numbered (f inside v) _ (h inside v) (λ c w. tt))
-  shape-numbered z y options x = then-numbered (parse_options q f y.count (none, []) x) _ (options-numbered y.count (none, []) x) (λ p v. tt)
+      then-numbered (parse_ranges q [] y.count None x) _ (ranges-numbered q [] y.count None x) (λ p v. then-numbered (f inside v) _ (h inside v) (λ c w. tt))
+  shape-numbered z y options x = then-numbered (parse_options q f y.count (None, []) x) _ (options-numbered y.count (None, []) x) (λ p v. tt)
 
   body-numbered : (z : Spot) (r : Record) (x : List ℕ) → Numbered (parse_body q f z r x)
   unfolding parse_body

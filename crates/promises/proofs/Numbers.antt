@@ -1,12 +1,12 @@
 -- The rules refuse by the paper's numbers for the answers: a field that gets to its bytes does as the answer says. In order: fields;
 -- stamps; records.
+use Rattle.std.specs.Prelude.{Option, None, Some}
 use mathlib.Core.Path.{◌≡◌, refl, sym, ap, subst, ◌∙◌}
 use mathlib.Core.Logic.{◌↔◌}
 use Prim.Native.Nat.{ℕ, zero, suc, ◌+◌, ◌-◌, ◌*◌, ◌/◌, ◌%◌, ◌^◌, ◌≤◌, ◌<◌}
 use native.Mathlib.Omega.{arith}
 use mathlib.Core.List.{List, [], ◌∷◌}
 use mathlib.Core.Bool.{Bool, true, false, not, ◌&&◌, ◌||◌}
-use mathlib.Core.Option.{Option, none, some}
 use lib.ListN.{length, get_or, take, drop, length-take}
 use lib.Seq.{take-take}
 use borrow.Author.Tests.{le-ltb}
@@ -17,8 +17,6 @@ use Rattle.rules.specs.declared.Content.{Content}
 use Rattle.rules.specs.declared.Content.TheVariants.{Unsigned, Signed}
 use Rattle.rules.specs.declared.Leb.{Leb}
 use Rattle.rules.specs.declared.Leb.TheVariants.{Value, Past, Large}
-use Rattle.rules.specs.declared.Ended.{Ended}
-use Rattle.rules.specs.declared.Ended.TheVariants.{After, Never}
 use Rattle.rules.specs.declared.Refusal.{Refusal}
 use Rattle.rules.specs.declared.Refusal.TheVariants.{PastBound, LebTooLarge, NoZeroByte, ClockTooLarge, NotText}
 use Rattle.rules.specs.Record.{Record, unknown, fragment, root, class, range, option, Layout, no, bits_layout, layouts, layout_of, record_of, u8}
@@ -41,7 +39,6 @@ use Rattle.clock.specs.Least.{Least}
 use Rattle.clock.proofs.Least.{new-clock}
 use Rattle.text.specs.Number.{text_number, ended_number}
 use Rattle.text.proofs.Laws.{zero-found, text-own}
-use Rattle.table_offsets.specs.declared.Body.TheVariants.{Bytes, Unknown}
 use Rattle.table_offsets.specs.Bodies.{known, body_in, body_of, body_number}
 use Rattle.laws.proofs.Places.{tenth_byte}
 use Rattle.promises.specs.Numbers.{Lists, ByNumber, AtBytes, BytesFit, leb_place, Numbers}
@@ -113,18 +110,18 @@ front-ahead e p n h =
     take-take n left from (omega (arith, length-take left from))
 
 -- the text that a zero byte ends is that of all bytes from its first one on
-text-ahead : (e : Env) (p : BitPlace) (n : ByteLength) → zero_at (ahead e p) ≡ After n → is_text (bytes_at e p n.0) ≡ is_text (ahead e p)
+text-ahead : (e : Env) (p : BitPlace) (n : ByteLength) → zero_at (ahead e p) ≡ Some n → is_text (bytes_at e p n.0) ≡ is_text (ahead e p)
 text-ahead e p n q =
     let found = zero-found (ahead e p) n q in
     rw (← front-ahead e p n.0 found.0, ← found.1) (text-own (ahead e p))
 
-by-zero_byte : (e : Env) (m : ℕ) (x : Ended) (s : State) → zero_at (ahead e (aligned e 8 s)) ≡ x
+by-zero_byte : (e : Env) (m : ℕ) (x : Option ByteLength) (s : State) → zero_at (ahead e (aligned e 8 s)) ≡ x
     → ByNumber (ended_number (is_text (ahead e (aligned e 8 s))) x) s.place (read_zero e m x s)
 unfolding read_zero ended_number ◌⨾◌
-by-zero_byte e m (After n) s q =
-    subst (λ t. ByNumber (text_number t) s.place (read_zero e m (After n) s)) (text-ahead e (aligned e 8 s) n q)
+by-zero_byte e m (Some n) s q =
+    subst (λ t. ByNumber (text_number t) s.place (read_zero e m (Some n) s)) (text-ahead e (aligned e 8 s) n q)
     (by-text e (bytes_at e (aligned e 8 s) n.0) m 23 (8 * (n.0 + 1)) n.0 s)
-by-zero_byte e m Never s q = by-refuse NoZeroByte s (unfold refusal_number in λ z. omega arith)
+by-zero_byte e m None s q = by-refuse NoZeroByte s (unfold refusal_number in λ z. omega arith)
 
 by_bytes : (e : Env) (m k n : ℕ) (s : State) → AtBytes e s → BytesFit e n s
     → ByNumber (text_number (is_text (bytes_at e (aligned e 8 s) n))) s.place (read_text e m k n s)
@@ -137,17 +134,17 @@ by_bytes e m k n s h f =
 
 by-clock : (l : ℕ) (o : Option ℕ) (s : State) → ByNumber (ticked_number (ticked_of o)) s.place (new_clock l o s)
 unfolding new_clock ticked_number ticked_of ◌⨾◌ listed after
-by-clock l none s = by-refuse ClockTooLarge s (unfold refusal_number in λ q. omega arith)
-by-clock l (some c) s = by_zero s _ (lists-onto _ _)
+by-clock l None s = by-refuse ClockTooLarge s (unfold refusal_number in λ q. omega arith)
+by-clock l (Some c) s = by_zero s _ (lists-onto _ _)
 
 needs-more : (c l v n : ℕ) → Least c l (v % 2 ^ l) n → (ticked_number (ticked_of (clock_after c l v)) ≡ 36) ↔ (2 ^ 64 ≤ n)
 needs-more c l v n h = by (clock_after c l v) refl
   where
     by : (o : Option ℕ) → clock_after c l v ≡ o → (ticked_number (ticked_of o) ≡ 36) ↔ (2 ^ 64 ≤ n)
-    by none e = unfold ticked_of ticked_number refusal_number in
+    by None e = unfold ticked_of ticked_number refusal_number in
         let x = after_none c l v e in
         ((λ q. omega (arith, new-clock.once h x.0, x.1)), λ q. refl)
-    by (some m) e = unfold ticked_of ticked_number refusal_number in
+    by (Some m) e = unfold ticked_of ticked_number refusal_number in
         let x = after-least c l v m e in
         ((λ q. absurd (omega arith)), λ q. absurd (omega (arith, new-clock.once h x.0, x.1)))
 
@@ -181,21 +178,21 @@ unknown-only (range g l h) e = absurd (clash (sym e))
 unknown-only (option n) h = absurd (clash (sym h))
 
 -- without a body there is no kind, whatever bytes come
-no_body : (row : Layout) (x : List ℕ) → without x row ≡ true → body_in row ≡ Unknown → known (row.1 x) ≡ false
+no_body : (row : Layout) (x : List ℕ) → without x row ≡ true → body_in row ≡ None → known (row.1 x) ≡ false
 unfolding without body_in
 no_body row x w h = by (known (row.1 [])) (known (row.1 x)) refl refl
   where
     by : (a b : Bool) → known (row.1 []) ≡ a → known (row.1 x) ≡ b → b ≡ false
-    by true b p q = let k : Bytes row.0 ≡ Unknown = rw (p, body_in) at h in let z : ◌≡◌ {A = ℕ} 0 1 = cc in absurd (omega arith)
+    by true b p q = let k : Some row.0 ≡ None = rw (p, body_in) at h in let z : ◌≡◌ {A = ℕ} 0 1 = cc in absurd (omega arith)
     by false true p q = let k : false ≡ true = rw (p, q) at w in absurd (clash k)
     by false false p q = refl
 
-no_kind : (x : List ℕ) → body_of (u8 x 0) ≡ Unknown → record_of x ≡ unknown
+no_kind : (x : List ℕ) → body_of (u8 x 0) ≡ None → record_of x ≡ unknown
 unfolding body_of record_of layout_of without no known
 no_kind x h = unknown-only _ (no_body _ _ (every-at (without _) layouts (all_without _) refl (u8 x 0)) h)
 
-by_kind : (x : List ℕ) → body_of (u8 x 0) ≡ Unknown → (short : Bool)
-    → (first_fault short (record_of x) ≡ body_number Unknown) × ((q : Ids) (m : ℕ) → record_fault short q (record_of x) m ≡ body_number Unknown)
+by_kind : (x : List ℕ) → body_of (u8 x 0) ≡ None → (short : Bool)
+    → (first_fault short (record_of x) ≡ body_number None) × ((q : Ids) (m : ℕ) → record_fault short q (record_of x) m ≡ body_number None)
 unfolding first_fault record_fault body_number
 by_kind x h short = rw (no_kind x h) (refl, λ q m. refl)
 

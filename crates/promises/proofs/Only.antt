@@ -1,5 +1,8 @@
 -- No slack, proved. What a step did is fixed by the rules' outcome: its entries, and so its words and the list; why it stopped, or the
 -- state behind it.
+use Rattle.rules.specs.declared.NoBundle.{NoBundle}
+use Rattle.rules.specs.declared.ByteLength.{ByteLength}
+use Rattle.std.specs.Prelude.{Ok, Err, Result, ⊤}
 use mathlib.Core.Path.{◌≡◌, refl, sym, ap, ◌∙◌}
 use Prim.Native.Nat.{ℕ, zero, suc, ◌+◌, ◌-◌, ◌*◌}
 use native.Mathlib.Omega.{arith}
@@ -9,29 +12,27 @@ use Rattle.rules.specs.declared.Entry.{Entry}
 use Rattle.rules.specs.declared.Stop.{Stop}
 use Rattle.rules.specs.Limits.{words_per_entry}
 use Rattle.rules.specs.Entry.{words}
-use Rattle.rules.specs.declared.Bundled.{Bundled}
 use Rattle.rules.specs.Bundle.{bundle_of, bundle_readings, buffer_after, lists_after}
 use Rattle.rules.specs.Slots.{Slots, no_slots}
 use Rattle.rules.specs.Step.{State, Out, stop, go, Step}
 use Rattle.listing.specs.declared.Progress.{Progress}
-use Rattle.listing.specs.declared.Went.{Went}
-use Rattle.listing.specs.declared.Went.TheVariants.{On, Stopped}
 use Rattle.listing.specs.Did.{Did, RoleDid, full, out_of}
 use Rattle.listing.specs.declared.role.Roled.{Roled}
 use Rattle.field_read.specs.declared.Field.{Field}
 use Rattle.field_read.specs.Reads.{FieldReads}
 use Rattle.class_layout.specs.declared.openings.Opening.{Opening}
 use Rattle.class_layout.specs.Sizes.{numbered, OpeningOf}
+use Rattle.table_offsets.proofs.Told.{same-faults, same-walks}
 use Rattle.promises.specs.SmallestCalls.{cut, CutContract}
 use Rattle.promises.specs.Only.{NoSlack}
 
 -- What a step did
 
-pub record SameDid (w w' : Went) (u u' : ℕ) (st st' : Progress) (l l' : Slots) (vs vs' : List ℕ) : Type 0 where
+pub record SameDid (w w' : Result ⊤ Stop) (u u' : ℕ) (st st' : Progress) (l l' : Slots) (vs vs' : List ℕ) : Type 0 where
   pub went : w ≡ w'
   pub used : u ≡ u'
   pub state : st ≡ st'
-  pub slots : w ≡ On → l ≡ l'
+  pub slots : w ≡ Ok tt → l ≡ l'
   pub list : vs ≡ vs'
 
 stop-entries : (es es' : List Entry) (v v' : Stop) → stop es v ≡ stop es' v' → es ≡ es'
@@ -60,11 +61,11 @@ module _ (o : Out) (came : Progress) (ws : List ℕ) where
       → vs ≡ words es ++ drop u ws → vs' ≡ words es' ++ drop u' ws → vs ≡ vs'
   same-list u u' es es' vs vs' e p h k = h ∙ (λ i. words (e i) ++ drop (p i) ws) ∙ sym k
 
-  pub did-same : (w w' : Went) (u u' : ℕ) (st st' : Progress) (l l' : Slots) (vs vs' : List ℕ)
+  pub did-same : (w w' : Result ⊤ Stop) (u u' : ℕ) (st st' : Progress) (l l' : Slots) (vs vs' : List ℕ)
       → Did o came w u st l ws vs → Did o came w' u' st' l' ws vs'
       → SameDid w w' u u' st st' l l' vs vs'
   unfolding out_of
-  did-same On On u u' st st' l l' vs vs' d d' =
+  did-same (Ok x) (Ok y) u u' st st' l l' vs vs' d d' =
       let q : go d.listed (full st l (length ws - u)) ≡ go d'.listed (full st' l' (length ws - u')) = sym d.out ∙ d'.out in
       let e : d.listed ≡ d'.listed = go-entries _ _ _ _ q in
       let s = go-state _ _ _ _ q in
@@ -76,18 +77,18 @@ module _ (o : Out) (came : Progress) (ws : List ℕ) where
         slots = λ z. ap (λ y. y.slots) s;
         list = same-list u u' _ _ vs vs' e p d.list d'.list;
       }
-  did-same On (Stopped v) u u' st st' l l' vs vs' d d' =
+  did-same (Ok x) (Err v) u u' st st' l l' vs vs' d d' =
       let q = sym d.out ∙ d'.out in
       let z : ◌≡◌ {A = ℕ} 0 1 = cc in absurd (omega arith)
-  did-same (Stopped v) On u u' st st' l l' vs vs' d d' =
+  did-same (Err v) (Ok x) u u' st st' l l' vs vs' d d' =
       let q = sym d.out ∙ d'.out in
       let z : ◌≡◌ {A = ℕ} 0 1 = cc in absurd (omega arith)
-  did-same (Stopped v) (Stopped v') u u' st st' l l' vs vs' d d' =
+  did-same (Err v) (Err v') u u' st st' l l' vs vs' d d' =
       let q : stop d.listed v ≡ stop d'.listed v' = sym d.out ∙ d'.out in
       let e : d.listed ≡ d'.listed = stop-entries _ _ _ _ q in
       let p : u ≡ u' = d.counted ∙ ap (λ z. words_per_entry * length z) e ∙ sym d'.counted in
       record {
-        went = ap Stopped (stop-why _ _ _ _ q);
+        went = ap Err (stop-why _ _ _ _ q);
         used = p;
         state = d.kept v refl ∙ sym (d'.kept v' refl);
         slots = λ h. let z : ◌≡◌ {A = ℕ} 0 1 = cc in absurd (omega arith);
@@ -95,9 +96,9 @@ module _ (o : Out) (came : Progress) (ws : List ℕ) where
       }
 
 -- a step that goes on, or stops
-pub went-by : {P : Type 0} (w : Went) → (w ≡ On → P) → ((v : Stop) → w ≡ Stopped v → P) → P
-went-by On f g = f refl
-went-by (Stopped v) f g = g v refl
+pub went-by : {P : Type 0} (w : Result ⊤ Stop) → (w ≡ Ok tt → P) → ((v : Stop) → w ≡ Err v → P) → P
+went-by (Ok u) f g = f refl
+went-by (Err v) f g = g v refl
 
 -- Fields and roles
 
@@ -116,7 +117,7 @@ role_same m st ws r r' vs vs' d d' =
 
 -- A bundle
 
-cut-same : (x b ns ms ws out : List ℕ) (r r' : Bundled) (wr wr' or or' : List ℕ) → CutContract x b ns ms (cut r ws wr out or)
+cut-same : (x b ns ms ws out : List ℕ) (r r' : Result ByteLength NoBundle) (wr wr' or or' : List ℕ) → CutContract x b ns ms (cut r ws wr out or)
     → CutContract x b ns ms (cut r' ws wr' out or') → (r ≡ r') × (wr ≡ wr') × (or ≡ or')
 cut-same x b ns ms ws out r r' wr wr' or or' p q =
     let e : r ≡ r' = p.result ∙ sym q.result in
@@ -192,4 +193,6 @@ no-slack = record {
     };
   };
   opening = λ k. record { same = opening-same k };
+  fault = λ n. record { same = λ r s p q. same-faults r s (p ∙ sym q) };
+  walked = λ w. record { same = λ r s p q. same-walks r s (p ∙ sym q) };
 }

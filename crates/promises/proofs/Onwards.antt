@@ -1,19 +1,16 @@
 -- Behind a removed packet: the reading of the whole stream beside that of the stream without it. From packet to packet one record says
 -- how the two states differ (`Onwards`): place, room, number, first class and last clock. Each packet goes through in both, and lists the
 -- same, lowered.
+use Rattle.std.specs.Prelude.{None, Some, Option}
 use mathlib.Core.Path.{◌≡◌, refl, sym, ap, ◌∙◌, subst}
 use Prim.Native.Nat.{ℕ, zero, suc, ◌+◌, ◌-◌, ◌*◌, ◌/◌, ◌%◌, ◌≤◌, ◌<◌}
 use native.Mathlib.Omega.{arith}
 use mathlib.Core.List.{List, [], ◌∷◌, ◌++◌, map, append-nil}
 use mathlib.Core.Bool.{Bool, true, false, not}
-use mathlib.Core.Option.{none, some}
 use lib.ListN.{length, drop, length-drop}
 use lib.Dec.{ltb, eqb}
 use borrow.Author.Tests.{eqb-true, eq-eqb, ne_eqb, not-false, ltb-true, ltb-false, lt-ltb, le-ltb}
 use Rattle.rules.specs.declared.BitPlace.{BitPlace}
-use Rattle.rules.specs.declared.LastOrder.TheVariants.{Nothing}
-use Rattle.rules.specs.declared.Stated.{Stated}
-use Rattle.rules.specs.declared.Stated.TheVariants.{As}
 use Rattle.rules.specs.declared.Entry.{Entry}
 use Rattle.rules.specs.Limits.{words_per_entry}
 use Rattle.rules.specs.Place.{bit_place}
@@ -44,11 +41,11 @@ use Rattle.promises.proofs.Whole.{NotOf, if-false, Whole, whole-packet}
 -- Small facts
 
 -- ids that do not differ
-pub same_id : (x j : ℕ) → differs x (As j) ≡ false → x ≡ j
+pub same_id : (x j : ℕ) → differs x (Some j) ≡ false → x ≡ j
 unfolding differs
 same_id x j q = eqb-true x j (not-false (eqb x j) q)
 
-pub no_other : (x : ℕ) → differs x (As x) ≡ false
+pub no_other : (x : ℕ) → differs x (Some x) ≡ false
 unfolding differs
 no_other x = ap not (eq-eqb x x refl)
 
@@ -70,7 +67,7 @@ lowering c a a' h = by c.timed refl
     }
 
 -- a packet looks at place, room and last clock alone
-packet-from : (t : Asked) (b : List ℕ) (p : BitPlace) (rest : ℕ) (i : Stated) (s s' : State) → start_packet s ≡ start_packet s'
+packet-from : (t : Asked) (b : List ℕ) (p : BitPlace) (rest : ℕ) (i : Option ℕ) (s s' : State) → start_packet s ≡ start_packet s'
     → packet t b p rest i s ≡ packet t b p rest i s'
 packet-from t b p rest i s s' q =
     do-change start_packet (headed t b p rest i) s ∙ ap (headed t b p rest i) q ∙ sym (do-change start_packet (headed t b p rest i) s')
@@ -126,12 +123,12 @@ lower-all e e' total h (x ∷ es) n l = λ z. lower-one e e' total h x n.0 l.0 z
 module _ (t : Asked) (w : Fitting Positive (λ r. Any) Any t) (only : HeaderOnly t) (b b' : List ℕ) (total from : ℕ)
     (gap : Gap b b' total from) where
   -- a packet, and where it leaves the two
-  pub record Next (k k' : ℕ) (i' : Stated) (s' : State) (es : List Entry) (u : State) : Type 0 where
+  pub record Next (k k' : ℕ) (i' : Option ℕ) (s' : State) (es : List Entry) (u : State) : Type 0 where
     pub u' : State
     pub goes : read_packet t b' k' i' s' ≡ go (map (lower total) es) u'
-    pub onwards : Onwards t total from (k + 1) (k' + 1) (As u.said.stream) (As u'.said.stream) u u'
+    pub onwards : Onwards t total from (k + 1) (k' + 1) (Some u.said.stream) (Some u'.said.stream) u u'
 
-  module _ (k k' : ℕ) (i i' : Stated) (s s' : State) (es : List Entry) (u : State) (o : Onwards t total from k k' i i' s s')
+  module _ (k k' : ℕ) (i i' : Option ℕ) (s s' : State) (es : List Entry) (u : State) (o : Onwards t total from k k' i i' s s')
       (l : s.place.0 < 8 * length b) (q : read_packet t b k i s ≡ go es u) where
     abbrev e : Env
     e = to_end t b s.place
@@ -162,7 +159,7 @@ module _ (t : Asked) (w : Fitting Positive (λ r. Any) Any t) (only : HeaderOnly
     anew : Ran t b s.place rest i' (less s) x.others u
     anew = any-first t b s.place rest i (less s) x.others u x.ran only i' (ap (λ z. differs z i') class-is ∙ o.same)
 
-    found : t.stream u.said.stream ≡ some anew.c
+    found : t.stream u.said.stream ≡ Some anew.c
     found = ends_found t b s.place rest i' (less s) x.others u anew only
 
     lowered : Lowering anew.c s.last s'.last
@@ -197,7 +194,7 @@ module _ (t : Asked) (w : Fitting Positive (λ r. Any) Any t) (only : HeaderOnly
           place = bit_place p;
           room = s.room - words_per_entry;
           slots = no_slots;
-          order = Nothing;
+          order = None;
           clock = 0;
           last =
               n;
@@ -251,7 +248,7 @@ module _ (t : Asked) (w : Fitting Positive (λ r. Any) Any t) (only : HeaderOnly
               s'.said;
         }) r
 
-    on : Onwards t total from (k + 1) (k' + 1) (As u.said.stream) (As (more d u'').said.stream) u (more d u'')
+    on : Onwards t total from (k + 1) (k' + 1) (Some u.said.stream) (Some (more d u'').said.stream) u (more d u'')
     unfolding more far
     on = record {
       place = omega (arith, o.place, x.takes);
@@ -263,7 +260,7 @@ module _ (t : Asked) (w : Fitting Positive (λ r. Any) Any t) (only : HeaderOnly
       first = refl;
       same = no_other u.said.stream;
       last = λ c f timed.
-          let g : some anew.c ≡ some c = sym found ∙ f in
+          let g : Some anew.c ≡ Some c = sym found ∙ f in
           let h : anew.c ≡ c = cc in
           subst (λ z. Low z moved.l₁) h moved.low₁ timed u.last;
     }
@@ -276,12 +273,12 @@ module _ (t : Asked) (w : Fitting Positive (λ r. Any) Any t) (only : HeaderOnly
     }
 
   -- all packets from there on
-  pub record Rest (k' : ℕ) (i' : Stated) (left : ℕ) (s' : State) (es : List Entry) (u : State) : Type 0 where
+  pub record Rest (k' : ℕ) (i' : Option ℕ) (left : ℕ) (s' : State) (es : List Entry) (u : State) : Type 0 where
     pub u' : State
     pub goes : read_packets t b' k' i' left s' ≡ go (map (lower total) es) u'
     pub place : u'.place.0 + total ≡ u.place.0
 
-  over : (k' : ℕ) (i' : Stated) (left : ℕ) (s s' : State) (es : List Entry) (u : State) → s'.place.0 + total ≡ s.place.0
+  over : (k' : ℕ) (i' : Option ℕ) (left : ℕ) (s s' : State) (es : List Entry) (u : State) → s'.place.0 + total ≡ s.place.0
       → read_packets t b' k' i' left s' ≡ pass s' → pass s ≡ go es u → Rest k' i' left s' es u
   unfolding pass
   over k' i' left s s' es u p r q =
@@ -289,18 +286,18 @@ module _ (t : Asked) (w : Fitting Positive (λ r. Any) Any t) (only : HeaderOnly
       let g : s ≡ u = cc in
       record { u' = s'; goes = r ∙ ap (λ l. go l s') (ap (map (lower total)) f); place = p ∙ ap (λ z. z.place.0) g }
 
-  pub onward-packets : (left k k' : ℕ) (i i' : Stated) (s s' : State) (es : List Entry) (u : State) → Onwards t total from k k' i i' s s'
+  pub onward-packets : (left k k' : ℕ) (i i' : Option ℕ) (s s' : State) (es : List Entry) (u : State) → Onwards t total from k k' i i' s s'
       → read_packets t b k i left s ≡ go es u → Rest k' i' left s' es u
   unfolding read_packets
   onward-packets zero k k' i i' s s' es u o q = over k' i' zero s s' es u o.place refl q
   onward-packets (suc left) k k' i i' s s' es u o q = by (ltb s.place.0 (8 * length b)) refl q
-      (λ m m' o' fs r. onward-packets left (k + 1) (k' + 1) (As m.said.stream) (As m'.said.stream) m m' fs u o' r)
+      (λ m m' o' fs r. onward-packets left (k + 1) (k' + 1) (Some m.said.stream) (Some m'.said.stream) m m' fs u o' r)
     where
       next : Step
-      next s = read_packets t b (k + 1) (As s.said.stream) left s
+      next s = read_packets t b (k + 1) (Some s.said.stream) left s
 
       next' : Step
-      next' s = read_packets t b' (k' + 1) (As s.said.stream) left s
+      next' s = read_packets t b' (k' + 1) (Some s.said.stream) left s
 
       whole : Bool → Out
       whole z = elim z [ true ↦ (read_packet t b' k' i' ⨾ next') s' | false ↦ pass s' ]
@@ -312,8 +309,8 @@ module _ (t : Asked) (w : Fitting Positive (λ r. Any) Any t) (only : HeaderOnly
           let c : 8 * length b' ≤ s'.place.0 = omega (arith, o.place, gap.lengths) in le-ltb _ _ c
 
       by : (x : Bool) → ltb s.place.0 (8 * length b) ≡ x → elim x [ true ↦ (read_packet t b k i ⨾ next) s | false ↦ pass s ] ≡ go es u
-          → ((m m' : State) → Onwards t total from (k + 1) (k' + 1) (As m.said.stream) (As m'.said.stream) m m'
-          → (fs : List Entry) → next m ≡ go fs u → Rest (k' + 1) (As m'.said.stream) left m' fs u)
+          → ((m m' : State) → Onwards t total from (k + 1) (k' + 1) (Some m.said.stream) (Some m'.said.stream) m m'
+          → (fs : List Entry) → next m ≡ go fs u → Rest (k' + 1) (Some m'.said.stream) left m' fs u)
           → Rest k' i' (suc left) s' es u
       by false h q rec = over k' i' (suc left) s s' es u o.place (ap whole (ended false h)) q
       by true h q rec = record { u' = r.u'; goes = ap whole (ended true h) ∙ both; place = r.place }
@@ -324,7 +321,7 @@ module _ (t : Asked) (w : Fitting Positive (λ r. Any) Any t) (only : HeaderOnly
           p : Next k k' i' s' g.first g.middle
           p = onward-packet k k' i i' s s' g.first g.middle o (ltb-true _ _ h) g.goes
 
-          r : Rest (k' + 1) (As p.u'.said.stream) left p.u' g.second u
+          r : Rest (k' + 1) (Some p.u'.said.stream) left p.u' g.second u
           r = rec g.middle p.u' p.onwards g.second g.goes_on
 
           both : (read_packet t b' k' i' ⨾ next') s' ≡ go (map (lower total) es) r.u'

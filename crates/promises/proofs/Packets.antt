@@ -1,5 +1,6 @@
 -- Packets of a table whose fields have a bit or more: the place never goes back, stays within the bound while events are read, and each
 -- packet takes a byte or more and ends inside the stream; so that the rounds of the packet loop are enough.
+use Rattle.std.specs.Prelude.{Option, None, Some}
 use mathlib.Core.Path.{◌≡◌, refl, ap, ◌∙◌, subst}
 use mathlib.Core.Logic.{◌⊎◌, inl, inr}
 use Prim.Native.Nat.{ℕ, zero, suc, ◌+◌, ◌-◌, ◌*◌, ◌%◌, ◌≤◌, ◌<◌}
@@ -7,13 +8,10 @@ use native.Mathlib.Omega.{arith}
 use native.Mathlib.Nat.{le_refl, suc-add}
 use mathlib.Core.List.{List}
 use mathlib.Core.Bool.{Bool, true, false, not, ◌||◌}
-use mathlib.Core.Option.{Option, none, some}
 use lib.ListN.{length}
 use lib.Dec.{ltb, eqb}
 use borrow.Author.Tests.{ltb-true, ltb-false, eqb-true, le-ltb, not-false}
 use Rattle.rules.specs.declared.BitPlace.{BitPlace}
-use Rattle.rules.specs.declared.Stated.{Stated}
-use Rattle.rules.specs.declared.Stated.TheVariants.{Missing, As}
 use Rattle.rules.specs.declared.Entry.{Entry}
 use Rattle.rules.specs.declared.Refusal.{Refusal}
 use Rattle.rules.specs.declared.Refusal.TheVariants.{StreamClassChanged, StreamClassUnknown, LengthsContradict, ClocksContradict}
@@ -46,17 +44,17 @@ bound-mark : (e : Env) (k n v : ℕ) → Bounded e (mark k n v)
 unfolding mark listed
 bound-mark e k n v = record { at = λ s h. (((h.from, h.to), tt), record { from = h.from; to = h.to; moved = h.moved }) }
 
-bound-with : (e : Env) (i j : ℕ) (x : Option EventClass) (f : EventClass → Step) → ((d : EventClass) → x ≡ some d → Bounded e (f d))
+bound-with : (e : Env) (i j : ℕ) (x : Option EventClass) (f : EventClass → Step) → ((d : EventClass) → x ≡ Some d → Bounded e (f d))
     → Bounded e (with_event i j x f)
 unfolding with_event
-bound-with e i j none f h = naming (In e) (At e) (NoMore e) (EventClassUnknown i j) (place_of e (EventClassUnknown i j) tt)
-bound-with e i j (some d) f h = h d refl
+bound-with e i j None f h = naming (In e) (At e) (NoMore e) (EventClassUnknown i j) (place_of e (EventClassUnknown i j) tt)
+bound-with e i j (Some d) f h = h d refl
 
 rise-with : {e : Env} (i j : ℕ) (x : Option EventClass) (f : EventClass → Step) → ((d : EventClass) → Rise e (f d))
     → Rise e (with_event i j x f)
 unfolding with_event
-rise-with i j none f h = rise-refuse (EventClassUnknown i j)
-rise-with i j (some d) f h = h d
+rise-with i j None f h = rise-refuse (EventClassUnknown i j)
+rise-with i j (Some d) f h = h d
 
 rise-event : (t : Asked) (c : StreamClass) (e : Env) (n : ℕ) → Rise e (read_event t c e n)
 unfolding read_event start_event with_last
@@ -227,7 +225,7 @@ lengths b p total content s h =
 
 module _ (t : Asked) (w : Fitting Positive (λ r. Any) Any t) where
   -- an event stays within the bound
-  pub bound-event : (i : ℕ) (c : StreamClass) → t.stream i ≡ some c → (e : Env) (n : ℕ) → Bounded e (read_event t c e n)
+  pub bound-event : (i : ℕ) (c : StreamClass) → t.stream i ≡ Some c → (e : Env) (n : ℕ) → Bounded e (read_event t c e n)
   unfolding read_event
   bound-event i c p e n = record {
     at = λ s₀ h₀.
@@ -262,7 +260,7 @@ module _ (t : Asked) (w : Fitting Positive (λ r. Any) Any t) where
             ⨾ᵇ bound-root e (payload_number d) d.payload (w.event _ _ d q).1)).at s h;
       }
 
-  go-events : (last i : ℕ) (c : StreamClass) → t.stream i ≡ some c → (e : Env) (to : BitPlace) (n left : ℕ) → e.bound.0 ≤ to.0
+  go-events : (last i : ℕ) (c : StreamClass) → t.stream i ≡ Some c → (e : Env) (to : BitPlace) (n left : ℕ) → e.bound.0 ≤ to.0
       → to.0 ≤ last → Go last (Inside e) (read_events t c e to n left) (λ s. s.place ≡ to)
   unfolding read_events
   go-events last i c p e to n zero h l = go-end to n l (inside-le to.0 e h)
@@ -274,7 +272,7 @@ module _ (t : Asked) (w : Fitting Positive (λ r. Any) Any t) where
   }
 
   -- a packet of some lengths ends behind its total
-  go-content : (i : ℕ) (c : StreamClass) → t.stream i ≡ some c → (b : List ℕ) (p : BitPlace) (total content : ℕ) (e : Env) → e.start ≡ p
+  go-content : (i : ℕ) (c : StreamClass) → t.stream i ≡ Some c → (b : List ℕ) (p : BitPlace) (total content : ℕ) (e : Env) → e.start ≡ p
       → e.bound.0 ≡ 8 * length b → (s₀ : State) → Inside e s₀
       → Goes (8 * length b) (λ s. (s.place ≡ further p total) × Lengths b p.0 total content s₀) s₀.place.0
       (read_content t c b p total content s₀)
@@ -313,7 +311,7 @@ module _ (t : Asked) (w : Fitting Positive (λ r. Any) Any t) where
             record {
               from = omega arith;
               to = l.reach;
-              moved = subst (λ y. ((s.said.total ≡ Missing) × (s.said.content ≡ Missing)) ⊎ (y.0 < s.place.0)) h a.moved;
+              moved = subst (λ y. ((s.said.total ≡ None) × (s.said.content ≡ None)) ⊎ (y.0 < s.place.0)) h a.moved;
             },
             subst (Lengths b p.0 total content) x.0.1 l,
           ))
@@ -322,7 +320,7 @@ module _ (t : Asked) (w : Fitting Positive (λ r. Any) Any t) where
   abbrev pub Behind : List ℕ → ℕ → State → Type 0
   Behind b p s = (p + 8 ≤ s.place.0) × (s.place.0 % 8 ≡ 0) × (s.place.0 ≤ 8 * length b)
 
-  pub go-packet : (b : List ℕ) (k : ℕ) (i : Stated) (s₀ : State) → s₀.place.0 < 8 * length b → s₀.place.0 % 8 ≡ 0
+  pub go-packet : (b : List ℕ) (k : ℕ) (i : Option ℕ) (s₀ : State) → s₀.place.0 < 8 * length b → s₀.place.0 % 8 ≡ 0
       → Goes (8 * length b) (Behind b s₀.place.0) s₀.place.0 (read_packet t b k i s₀)
   unfolding read_packet
   go-packet b k i s₀ l z =
@@ -366,7 +364,7 @@ module _ (t : Asked) (w : Fitting Positive (λ r. Any) Any t) where
           by : Moved e s.place.0 s.said → 0 < total_of s
           by (inl x) =
               let q : total_of s ≡ rest =
-              unfold or_else in ap (λ y. or_else y s.said.content rest) x.0 ∙ ap (λ y. or_else Missing y rest) x.1 in
+              unfold or_else in ap (λ y. or_else y s.said.content rest) x.0 ∙ ap (λ y. or_else None y rest) x.1 in
               omega arith
           by (inr x) =
               let p : s.place.0 ≤ s₀.place.0 + content_of s = n.reach in
@@ -389,8 +387,8 @@ module _ (t : Asked) (w : Fitting Positive (λ r. Any) Any t) where
 
       look : (s : State) → Inside e s → (x : Option StreamClass) → t.stream s.said.stream ≡ x
           → Goes (8 * length b) (Behind b s₀.place.0) s.place.0 (with_stream s.said.stream x (found s.said.stream) s)
-      look s a none p = unfold with_stream in (go-refuse {A = Inside e} near (StreamClassUnknown s.said.stream)).at s a
-      look s a (some c) p = unfold with_stream in
+      look s a None p = unfold with_stream in (go-refuse {A = Inside e} near (StreamClassUnknown s.said.stream)).at s a
+      look s a (Some c) p = unfold with_stream in
           (second s.said.stream ⨾ᵍ inside e (le_refl _) (rise-root e first_root c.context)
           (bound-root e first_root c.context (w.context _ c p))
           ⨾ᵍ record {
@@ -407,33 +405,33 @@ module _ (t : Asked) (w : Fitting Positive (λ r. Any) Any t) where
   packets-agree B (stop es v) n n' h k = refl
   packets-agree B (go es s) n n' h k = ap (onto es) (k s h)
 
-  packets-over : (b : List ℕ) (k : ℕ) (i : Stated) (more : ℕ) (s : State) → 8 * length b ≤ s.place.0 → read_packets t b k i more s ≡ pass s
+  packets-over : (b : List ℕ) (k : ℕ) (i : Option ℕ) (more : ℕ) (s : State) → 8 * length b ≤ s.place.0 → read_packets t b k i more s ≡ pass s
   unfolding read_packets
   packets-over b k i zero s h = refl
   packets-over b k i (suc more) s h = simp (le-ltb _ _ h, read_packets)
 
   -- as many rounds as there are bytes left are enough
-  pub packet-rounds : (b : List ℕ) (k : ℕ) (i : Stated) (left more : ℕ) (s : State) → s.place.0 % 8 ≡ 0
+  pub packet-rounds : (b : List ℕ) (k : ℕ) (i : Option ℕ) (left more : ℕ) (s : State) → s.place.0 % 8 ≡ 0
       → 8 * length b ≤ s.place.0 + 8 * left → read_packets t b k i (left + more) s ≡ read_packets t b k i left s
   unfolding read_packets ◌⨾◌
   packet-rounds b k i zero more s z h = packets-over b k i (zero + more) s (omega arith)
   packet-rounds b k i (suc left) more s z h =
       rw suc-add (if-agree (ltb s.place.0 (8 * length b)) _ _ (pass s)
       (λ q. packets-agree (Behind b s.place.0) (read_packet t b k i s) _ _ (go-packet b k i s (ltb-true _ _ q) z).1
-      (λ s' x. let x0 = x.0 in packet-rounds b (k + 1) (As s'.said.stream) left more s' x.1 (omega arith))))
+      (λ s' x. let x0 = x.0 in packet-rounds b (k + 1) (Some s'.said.stream) left more s' x.1 (omega arith))))
 
   -- the place rises through all packets, a reading that goes through ends at the stream's end, and one that stops does so
   -- before it or there
-  pub go-packets : (b : List ℕ) (k : ℕ) (i : Stated) (left : ℕ) (s : State) → s.place.0 % 8 ≡ 0 → s.place.0 ≤ 8 * length b
+  pub go-packets : (b : List ℕ) (k : ℕ) (i : Option ℕ) (left : ℕ) (s : State) → s.place.0 % 8 ≡ 0 → s.place.0 ≤ 8 * length b
       → 8 * length b ≤ s.place.0 + 8 * left
       → Goes (8 * length b) (λ s. s.place.0 ≡ 8 * length b) s.place.0 (read_packets t b k i left s)
   unfolding read_packets ◌⨾◌
   go-packets b k i zero s z u h = unfold pass in (le_refl s.place.0, omega arith, tt)
   go-packets b k i (suc left) s z u h = by (ltb s.place.0 (8 * length b)) refl
-      (λ s' x. let x0 = x.0 in go-packets b (k + 1) (As s'.said.stream) left s' x.1 x.2 (omega arith))
+      (λ s' x. let x0 = x.0 in go-packets b (k + 1) (Some s'.said.stream) left s' x.1 x.2 (omega arith))
     where
       next : Step
-      next s = read_packets t b (k + 1) (As s.said.stream) left s
+      next s = read_packets t b (k + 1) (Some s.said.stream) left s
 
       AtEnd : State → Type 0
       AtEnd s = s.place.0 ≡ 8 * length b

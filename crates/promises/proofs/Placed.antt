@@ -1,17 +1,15 @@
 -- The place of 22 is the bound in force, and that of 24 the tenth byte of a number that does not fit, as the list tells the bound: the
 -- environment's bound is the one that the list tells. In order: bounds; packets; readings.
+use Rattle.std.specs.Prelude.{Option, None, Some}
 use mathlib.Core.Path.{◌≡◌, refl, sym, ap, subst, ◌∙◌}
 use Prim.Native.Nat.{ℕ, zero, suc, ◌+◌, ◌-◌, ◌*◌, ◌%◌}
 use native.Mathlib.Omega.{arith}
 use mathlib.Core.List.{List, [], ◌∷◌, ◌++◌}
 use mathlib.Core.Bool.{Bool, true, false, not, ◌||◌}
-use mathlib.Core.Option.{Option, none, some}
 use lib.ListN.{length}
 use lib.Dec.{ltb, eqb}
 use borrow.Author.Tests.{eqb-true, not-false}
 use Rattle.rules.specs.declared.BitPlace.{BitPlace}
-use Rattle.rules.specs.declared.Stated.{Stated}
-use Rattle.rules.specs.declared.Stated.TheVariants.{Missing, As}
 use Rattle.rules.specs.declared.Entry.{Entry}
 use Rattle.rules.specs.declared.Refusal.TheVariants.{StreamSize, StreamClassChanged, StreamClassUnknown, LengthsContradict}
 use Rattle.rules.specs.declared.Refusal.TheVariants.{ClocksContradict}
@@ -140,10 +138,10 @@ module _ (b : List ℕ) where
     tells-found : (i : ℕ) (x : Option StreamClass) (f : StreamClass → Step)
         → ((c : StreamClass) → Tells (in_packet p.0) AnyState (f c) Whole) → Tells (in_packet p.0) AnyState (with_stream i x f) Whole
     unfolding with_stream refusal_number
-    tells-found i none f h = tells-quiet (lands-refuse e₀ (StreamClassUnknown i) (refl, refl))
-    tells-found i (some c) f h = h c
+    tells-found i None f h = tells-quiet (lands-refuse e₀ (StreamClassUnknown i) (refl, refl))
+    tells-found i (Some c) f h = h c
 
-    tells-behind : (rest : ℕ) (i : Stated) → Tells (in_packet p.0) AnyState (packet t b p rest i) Whole
+    tells-behind : (rest : ℕ) (i : Option ℕ) → Tells (in_packet p.0) AnyState (packet t b p rest i) Whole
     unfolding refusal_number
     tells-behind rest i =
         lands-change e₀ _ ⨾ᵗ lands-root e₀ w first_root t.header ⨾ᵗ lands-check e₀ _ StreamClassChanged (refl, refl) ⨾ᵗ lands-due e₀
@@ -162,20 +160,20 @@ module _ (b : List ℕ) where
         lands-due (up_to t b p z.bound)
         ⨾ᵗ tells-mark z packet_starts 0 k (λ s q. subst (λ x. Tells (in_packet x) AnyState m Whole) (sym q) h)
 
-    tells-packet : (z : Bounds) (k : ℕ) (i : Stated) → Tells z Whole (read_packet t b k i) Whole
+    tells-packet : (z : Bounds) (k : ℕ) (i : Option ℕ) → Tells z Whole (read_packet t b k i) Whole
     unfolding read_packet
     tells-packet z k i = record {
       at = λ s w. (tells-start z s.place k (tells-behind t s.place w (8 * length b - s.place.0) i)).at s refl;
     }
 
-    tells-packets : (z : Bounds) (k : ℕ) (i : Stated) (left : ℕ) → Tells z Whole (read_packets t b k i left) AnyState
+    tells-packets : (z : Bounds) (k : ℕ) (i : Option ℕ) (left : ℕ) → Tells z Whole (read_packets t b k i left) AnyState
     unfolding read_packets ◌⨾◌ pass
     tells-packets z k i zero = record { at = λ s w. tt }
     tells-packets z k i (suc left) = record {
       at = λ s w. by-test (Told z AnyState) (ltb s.place.0 (8 * length b)) _ _
-          (told-after z Whole AnyState (read_packet t b k i s) (λ s. read_packets t b (k + 1) (As s.said.stream) left s)
+          (told-after z Whole AnyState (read_packet t b k i s) (λ s. read_packets t b (k + 1) (Some s.said.stream) left s)
           ((tells-packet z k i).at s w)
-          (λ y. record { at = λ s w. (tells-packets y (k + 1) (As s.said.stream) left).at s w })) tt;
+          (λ y. record { at = λ s w. (tells-packets y (k + 1) (Some s.said.stream) left).at s w })) tt;
     }
 
 -- Readings
@@ -194,10 +192,10 @@ stream-right t b room = by (eqb (length b) 0 || ltb stream_limit (length b))
   where
     by : (x : Bool) → RightReading b (elim x as (λ z. Reading) [
       | true ↦ record { entries = []; verdict = Refused (stop_at StreamSize (bit_place 0)) }
-      | false ↦ ended (read_packets t b 0 Missing (length b) (begin room))
+      | false ↦ ended (read_packets t b 0 None (length b) (begin room))
     ])
     by true = other-right b _ (Refused (stop_at StreamSize (bit_place 0))) (refl, refl)
-    by false = ended-right b _ ((tells-packets b t (in_packet b 0) 0 Missing (length b)).at (begin room) refl)
+    by false = ended-right b _ ((tells-packets b t (in_packet b 0) 0 None (length b)).at (begin room) refl)
 
 reading-right : (x b : List ℕ) (room : ℕ) → RightReading b (read_all x b room)
 unfolding read_all read_parsed refusal_number number_of

@@ -1,12 +1,13 @@
 -- What fields and events list tells no bound, and where they are refused the place is right by the environment: 22 at its bound, 24 at the
 -- tenth byte of a number that does not fit. In order: verdicts; a number's tenth byte; steps; fields; events.
+use Rattle.std.specs.Prelude.{Option, None, Some}
+use Rattle.rules.specs.declared.ByteLength.{ByteLength}
 use mathlib.Core.Path.{◌≡◌, refl, ap, subst}
 use mathlib.Core.Logic.{◌⊎◌, inl, inr, ⊎_elim}
 use Prim.Native.Nat.{ℕ, zero, suc, ◌+◌, ◌-◌, ◌*◌, ◌/◌, ◌%◌, ◌≤◌}
 use native.Mathlib.Omega.{arith}
 use mathlib.Core.List.{List}
 use mathlib.Core.Bool.{Bool, true, false}
-use mathlib.Core.Option.{Option, none, some}
 use lib.ListN.{take, drop}
 use lib.Dec.{ltb, eqb}
 use borrow.Author.Tests.{ltb-false, eqb-false, ne_eqb}
@@ -16,8 +17,6 @@ use Rattle.rules.specs.declared.Content.{Content}
 use Rattle.rules.specs.declared.Content.TheVariants.{Unsigned, Signed}
 use Rattle.rules.specs.declared.Leb.{Leb}
 use Rattle.rules.specs.declared.Leb.TheVariants.{Value, Past, Large}
-use Rattle.rules.specs.declared.Ended.{Ended}
-use Rattle.rules.specs.declared.Ended.TheVariants.{After, Never}
 use Rattle.rules.specs.declared.Entry.{Entry}
 use Rattle.rules.specs.declared.Stop.{Stop}
 use Rattle.rules.specs.declared.Refusal.{Refusal}
@@ -202,8 +201,8 @@ module _ (e : Env) where
 
   lands-clock : (l : ℕ) (o : Option ℕ) → Lands (new_clock l o)
   unfolding new_clock listed refusal_number
-  lands-clock l none = lands-refuse ClockTooLarge (refl, refl)
-  lands-clock l (some c) = record { at = λ s a. (((refl, refl), tt), tt) } ⨾ˡ lands-change _
+  lands-clock l None = lands-refuse ClockTooLarge (refl, refl)
+  lands-clock l (Some c) = record { at = λ s a. (((refl, refl), tt), tt) } ⨾ˡ lands-change _
 
   lands-role : (r : Role) (l v : ℕ) → Lands (role r l v)
   unfolding role say refusal_number
@@ -254,11 +253,11 @@ module _ (e : Env) where
   unfolding as_text refusal_number
   lands-as_text x = lands-check _ NotText (refl, refl)
 
-  lands-zero : (m : ℕ) (x : Ended) → Lands (read_zero e m x)
+  lands-zero : (m : ℕ) (x : Option ByteLength) → Lands (read_zero e m x)
   unfolding read_zero refusal_number
-  lands-zero m (After n) =
+  lands-zero m (Some n) =
       record { at = λ s a. (lands-as_text (bytes_at e (aligned e 8 s) n.0)).at s a } ⨾ˡ lands-field m 23 8 _ _ (refl, refl)
-  lands-zero m Never = lands-refuse NoZeroByte (refl, refl)
+  lands-zero m None = lands-refuse NoZeroByte (refl, refl)
 
   module _ (whole : e.start.0 % 8 ≡ 0) where
     tenth-aligned : (s : State) → (aligned e 8 s).0 ≤ e.bound.0 → NoFit (ahead e (aligned e 8 s))
@@ -306,8 +305,8 @@ module _ (e : Env) where
       lands-found : (i j : ℕ) (x : Option EventClass) (f : EventClass → Step) → ((d : EventClass) → Lands (f d))
           → Lands (with_event i j x f)
       unfolding with_event refusal_number
-      lands-found i j none f h = lands-refuse (EventClassUnknown i j) (refl, refl)
-      lands-found i j (some d) f h = h d
+      lands-found i j None f h = lands-refuse (EventClassUnknown i j) (refl, refl)
+      lands-found i j (Some d) f h = h d
 
       lands-event : (n : ℕ) → Lands (read_event t c e n)
       unfolding read_event refusal_number

@@ -1,12 +1,12 @@
 -- The fifth word of an entry, gathered: it names a record of the entry's kind, is below 65,536, and stays the same where classes are left
 -- out. The last follows from demand 3: the short list is the full one, or its front.
+use Rattle.std.specs.Prelude.{Option, None, Some}
 use mathlib.Core.Path.{◌≡◌, refl, sym, ap, subst, ◌∙◌}
 use mathlib.Core.Logic.{◌⊎◌, inl, inr, ⊎_elim}
 use Prim.Native.Nat.{ℕ, zero, suc, ◌≤◌, ◌<◌}
 use native.Mathlib.Omega.{arith}
 use mathlib.Core.List.{List, [], ◌∷◌}
 use mathlib.Core.Bool.{Bool}
-use mathlib.Core.Option.{Option, none, some}
 use lib.ListN.{length, take}
 use Rattle.rules.specs.declared.Entry.{Entry}
 use Rattle.rules.specs.Limits.{table_limit}
@@ -69,8 +69,8 @@ taken-same (suc n) (e ∷ es) (suc k) h = taken-same n es k (omega arith)
 
 shortened_same : (o : Option Lost) (r : Reading) → SameNumbers (shortened o r).entries r.entries
 unfolding shortened
-shortened_same none r k h = refl
-shortened_same (some l) r k h = taken-same l.index r.entries k h
+shortened_same None r k h = refl
+shortened_same (Some l) r k h = taken-same l.index r.entries k h
 
 left-out-same : (ks : ℕ → Bool) (ke : ℕ → ℕ → Bool) (x : List ℕ) → Good x → (b : List ℕ) (room : ℕ)
     → SameNumbers (read_all (leave ks ke x) b room).entries (read_all x b room).entries

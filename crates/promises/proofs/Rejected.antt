@@ -1,11 +1,11 @@
 -- Readers that are no good fail on the figure's table and stream: by computation. Those that make up a count fail wherever they do.
+use Rattle.std.specs.Prelude.{None}
 use mathlib.Core.Path.{◌≡◌, refl, sym, ap, subst, ◌∙◌}
 use mathlib.Core.Logic.{◌⊎◌, inl, inr}
 use Prim.Native.Nat.{ℕ, ◌*◌}
 use native.Mathlib.Omega.{arith}
 use mathlib.Core.List.{List, [], ◌∷◌}
 use mathlib.Core.Bool.{not, true}
-use mathlib.Core.Option.{none}
 use lib.ListN.{length, get_or, drop, replicate}
 use lib.Seq.{get_or-drop}
 use lib.Dec.{eqb}
@@ -122,7 +122,7 @@ module _ (f : Reader) (m : Meets f) where
 -- refused
 
 table_of : Parsed Table → Table
-table_of (bad n x) = record { uuid = []; header = none; streams = []; events = [] }
+table_of (bad n x) = record { uuid = []; header = None; streams = []; events = [] }
 table_of (good t x) = t
 
 abbrev two : Table
@@ -136,7 +136,7 @@ full-number : number_of (read_stream (nearest two) (1 ∷ []) 500).verdict ≡ 0
 unfolding opened table_of nearest nearest_event
 full-number = refl
 
-full-missed : missed (λ i. true) (λ i j. not (eqb j 2)) (read_stream (nearest two) (1 ∷ []) 500).entries ≡ none
+full-missed : missed (λ i. true) (λ i j. not (eqb j 2)) (read_stream (nearest two) (1 ∷ []) 500).entries ≡ None
 unfolding opened table_of nearest nearest_event missed gone_stream gone_event both first_lost lost front later under
 full-missed = refl
 

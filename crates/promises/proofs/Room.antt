@@ -1,4 +1,5 @@
 -- More room changes nothing, unless the reading ran out of it (40); then the entries are the first ones of those under more room.
+use Rattle.std.specs.Prelude.{None, Option}
 use mathlib.Core.Path.{◌≡◌, refl, sym, ap, ◌∙◌}
 use mathlib.Core.Logic.{◌⊎◌, inl, inr}
 use Prim.Native.Nat.{ℕ, ◌+◌, ◌-◌, ◌≤◌}
@@ -10,8 +11,6 @@ use lib.Dec.{ltb, eqb}
 use borrow.Author.Tests.{ltb-false, le-ltb}
 use Rattle.rules.specs.declared.BitPlace.{BitPlace}
 use Rattle.rules.specs.declared.Entry.{Entry}
-use Rattle.rules.specs.declared.Stated.{Stated}
-use Rattle.rules.specs.declared.Stated.TheVariants.{Missing}
 use Rattle.rules.specs.declared.Refusal.{Refusal}
 use Rattle.rules.specs.declared.Refusal.TheVariants.{StreamSize, PastBound, LebTooLarge, ListFull}
 use Rattle.rules.specs.declared.Verdict.TheVariants.{Refused}
@@ -186,7 +185,7 @@ wide-packets = record {
 
 -- a packet that goes through
 
-pub room-packet : (t : Asked) (b : List ℕ) (k : ℕ) (i : Stated) (d : ℕ) (s : State) (es : List Entry) (u : State) → read_packet t b k i s ≡ go es u
+pub room-packet : (t : Asked) (b : List ℕ) (k : ℕ) (i : Option ℕ) (d : ℕ) (s : State) (es : List Entry) (u : State) → read_packet t b k i s ≡ go es u
     → read_packet t b k i (more d s) ≡ go es (more d u)
 room-packet t b k i d s es u q = by ((simple-packet wide-packets t b k i).at d s)
   where
@@ -223,11 +222,11 @@ unfolding read_stream
 room-stream t b room d = by (eqb (length b) 0 || ltb stream_limit (length b))
   where
     of : Bool → ℕ → Reading
-    of x n = elim x [ true ↦ record { entries = []; verdict = Refused (stop_at StreamSize (bit_place 0)) } | false ↦ ended (read_packets t b 0 Missing (length b) (begin n)) ]
+    of x n = elim x [ true ↦ record { entries = []; verdict = Refused (stop_at StreamSize (bit_place 0)) } | false ↦ ended (read_packets t b 0 None (length b) (begin n)) ]
 
     by : (x : Bool) → (of x (room + d) ≡ of x room) ⊎ RanOut (of x room) (of x (room + d))
     by true = inl refl
-    by false = unfold begin more in ended-wider d _ _ ((simple-packets wide-packets t b 0 Missing (length b)).at d (begin room))
+    by false = unfold begin more in ended-wider d _ _ ((simple-packets wide-packets t b 0 None (length b)).at d (begin room))
 
 -- more room: the same reading, or the first one has number 40 and its entries come first in the other
 pub room-more : (x b : List ℕ) (room d : ℕ) → (read_all x b (room + d) ≡ read_all x b room) ⊎ RanOut (read_all x b room) (read_all x b (room + d))

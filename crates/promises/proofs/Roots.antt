@@ -1,10 +1,10 @@
 -- The roots of a fragment, as Local has it for classes: what follows them must be no root.
+use Rattle.std.specs.Prelude.{Option, None, Some}
 use mathlib.Core.Path.{◌≡◌, refl, sym, ap, ◌∙◌}
 use Prim.Native.Nat.{ℕ, zero, suc, ◌+◌, ◌-◌, ◌≤◌}
 use native.Mathlib.Omega.{arith}
 use mathlib.Core.List.{List, [], ◌∷◌, ◌++◌, append_assoc}
 use mathlib.Core.Bool.{Bool, true, false, not, ◌&&◌}
-use mathlib.Core.Option.{Option, none, some}
 use lib.ListN.{length, length-append, take}
 use lib.Dec.{ltb, leb}
 use borrow.Author.Tests.{le-leb, leb-true}
@@ -82,12 +82,12 @@ root-there n (b ∷ x) h = refl
 step-true : (timed u? : Bool) (n : ℕ) (ns : List ℕ) (q : Ids) (x : List ℕ) → here n x ≡ true
     → parse_roots q timed u? (n ∷ ns) x
     ≡ then (parse_class q (record { root = n; timed = timed; uuid = u? }) 8 top (behind x))
-    (λ c x. then (parse_roots q timed u? ns x) (λ cs x. good (some c ∷ cs) x))
+    (λ c x. then (parse_roots q timed u? ns x) (λ cs x. good (Some c ∷ cs) x))
 unfolding parse_roots
 step-true timed u? n ns q x e = rw (e, parse_roots) refl
 
 step-false : (timed u? : Bool) (n : ℕ) (ns : List ℕ) (q : Ids) (x : List ℕ) → here n x ≡ false
-    → parse_roots q timed u? (n ∷ ns) x ≡ then (parse_roots q timed u? ns x) (λ cs x. good (none ∷ cs) x)
+    → parse_roots q timed u? (n ∷ ns) x ≡ then (parse_roots q timed u? ns x) (λ cs x. good (None ∷ cs) x)
 unfolding parse_roots
 step-false timed u? n ns q x e = rw (e, parse_roots) refl
 
@@ -115,12 +115,12 @@ module _ (timed u? : Bool) where
       U = record { root = n; timed = timed; uuid = u? }
 
       rest : Ids → Class → Parser (List (Option Class))
-      rest q c x = then (parse_roots q timed u? ns x) (λ cs x. good (some c ∷ cs) x)
+      rest q c x = then (parse_roots q timed u? ns x) (λ cs x. good (Some c ∷ cs) x)
 
       -- there is the root, its class, and the other roots
       found : (e : here n x ≡ true) (c : Class) (x₁ : List ℕ) → parse_class q U 8 top (behind x) ≡ good c x₁
           → (cs₁ : List (Option Class)) (x₂ : List ℕ) → Rooted timed u? ns x₁ cs₁ x₂
-          → ◌≡◌ {A = Parsed (List (Option Class))} (good (some c ∷ cs₁) x₂) (good cs y) → Rooted timed u? (n ∷ ns) x cs y
+          → ◌≡◌ {A = Parsed (List (Option Class))} (good (Some c ∷ cs₁) x₂) (good cs y) → Rooted timed u? (n ∷ ns) x cs y
       found e c x₁ pc cs₁ x₂ r h =
           let ir = and_right (leb (size x) (length x)) (is_root n (record_of x)) e in
           let fits = leb-true _ _ (and_left (leb (size x) (length x)) (is_root n (record_of x)) e) in
@@ -130,7 +130,7 @@ module _ (timed u? : Bool) where
           let hr = first-record x th fits in
           let k = (local-class U 8 top).at q (behind x) c x₁ pc in
           let py : x₂ ≡ y = cc in
-          let pcs : some c ∷ cs₁ ≡ cs = cc in
+          let pcs : Some c ∷ cs₁ ≡ cs = cc in
           let ry : x₁ ≡ r.u ++ y = r.split ∙ ap (λ l. r.u ++ l) py in
           let ky : behind x ≡ (k.u ++ r.u) ++ y = k.split ∙ ap (λ l. k.u ++ l) ry ∙ sym (append_assoc k.u r.u y) in
           record {
@@ -143,12 +143,12 @@ module _ (timed u? : Bool) where
                 ∙ step-true timed u? n ns q' (w ++ (k.u ++ (r.u ++ z))) (whole_here n w (k.u ++ (r.u ++ z)) hw ∙ rw hr ir)
                 ∙ ap (λ l. then (parse_class q' U 8 top l) (rest q')) (whole-behind w (k.u ++ (r.u ++ z)) hw)
                 ∙ ap (λ o. then o (rest q')) (k.again q' (r.u ++ z))
-                ∙ ap (λ o. then o (λ cs x. good (some c ∷ cs) x)) (r.again q' z s)
+                ∙ ap (λ o. then o (λ cs x. good (Some c ∷ cs) x)) (r.again q' z s)
                 ∙ ap (λ l. good l z) pcs;
           }
 
       by3 : (e : here n x ≡ true) (c : Class) (x₁ : List ℕ) → parse_class q U 8 top (behind x) ≡ good c x₁ → Others ns q
-          → (o : Parsed (List (Option Class))) → parse_roots q timed u? ns x₁ ≡ o → then o (λ cs x. good (some c ∷ cs) x) ≡ good cs y
+          → (o : Parsed (List (Option Class))) → parse_roots q timed u? ns x₁ ≡ o → then o (λ cs x. good (Some c ∷ cs) x) ≡ good cs y
           → Rooted timed u? (n ∷ ns) x cs y
       by3 e c x₁ p rec (bad m x₂) pr h = absurd (bad-good m x₂ cs y h)
       by3 e c x₁ p rec (good cs₁ x₂) pr h = found e c x₁ p cs₁ x₂ (rec x₁ cs₁ x₂ pr) h
@@ -159,13 +159,13 @@ module _ (timed u? : Bool) where
       by2 e rec (good c x₁) p h = by3 e c x₁ p rec (parse_roots q timed u? ns x₁) refl h
 
       not-here : (e : here n x ≡ false) → Others ns q
-          → (o : Parsed (List (Option Class))) → parse_roots q timed u? ns x ≡ o → then o (λ cs x. good (none ∷ cs) x) ≡ good cs y
+          → (o : Parsed (List (Option Class))) → parse_roots q timed u? ns x ≡ o → then o (λ cs x. good (None ∷ cs) x) ≡ good cs y
           → Rooted timed u? (n ∷ ns) x cs y
       not-here e rec (bad m x₂) pr h = absurd (bad-good m x₂ cs y h)
       not-here e rec (good cs₁ x₂) pr h =
           let r = rec x cs₁ x₂ pr in
           let py : x₂ ≡ y = cc in
-          let pcs : none ∷ cs₁ ≡ cs = cc in
+          let pcs : None ∷ cs₁ ≡ cs = cc in
           record {
             u = r.u;
             split = r.split ∙ ap (λ l. r.u ++ l) py;
@@ -173,14 +173,14 @@ module _ (timed u? : Bool) where
             stops = rw py at r.stops;
             again = λ q' z s.
                 step-false timed u? n ns q' (r.u ++ z) (plain_here n r.u x₂ z r.plain (ap (here n) (sym r.split) ∙ e) s)
-                ∙ ap (λ o. then o (λ cs x. good (none ∷ cs) x)) (r.again q' z s)
+                ∙ ap (λ o. then o (λ cs x. good (None ∷ cs) x)) (r.again q' z s)
                 ∙ ap (λ l. good l z) pcs;
           }
 
       by : Others ns q → (b : Bool) → here n x ≡ b
           → elim b as (λ _. Parsed (List (Option Class))) [
             | true ↦ then (parse_class q U 8 top (behind x)) (rest q)
-            | false ↦ then (parse_roots q timed u? ns x) (λ cs x. good (none ∷ cs) x)
+            | false ↦ then (parse_roots q timed u? ns x) (λ cs x. good (None ∷ cs) x)
           ] ≡ good cs y
           → Rooted timed u? (n ∷ ns) x cs y
       by rec true e h = by2 e rec _ refl h

@@ -1,11 +1,11 @@
 -- The rounds of the event loop are enough: more of them change nothing. Each event that goes on has moved the place (38).
+use Rattle.std.specs.Prelude.{Option, None, Some}
 use mathlib.Core.Path.{◌≡◌, refl, ap}
 use Prim.Native.Nat.{ℕ, zero, suc, ◌+◌, ◌-◌, ◌≤◌}
 use native.Mathlib.Omega.{arith}
 use native.Mathlib.Nat.{le_refl, suc-add}
 use mathlib.Core.List.{List}
 use mathlib.Core.Bool.{Bool, true, false}
-use mathlib.Core.Option.{Option, none, some}
 use lib.Dec.{ltb, eqb}
 use borrow.Author.Tests.{eqb-false, le-ltb}
 use Rattle.rules.specs.declared.BitPlace.{BitPlace}
@@ -47,8 +47,8 @@ rising e {m} h = record { at = λ p s k. rise-from e p s (m s) (h.at s) k }
 
 event-onward : (i j : ℕ) (x : Option EventClass) (f : EventClass → Step) → ((d : EventClass) → Onward (f d)) → Onward (with_event i j x f)
 unfolding with_event refuse
-event-onward i j none f h = record { at = λ p s k. tt }
-event-onward i j (some d) f h = h d
+event-onward i j None f h = record { at = λ p s k. tt }
+event-onward i j (Some d) f h = h d
 
 infixr 20 ◌⨾ᵒ◌
 ◌⨾ᵒ◌ : {m n : Step} → Onward m → Onward n → Onward (m ⨾ n)

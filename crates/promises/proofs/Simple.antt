@@ -1,15 +1,13 @@
 -- Laws that ask nothing of a field's bits or values: what holds of the primitive steps of a packet, and under their composition, holds of
 -- every packet. L is a law of steps, and R the same of steps that come where there is room for an entry.
+use Rattle.std.specs.Prelude.{Option, None, Some}
 use Prim.Native.Nat.{ℕ, zero, suc, ◌+◌, ◌-◌, ◌*◌, ◌%◌}
 use native.Mathlib.Omega.{arith}
 use mathlib.Core.List.{List}
 use mathlib.Core.Bool.{Bool, true, false, not, ◌&&◌, ◌||◌}
-use mathlib.Core.Option.{Option, none, some}
 use lib.ListN.{length}
 use lib.Dec.{ltb, eqb}
 use Rattle.rules.specs.declared.BitPlace.{BitPlace}
-use Rattle.rules.specs.declared.Stated.{Stated}
-use Rattle.rules.specs.declared.Stated.TheVariants.{As}
 use Rattle.rules.specs.declared.Refusal.TheVariants.{StreamClassChanged, StreamClassUnknown, LengthsContradict, ClocksContradict, EventClassUnknown, EventTookNoBits, ClockWentBack}
 use Rattle.rules.specs.Verdict.{refusal_number}
 use Rattle.rules.specs.Place.{bit_place, further}
@@ -35,13 +33,13 @@ pub record SimplePackets (L R : Step → Type 0) : Type 0 where
 module _ {L R : Step → Type 0} (h : SimplePackets L R) (t : Asked) where
   event-found : (e : Env) (i j : ℕ) (x : Option EventClass) (f : EventClass → Step) → ((d : EventClass) → R (f d)) → R (with_event i j x f)
   unfolding with_event refusal_number
-  event-found e i j none f g = (h.simple e).refuses (EventClassUnknown i j) (λ z. omega arith)
-  event-found e i j (some d) f g = g d
+  event-found e i j None f g = (h.simple e).refuses (EventClassUnknown i j) (λ z. omega arith)
+  event-found e i j (Some d) f g = g d
 
   stream-found : (e : Env) (i : ℕ) (x : Option StreamClass) (f : StreamClass → Step) → ((c : StreamClass) → R (f c)) → R (with_stream i x f)
   unfolding with_stream refusal_number
-  stream-found e i none f g = (h.simple e).refuses (StreamClassUnknown i) (λ z. omega arith)
-  stream-found e i (some c) f g = g c
+  stream-found e i None f g = (h.simple e).refuses (StreamClassUnknown i) (λ z. omega arith)
+  stream-found e i (Some c) f g = g c
 
   simple-event : (c : StreamClass) (e : Env) (n : ℕ) → L (read_event t c e n)
   unfolding read_event refusal_number
@@ -82,7 +80,7 @@ module _ {L R : Step → Type 0} (h : SimplePackets L R) (t : Asked) where
       (q.seqʳ (h.marks lengths_settled total content)
       (q.looks (λ x. read_events t c e (further p total) 0 (p.0 + content - x.place.0)) (λ x. simple-events c e (further p total) 0 _)))))
 
-  pub simple-packet : (b : List ℕ) (k : ℕ) (i : Stated) → L (read_packet t b k i)
+  pub simple-packet : (b : List ℕ) (k : ℕ) (i : Option ℕ) → L (read_packet t b k i)
   unfolding read_packet refusal_number
   simple-packet b k i =
       (h.simple (env (bit_place 0))).looks
@@ -110,11 +108,11 @@ module _ {L R : Step → Type 0} (h : SimplePackets L R) (t : Asked) where
       found : Env → BitPlace → ℕ → StreamClass → Step
       found e p i c = mark stream_class_found 0 i ⨾ read_root e first_root c.context ⨾ λ s. content p c (view s) s
 
-  pub simple-packets : (b : List ℕ) (k : ℕ) (i : Stated) (left : ℕ) → L (read_packets t b k i left)
+  pub simple-packets : (b : List ℕ) (k : ℕ) (i : Option ℕ) (left : ℕ) → L (read_packets t b k i left)
   unfolding read_packets
   simple-packets b k i zero = (h.simple (record { bytes = b; start = bit_place 0; bound = bit_place 0; uuid = b })).passes
   simple-packets b k i (suc left) =
       let p = h.simple (record { bytes = b; start = bit_place 0; bound = bit_place 0; uuid = b }) in
       h.either (λ x. ltb x.place.0 (8 * length b))
-      (p.seq (simple-packet b k i) (p.looks (λ x. read_packets t b (k + 1) (As x.said.stream) left) (λ x. simple-packets b (k + 1) (As x.said.stream) left)))
+      (p.seq (simple-packet b k i) (p.looks (λ x. read_packets t b (k + 1) (Some x.said.stream) left) (λ x. simple-packets b (k + 1) (Some x.said.stream) left)))
       p.passes

@@ -1,5 +1,6 @@
 -- A stream is refused for its size just where it is empty or over the limit: any other lists its first packet's entry 1, or is refused by
 -- 40 since there is no room for it.
+use Rattle.std.specs.Prelude.{None, Option}
 use mathlib.Core.Path.{◌≡◌, refl, sym, ap, subst, ◌∙◌}
 use mathlib.Core.Logic.{◌⊎◌, inl, inr, ⊎_elim, ◌↔◌}
 use Prim.Native.Nat.{ℕ, zero, suc, ◌*◌, ◌≤◌, ◌<◌}
@@ -10,8 +11,6 @@ use lib.ListN.{length}
 use lib.Dec.{ltb, eqb}
 use borrow.Author.Tests.{ltb-true, ltb-false, lt-ltb, eqb-true}
 use Rattle.rules.specs.declared.Entry.{Entry}
-use Rattle.rules.specs.declared.Stated.{Stated}
-use Rattle.rules.specs.declared.Stated.TheVariants.{Missing}
 use Rattle.rules.specs.declared.Refusal.TheVariants.{StreamSize}
 use Rattle.rules.specs.declared.Verdict.TheVariants.{Refused}
 use Rattle.rules.specs.Limits.{words_per_entry, stream_limit}
@@ -59,7 +58,7 @@ begun-not-size (go (x ∷ es) s) h q = let n : suc (length es) ≡ 0 = ap (λ r.
 
 module _ (t : Asked) (b : List ℕ) where
   -- a packet's first step is its entry 1
-  packet-begun : (k : ℕ) (i : Stated) (s : State) → Begun (read_packet t b k i s)
+  packet-begun : (k : ℕ) (i : Option ℕ) (s : State) → Begun (read_packet t b k i s)
   unfolding read_packet
   packet-begun k i s = by (ltb s.room words_per_entry) refl
     where
@@ -67,12 +66,12 @@ module _ (t : Asked) (b : List ℕ) where
       by true e = unfold refuse refusal_number in subst Begun (sym (no-room-first _ s (ltb-true _ _ e))) refl
       by false e = subst Begun (sym (room-first _ s (ltb-false _ _ e) ∙ mark_on packet_starts 0 k _ s)) (begun-onto _ [] _)
 
-  packets-begun : (left : ℕ) → 1 ≤ left → (s : State) → s.place.0 < 8 * length b → Begun (read_packets t b 0 Missing left s)
+  packets-begun : (left : ℕ) → 1 ≤ left → (s : State) → s.place.0 < 8 * length b → Begun (read_packets t b 0 None left s)
   unfolding read_packets ◌⨾◌
   packets-begun zero h s l = absurd (omega arith)
-  packets-begun (suc left) h s l = rw (lt-ltb s.place.0 (8 * length b) l, read_packets) (begun-after _ _ (packet-begun 0 Missing s))
+  packets-begun (suc left) h s l = rw (lt-ltb s.place.0 (8 * length b) l, read_packets) (begun-after _ _ (packet-begun 0 None s))
 
-  read-not-size : (room : ℕ) → 1 ≤ length b → result_of (ended (read_packets t b 0 Missing (length b) (begin room))) ≡ refused_by_size → ⊥
+  read-not-size : (room : ℕ) → 1 ≤ length b → result_of (ended (read_packets t b 0 None (length b) (begin room))) ≡ refused_by_size → ⊥
   unfolding begin
   read-not-size room h = begun-not-size _ (packets-begun (length b) h (begin room) (omega arith))
 
@@ -84,7 +83,7 @@ module _ (t : Asked) (b : List ℕ) where
       Just : Bool → Type 0
       Just c = (result_of (elim c [
         | true ↦ record { entries = []; verdict = Refused (stop_at StreamSize (bit_place 0)) }
-        | false ↦ ended (read_packets t b 0 Missing (length b) (begin room))
+        | false ↦ ended (read_packets t b 0 None (length b) (begin room))
       ]) ≡ refused_by_size) ↔ ((length b ≡ 0) ⊎ (536_870_911 < length b))
 
       by : (c : Bool) → eqb (length b) 0 || ltb stream_limit (length b) ≡ c → Just c

@@ -1,12 +1,12 @@
 -- In an accepted table each slot has one home: the walk finds no fault in its bytes, and tells of each fragment what those behind it need
 -- (HomesBefore). In order: the fragments of a table; that no slot is left out; homes that are told apart.
+use Rattle.std.specs.Prelude.{None, Some}
 use mathlib.Core.Path.{◌≡◌, refl, sym, ap, ◌∙◌, subst}
 use mathlib.Core.Logic.{inl, inr}
 use Prim.Native.Nat.{ℕ, zero, suc, ◌+◌, ◌≤◌}
 use native.Mathlib.Omega.{arith}
 use mathlib.Core.List.{List, [], ◌∷◌, ◌++◌}
 use mathlib.Core.Bool.{Bool, true, false}
-use mathlib.Core.Option.{none, some}
 use lib.ListN.{length}
 use Rattle.facts.proofs.Parsed.{NoFault, parse-table, parse-walk}
 use Rattle.rules.specs.Class.{Class, fixed, leb128, signed_leb128, string, static_string, static_blob, dynamic_string, dynamic_blob, structure}
@@ -101,8 +101,8 @@ mutual
   all_slots (dynamic_string i) h p = refl
   all_slots (dynamic_blob i) h p = refl
   all_slots (structure a cs) h p = member-slots cs h p 0
-  all_slots (static_array n a c) h p = all_slots c (some p) (0 ∷ p)
-  all_slots (dynamic_array i a c) h p = all_slots c (some p) (0 ∷ p)
+  all_slots (static_array n a c) h p = all_slots c (Some p) (0 ∷ p)
+  all_slots (dynamic_array i a c) h p = all_slots c (Some p) (0 ∷ p)
   all_slots (flagged i c) h p = all_slots c h (0 ∷ p)
   all_slots (optional i g rs c) h p = all_slots c h (0 ∷ p)
   all_slots (variant i g os) h p = option-slots os h p 0
@@ -123,16 +123,16 @@ mutual
 
 -- Homes told apart
 
-some-none : (p : Place) → ◌≡◌ {A = Home} (some p) none → ⊥
+some-none : (p : Place) → ◌≡◌ {A = Home} (Some p) None → ⊥
 some-none p h = let z : ◌≡◌ {A = ℕ} 0 1 = cc in omega arith
 
-other-member : (p : Place) → ◌≡◌ {A = Home} (some (0 ∷ p)) (some (1 ∷ p)) → ⊥
+other-member : (p : Place) → ◌≡◌ {A = Home} (Some (0 ∷ p)) (Some (1 ∷ p)) → ⊥
 other-member p h = let z : ◌≡◌ {A = ℕ} 0 1 = cc in omega arith
 
-other-root : ◌≡◌ {A = Home} (some (2 ∷ [])) (some (3 ∷ [])) → ⊥
+other-root : ◌≡◌ {A = Home} (Some (2 ∷ [])) (Some (3 ∷ [])) → ⊥
 other-root h = let z : ◌≡◌ {A = ℕ} 2 3 = cc in omega arith
 
-inner-array : (n : ℕ) → ◌≡◌ {A = Home} (some (n ∷ [])) (some (1 ∷ 0 ∷ n ∷ [])) → ⊥
+inner-array : (n : ℕ) → ◌≡◌ {A = Home} (Some (n ∷ [])) (Some (1 ∷ 0 ∷ n ∷ [])) → ⊥
 inner-array n h = let z : ◌≡◌ {A = List ℕ} [] (0 ∷ n ∷ []) = cc in nil-cons z
   where
     nil-cons : ◌≡◌ {A = List ℕ} [] (0 ∷ n ∷ []) → ⊥
@@ -167,7 +167,7 @@ slot-homes = record {
   two-arrays = λ h. other-member _ (first-same _ _ _ h refl);
   two-roots = λ h. other-root (first-same _ _ _ h refl);
   inner-and-outer = λ h. inner-array 0 (first-same _ _ _ h refl);
-  one-element = all_same (some (0 ∷ [])) _ (same_more _ _ _ refl (same_more _ _ _ refl (none-same _)));
-  no-array = all_same none _
+  one-element = all_same (Some (0 ∷ [])) _ (same_more _ _ _ refl (same_more _ _ _ refl (none-same _)));
+  no-array = all_same None _
       (same_more _ _ _ refl (same_more _ _ _ refl (same_more _ _ _ refl (same_more _ _ _ refl (none-same _)))));
 }

@@ -1,13 +1,13 @@
 -- The bundle is the smallest table, from demand 3: what stays is all that the lists find, so that no reading misses a class; and where a
 -- class that a list finds is left out, that list ends before its finding. In order: nothing is missed; something is; the bundle cut
 -- further; the statement.
+use Rattle.std.specs.Prelude.{Option, None, Some}
 use mathlib.Core.Path.{◌≡◌, refl, sym, ap, subst, ◌∙◌}
 use mathlib.Core.Logic.{◌⊎◌, inl, inr}
 use Prim.Native.Nat.{ℕ, suc, ◌<◌}
 use native.Mathlib.Omega.{arith}
 use mathlib.Core.List.{List, [], ◌∷◌, map}
 use mathlib.Core.Bool.{Bool, true, false, not, ◌&&◌}
-use mathlib.Core.Option.{Option, none, some}
 use lib.ListN.{length, take, length-take}
 use lib.Dec.{eqb}
 use borrow.Author.Tests.{eqb-true, eq-eqb}
@@ -31,18 +31,18 @@ use Rattle.promises.proofs.Further.{Keeps, leave-again}
 -- the refusal that names the class of an entry, by two tests
 abbrev named : ℕ → Entry → Bool → Bool → Option Stop
 named h e a b = elim a [
-  | true ↦ some (stop_at (StreamClassUnknown e.value) e.place)
-  | false ↦ elim b [ true ↦ some (stop_at (EventClassUnknown h e.value) e.place) | false ↦ none ]
+  | true ↦ Some (stop_at (StreamClassUnknown e.value) e.place)
+  | false ↦ elim b [ true ↦ Some (stop_at (EventClassUnknown h e.value) e.place) | false ↦ None ]
 ]
 
-some-none : (v : Stop) → ◌≡◌ {A = Option Stop} (some v) none → ⊥
+some-none : (v : Stop) → ◌≡◌ {A = Option Stop} (Some v) None → ⊥
 some-none v q = let z : ◌≡◌ {A = ℕ} 0 1 = cc in omega arith
 
 -- Nothing is missed
 
 module _ (ks : ℕ → Bool) (ke : ℕ → ℕ → Bool) where
   none-lost : (h : ℕ) (e : Entry) → (e.kind ≡ 2 → ks e.value ≡ true) → (e.kind ≡ 5 → both ks ke h e.value ≡ true)
-      → lost (gone_stream ks) (gone_event ks ke) h e ≡ none
+      → lost (gone_stream ks) (gone_event ks ke) h e ≡ None
   unfolding lost gone_stream gone_event
   none-lost h e f g = λ i. named h e (first (eqb e.kind stream_class_found) refl i) (second (eqb e.kind event_class_found) refl i)
     where
@@ -61,7 +61,7 @@ module _ (ks : ℕ → Bool) (ke : ℕ → ℕ → Bool) where
 
   none_first : (h : ℕ) (es : List Entry) → ((i : ℕ) → Lists (FindsStream i) h es → ks i ≡ true)
       → ((i j : ℕ) → Lists (FindsEvent i j) h es → ke i j ≡ true)
-      → first_lost (gone_stream ks) (gone_event ks ke) h es ≡ none
+      → first_lost (gone_stream ks) (gone_event ks ke) h es ≡ None
   unfolding first_lost front later
   none_first h [] f g = refl
   none_first h (e ∷ es) f g =
@@ -69,7 +69,7 @@ module _ (ks : ℕ → Bool) (ke : ℕ → ℕ → Bool) where
       (λ k. unfold both in rw (f h (inl (inr (k, refl)))) (g h e.value (inl (k, refl, refl)))) in
       rw (here, none_first (under h e) es (λ i q. f i (inr q)) (λ i j q. g i j (inr q))) refl
 
-  none-missed : (es : List Entry) (ess : List (List Entry)) → Among (es ∷ ess) → missed ks ke es ≡ none
+  none-missed : (es : List Entry) (ess : List (List Entry)) → Among (es ∷ ess) → missed ks ke es ≡ None
   unfolding missed
   none-missed es ess h = none_first 0 es (λ i q. h.streams i (inl q)) (λ i j q. h.events i j (inl q))
 
@@ -91,27 +91,27 @@ module _ (ks : ℕ → Bool) (ke : ℕ → ℕ → Bool) where
 
 -- an entry that is not lost does not say so
 abbrev pub Losing : (ℕ → Bool) → (ℕ → ℕ → Bool) → (ℕ → Entry → Type 0) → Type 0
-Losing gs ge P = (h : ℕ) (e : Entry) → P h e → lost gs ge h e ≡ none → ⊥
+Losing gs ge P = (h : ℕ) (e : Entry) → P h e → lost gs ge h e ≡ None → ⊥
 
 module _ (gs : ℕ → Bool) (ge : ℕ → ℕ → Bool) where
   record Loses (h : ℕ) (es : List Entry) : Type 0 where
     l : Lost
-    is : first_lost gs ge h es ≡ some l
+    is : first_lost gs ge h es ≡ Some l
     inside : l.index < length es
 
-  loses-cons : (h : ℕ) (e : Entry) (es : List Entry) → (lost gs ge h e ≡ none → Loses (under h e) es) → Loses h (e ∷ es)
+  loses-cons : (h : ℕ) (e : Entry) (es : List Entry) → (lost gs ge h e ≡ None → Loses (under h e) es) → Loses h (e ∷ es)
   unfolding first_lost front later
   loses-cons h e es f = by (lost gs ge h e) refl
     where
       by : (o : Option Stop) → lost gs ge h e ≡ o → Loses h (e ∷ es)
-      by none q =
+      by None q =
           let r = f q in
           record {
             l = record { index = suc r.l.index; refusal = r.l.refusal };
             is = rw (q, r.is) refl;
             inside = omega (arith, r.inside);
           }
-      by (some v) q = record { l = record { index = 0; refusal = v }; is = rw q refl; inside = omega arith }
+      by (Some v) q = record { l = record { index = 0; refusal = v }; is = rw q refl; inside = omega arith }
 
   loses : {P : ℕ → Entry → Type 0} → Losing gs ge P → (h : ℕ) (es : List Entry) → Lists P h es → Loses h es
   loses f h [] q = absurd q
@@ -119,7 +119,7 @@ module _ (gs : ℕ → Bool) (ge : ℕ → ℕ → Bool) where
   loses f h (e ∷ es) (inr q) = loses-cons h e es (λ n. loses f (under h e) es q)
 
   -- an entry that one of two tests names is lost
-  is-named : (h : ℕ) (e : Entry) (a b : Bool) → (a ≡ true) ⊎ (b ≡ true) → named h e a b ≡ none → ⊥
+  is-named : (h : ℕ) (e : Entry) (a b : Bool) → (a ≡ true) ⊎ (b ≡ true) → named h e a b ≡ None → ⊥
   is-named h e true b q n = some-none _ n
   is-named h e false true q n = some-none _ n
   is-named h e false false (inl q) n = clash q

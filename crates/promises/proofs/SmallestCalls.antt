@@ -1,5 +1,10 @@
 -- The smallest bundle of calls. In order: calls of `read`, by the rules' readings of the streams; the smallest table by them; the lists;
 -- the answers.
+use Rattle.std.specs.Prelude.{Err, Ok, Result}
+use Rattle.rules.specs.Verdict.{table_fault}
+use Rattle.rules.specs.declared.NoBundle.TheVariants.{Table, TooManyStreams, ShortBuffer}
+use Rattle.rules.specs.declared.NoBundle.{NoBundle}
+use Rattle.rules.specs.declared.TableFault.{TableFault}
 use mathlib.Core.Path.{◌≡◌, refl, sym, ap, subst, ◌∙◌}
 use Prim.Native.Nat.{ℕ, zero, suc, ◌+◌, ◌<◌, ◌≤◌}
 use native.Mathlib.Omega.{arith}
@@ -10,10 +15,6 @@ use lib.ListN.{length, length-append, take, drop, take-append-drop}
 use lib.Dec.{ltb}
 use borrow.Author.Tests.{ltb-true, ltb-false, le-ltb, lt-ltb}
 use Rattle.rules.specs.declared.ByteLength.{ByteLength}
-use Rattle.rules.specs.declared.Checked.{Checked}
-use Rattle.rules.specs.declared.Checked.TheVariants.{Accepted, Refused}
-use Rattle.rules.specs.declared.Bundled.{Bundled}
-use Rattle.rules.specs.declared.Bundled.TheVariants.{Written, TableRefused, TooManyStreams, ShortBuffer}
 use Rattle.rules.specs.Limits.{bundle_limit}
 use Rattle.rules.specs.Place.{byte_length}
 use Rattle.rules.specs.Parse.{checked}
@@ -199,26 +200,26 @@ module _ (x b ns ms : List ℕ) (c : Cut) (h : CutContract x b ns ms c) where
   room = length c.buffer
 
   -- what a result says of the lists and of the buffer
-  lists-by : (r : Bundled) → c.result ≡ r → c.after ≡ lists_after r read ms old
+  lists-by : (r : Result ByteLength NoBundle) → c.result ≡ r → c.after ≡ lists_after r read ms old
   lists-by r e = h.list ∙ ap (λ z. lists_after z read ms old) e
 
-  buffer-by : (r : Bundled) → c.result ≡ r → c.written ≡ buffer_after r table c.buffer
+  buffer-by : (r : Result ByteLength NoBundle) → c.result ≡ r → c.written ≡ buffer_after r table c.buffer
   buffer-by r e = h.buffer ∙ ap (λ z. buffer_after z table c.buffer) e
 
   -- the table decides first, and then the number of streams
-  by-table : (k : Checked) → checked x ≡ k → c.result ≡ bundled k x (length ns) read room
+  by-table : (k : Result ByteLength TableFault) → checked x ≡ k → c.result ≡ bundled k x (length ns) read room
   by-table k e = h.result ∙ ap (λ z. bundled z x (length ns) read room) e
 
-  refuses-table : (n : ℕ) (p : ByteLength) → checked x ≡ Refused n p → Refuses 20 p.0 n c
+  refuses-table : (n : ℕ) (p : ByteLength) → checked x ≡ Err (table_fault n p) → Refuses 20 p.0 n c
   unfolding bundled lists_after buffer_after bundled_number bundled_length bundled_first
   refuses-table n p e =
-      let r : c.result ≡ TableRefused n p = by-table _ e in
+      let r : c.result ≡ Err (Table (table_fault n p)) = by-table _ e in
       record { numbers = ap numbers_of r; lists = lists-by _ r; buffer = buffer-by _ r }
 
   refuses-many : Good x → 16 < length ns → Refuses 44 0 0 c
   unfolding bundled lists_after buffer_after bundled_number bundled_length bundled_first
   refuses-many good n =
-      let r : c.result ≡ TooManyStreams = by-table _ good ∙ rw (lt-ltb bundle_limit (length ns) n, bundled) refl in
+      let r : c.result ≡ Err TooManyStreams = by-table _ good ∙ rw (lt-ltb bundle_limit (length ns) n, bundled) refl in
       record { numbers = ap numbers_of r; lists = lists-by _ r; buffer = buffer-by _ r }
 
   module _ (good : Good x) (n : length ns ≤ 16) where
@@ -226,11 +227,11 @@ module _ (x b ns ms : List ℕ) (c : Cut) (h : CutContract x b ns ms c) where
     unfolding bundled
     fits-or-not = by-table _ good ∙ rw (le-ltb bundle_limit (length ns) n, bundled) refl
 
-    writes : length table ≤ room → c.result ≡ Written (byte_length (length table))
+    writes : length table ≤ room → c.result ≡ Ok (byte_length (length table))
     unfolding fitted
     writes l = fits-or-not ∙ rw (le-ltb room (length table) l, fitted) refl
 
-    is-short : room < length table → c.result ≡ ShortBuffer (byte_length (length table))
+    is-short : room < length table → c.result ≡ Err (ShortBuffer (byte_length (length table)))
     unfolding fitted
     is-short l = fits-or-not ∙ rw (lt-ltb room (length table) l, fitted) refl
 
@@ -262,12 +263,12 @@ smallest-calls x b ns ms cs c h k = record {
 }
 
 -- what `bundle` ensures of a table, streams with their lengths, rooms, a result, and lists and buffer before and after
-abbrev pub EnsuredCut : List ℕ → List ℕ → List ℕ → List ℕ → Bundled → List ℕ → List ℕ → List ℕ → List ℕ → Type 0
+abbrev pub EnsuredCut : List ℕ → List ℕ → List ℕ → List ℕ → Result ByteLength NoBundle → List ℕ → List ℕ → List ℕ → List ℕ → Type 0
 EnsuredCut x b ns ms r ws ws' out out' =
     (r ≡ bundle_answer x b ns ms ws (length out)) × (ws' ≡ lists_after r (bundle_readings x b ns ms ws) ms ws)
     × (out' ≡ buffer_after r (bundle_of x (bundle_readings x b ns ms ws)) out)
 
-pub cut-once : (x b ns ms : List ℕ) (r : Bundled) (ws ws' out out' : List ℕ) → EnsuredCut x b ns ms r ws ws' out out'
+pub cut-once : (x b ns ms : List ℕ) (r : Result ByteLength NoBundle) (ws ws' out out' : List ℕ) → EnsuredCut x b ns ms r ws ws' out out'
     → CutOnce x b ns ms (cut r ws ws' out out')
 cut-once x b ns ms r ws ws' out out' e =
     let h : CutContract x b ns ms (cut r ws ws' out out') = record { result = e.0; list = e.1; buffer = e.2 } in

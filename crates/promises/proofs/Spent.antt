@@ -1,4 +1,5 @@
 -- Each entry takes its words of the room; and a reading that is refused by 40 has too few left for one more.
+use Rattle.std.specs.Prelude.{None, Option}
 use mathlib.Core.Path.{◌≡◌, refl, subst}
 use Prim.Native.Nat.{ℕ, ◌+◌, ◌-◌, ◌*◌, ◌≤◌, ◌<◌}
 use native.Mathlib.Omega.{arith}
@@ -9,8 +10,6 @@ use lib.Dec.{ltb, eqb}
 use borrow.Author.Tests.{ltb-false, ltb-true}
 use Rattle.rules.specs.declared.BitPlace.{BitPlace}
 use Rattle.rules.specs.declared.Entry.{Entry}
-use Rattle.rules.specs.declared.Stated.{Stated}
-use Rattle.rules.specs.declared.Stated.TheVariants.{Missing}
 use Rattle.rules.specs.declared.Refusal.{Refusal}
 use Rattle.rules.specs.declared.Refusal.TheVariants.{StreamSize, PastBound, LebTooLarge, ListFull}
 use Rattle.rules.specs.declared.Stop.{Stop}
@@ -156,7 +155,7 @@ spent-packets = record {
 
 -- a packet that goes through leaves no more room
 
-pub packet-spent : (t : Asked) (b : List ℕ) (k : ℕ) (i : Stated) (s : State) (es : List Entry) (u : State) → read_packet t b k i s ≡ go es u
+pub packet-spent : (t : Asked) (b : List ℕ) (k : ℕ) (i : Option ℕ) (s : State) (es : List Entry) (u : State) → read_packet t b k i s ≡ go es u
     → u.room ≤ s.room
 packet-spent t b k i s es u q =
     let h : u.room + words_per_entry * length es ≡ s.room = subst (SpentOut s) q ((simple-packet spent-packets t b k i).at s) in
@@ -175,10 +174,10 @@ stream-spent t b room = by (eqb (length b) 0 || ltb stream_limit (length b))
   where
     by : (x : Bool) → SpentReading room (elim x [
       | true ↦ record { entries = []; verdict = Refused (stop_at StreamSize (bit_place 0)) }
-      | false ↦ ended (read_packets t b 0 Missing (length b) (begin room))
+      | false ↦ ended (read_packets t b 0 None (length b) (begin room))
     ])
     by true = record { within = omega arith; full = λ e. absurd (omega arith) }
-    by false = unfold begin in ended-spent (begin room) _ ((simple-packets spent-packets t b 0 Missing (length b)).at (begin room))
+    by false = unfold begin in ended-spent (begin room) _ ((simple-packets spent-packets t b 0 None (length b)).at (begin room))
 
 -- the entries take no more than the room; and where the number is 40, the room has no place for one more
 pub reading-spent : (x b : List ℕ) (room : ℕ) → SpentReading room (read_all x b room)

@@ -1,15 +1,13 @@
 -- How the state behind a removed packet differs from that of the stream without it.
+use Rattle.std.specs.Prelude.{Some, Option}
 use mathlib.Core.Path.{◌≡◌}
 use Prim.Native.Nat.{ℕ, ◌+◌, ◌*◌, ◌%◌, ◌≤◌}
 use mathlib.Core.Bool.{true, false}
-use mathlib.Core.Option.{some}
-use Rattle.rules.specs.declared.Stated.{Stated}
-use Rattle.rules.specs.declared.Stated.TheVariants.{As}
 use Rattle.rules.specs.Step.{State}
 use Rattle.rules.specs.Table.{StreamClass, Asked}
 use Rattle.rules.specs.Packet.{differs}
 
-pub record Onwards (t : Asked) (total from k k' : ℕ) (i i' : Stated) (s s' : State) : Type 0 where
+pub record Onwards (t : Asked) (total from k k' : ℕ) (i i' : Option ℕ) (s s' : State) : Type 0 where
   -- the place is lower by the total, at a whole byte, behind the gap
   pub place : s'.place.0 + total ≡ s.place.0
   pub whole : s.place.0 % 8 ≡ 0
@@ -20,7 +18,7 @@ pub record Onwards (t : Asked) (total from k k' : ℕ) (i i' : Stated) (s s' : S
   pub number : k ≡ k' + 1
   -- the first packet's class, if one is known, is that of the packets before
   pub class : ℕ
-  pub first : i ≡ As class
+  pub first : i ≡ Some class
   pub same : differs class i' ≡ false
   -- the last clock is no higher, where there is a clock
-  pub last : (c : StreamClass) → t.stream class ≡ some c → c.timed ≡ true → s'.last ≤ s.last
+  pub last : (c : StreamClass) → t.stream class ≡ Some c → c.timed ≡ true → s'.last ≤ s.last

@@ -1,5 +1,6 @@
 -- Values of bits, clocks and slots fit 64 bits. That those of LEB128 numbers do, and that their bytes and those of strings are there,
 -- is shown beside the code that reads them.
+use Rattle.std.specs.Prelude.{None, Some}
 use mathlib.Core.Path.{◌≡◌, refl, subst}
 use Prim.Native.Nat.{ℕ, zero, suc, ◌+◌, ◌-◌, ◌^◌, ◌≤◌}
 use native.Mathlib.Omega.{arith}
@@ -7,7 +8,6 @@ use lib.Pow.{pow_mono}
 use lib.IntN.{ℤ, pos, negsuc, sub_ℕ}
 use mathlib.Core.List.{List, [], ◌∷◌, ◌++◌}
 use mathlib.Core.Bool.{Bool, true, false, cond}
-use mathlib.Core.Option.{none, some}
 use lib.ListN.{take, replicate}
 use lib.Dec.{ltb}
 use borrow.Author.Tests.{ltb-true}
@@ -58,11 +58,11 @@ value-word float n o s p h = bits-word o s p n h
 
 -- clocks
 
-pub clock-word : (c l v n : ℕ) → clock_after c l v ≡ some n → Word n
+pub clock-word : (c l v n : ℕ) → clock_after c l v ≡ Some n → Word n
 unfolding clock_after
 clock-word c l v n h = by (ltb (c + advance c l v) (2 ^ 64)) refl h
   where
-    by : (b : Bool) → ltb (c + advance c l v) (2 ^ 64) ≡ b → elim b [ true ↦ some (c + advance c l v) | false ↦ none ] ≡ some n → Word n
+    by : (b : Bool) → ltb (c + advance c l v) (2 ^ 64) ≡ b → elim b [ true ↦ Some (c + advance c l v) | false ↦ None ] ≡ Some n → Word n
     by true e h = let p : c + advance c l v ≡ n = cc in subst Word p (ltb-true _ _ e)
     by false e h = let z : ◌≡◌ {A = ℕ} 0 1 = cc in absurd (omega arith)
 

@@ -1,17 +1,16 @@
 -- A packet that goes through, as its entries show it: entry 1 comes first and nowhere else, its first entry 3 says how far it reaches,
 -- and no entry stands before its place.
+use Rattle.std.specs.Prelude.{Option, None, Some}
 use mathlib.Core.Path.{◌≡◌, refl, sym, ap, ◌∙◌, subst}
 use mathlib.Core.Logic.{inl, inr}
 use Prim.Native.Nat.{ℕ, zero, suc, ◌+◌, ◌-◌, ◌*◌, ◌%◌, ◌≤◌, ◌<◌}
 use native.Mathlib.Omega.{arith}
 use mathlib.Core.List.{List, [], ◌∷◌, ◌++◌}
 use mathlib.Core.Bool.{Bool, true, false}
-use mathlib.Core.Option.{Option, none, some}
 use lib.ListN.{length}
 use lib.Dec.{ltb, eqb}
 use borrow.Author.Tests.{ne_eqb}
 use Rattle.rules.specs.declared.BitPlace.{BitPlace}
-use Rattle.rules.specs.declared.Stated.{Stated}
 use Rattle.rules.specs.declared.Entry.{Entry}
 use Rattle.rules.specs.declared.Refusal.TheVariants.{EventClassUnknown, EventTookNoBits, ClockWentBack}
 use Rattle.rules.specs.Limits.{words_per_entry}
@@ -78,8 +77,8 @@ module _ (t : Asked) (c : StreamClass) (e : Env) where
 
   class-none : (i j : ℕ) (x : Option EventClass) → Each NoStart (with_event i j x (inside j))
   unfolding with_event
-  class-none i j none = each-refuse NoStart (EventClassUnknown i j)
-  class-none i j (some d) = mark-none event_class_found 0 j (λ q. omega arith) ⨾ⁿ root_none e (common_number c) c.common
+  class-none i j None = each-refuse NoStart (EventClassUnknown i j)
+  class-none i j (Some d) = mark-none event_class_found 0 j (λ q. omega arith) ⨾ⁿ root_none e (common_number c) c.common
       ⨾ⁿ root_none e first_root d.specific
       ⨾ⁿ root_none e (payload_number d) d.payload
 
@@ -124,7 +123,7 @@ unfolding total_in
 total-skip [] fs h = refl
 total-skip (x ∷ es) fs h = if-false (eqb x.kind lengths_settled) _ _ (ne_eqb x.kind lengths_settled h.0) ∙ total-skip es fs h.1
 
-module _ (t : Asked) (b : List ℕ) (p : BitPlace) (rest : ℕ) (i : Stated) (s : State) (es : List Entry) (u : State)
+module _ (t : Asked) (b : List ℕ) (p : BitPlace) (rest : ℕ) (i : Option ℕ) (s : State) (es : List Entry) (u : State)
     (r : Ran t b p rest i s es u) where
   abbrev found : Entry
   found = entry stream_class_found r.s₁.place 0 r.s₁.said.stream 0
@@ -170,7 +169,7 @@ rising-all (x ∷ es) p q h =
     let l : p ≤ x.place.0 = h.0 in
     (l, all_map (λ y k. let m : x.place.0 ≤ y.place.0 = k in omega arith) es (rising-all es x.place.0 q h.1))
 
-pub record Whole (t : Asked) (b : List ℕ) (k : ℕ) (i : Stated) (s : State) (es : List Entry) (u : State) : Type 0 where
+pub record Whole (t : Asked) (b : List ℕ) (k : ℕ) (i : Option ℕ) (s : State) (es : List Entry) (u : State) : Type 0 where
   pub others : List Entry
   pub list : es ≡ entry packet_starts s.place 0 k 0 ∷ others
   pub none : All (NotOf packet_starts) others
@@ -183,7 +182,7 @@ pub record Whole (t : Asked) (b : List ℕ) (k : ℕ) (i : Stated) (s : State) (
   pub ran : Ran t b s.place (8 * length b - s.place.0) i (less s) others u
 
 pub whole-packet : (t : Asked) → Fitting Positive (λ r. Any) Any t
-    → (b : List ℕ) (k : ℕ) (i : Stated) (s : State) (es : List Entry) (u : State)
+    → (b : List ℕ) (k : ℕ) (i : Option ℕ) (s : State) (es : List Entry) (u : State)
     → s.place.0 < 8 * length b → s.place.0 % 8 ≡ 0 → read_packet t b k i s ≡ go es u → Whole t b k i s es u
 whole-packet t w b k i s es u l z q = record {
   others = a.others;

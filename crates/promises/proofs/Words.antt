@@ -1,26 +1,20 @@
 -- Every word of an entry of a field is below 2 ^ 64, the clock's values among them.
+use Rattle.std.specs.Prelude.{Option, None, Some}
 use mathlib.Core.Path.{◌≡◌, refl}
 use Prim.Native.Nat.{ℕ, ◌+◌, ◌-◌, ◌*◌, ◌/◌, ◌^◌, ◌≤◌, ◌<◌}
 use native.Mathlib.Omega.{arith}
 use mathlib.Core.List.{List}
 use mathlib.Core.Bool.{Bool}
-use mathlib.Core.Option.{Option, none, some}
 use lib.ListN.{length, take, drop, length-take}
 use borrow.Author.Tests.{ltb-false}
 use Rattle.rules.specs.declared.BitPlace.{BitPlace}
 use Rattle.rules.specs.declared.ByteLength.{ByteLength}
 use Rattle.rules.specs.declared.Order.{Order}
-use Rattle.rules.specs.declared.LastOrder.{LastOrder}
-use Rattle.rules.specs.declared.LastOrder.TheVariants.{Was}
 use Rattle.rules.specs.declared.Content.{Content}
 use Rattle.rules.specs.declared.Content.TheVariants.{Unset, Unsigned, Signed}
-use Rattle.rules.specs.declared.Stated.{Stated}
-use Rattle.rules.specs.declared.Stated.TheVariants.{Missing, As}
 use Rattle.rules.specs.declared.Said.{Said}
 use Rattle.rules.specs.declared.Leb.{Leb}
 use Rattle.rules.specs.declared.Leb.TheVariants.{Value, Past, Large}
-use Rattle.rules.specs.declared.Ended.{Ended}
-use Rattle.rules.specs.declared.Ended.TheVariants.{After, Never}
 use Rattle.rules.specs.declared.Entry.{Entry}
 use Rattle.rules.specs.declared.Refusal.{Refusal}
 use Rattle.rules.specs.declared.Refusal.TheVariants.{PastBound, OrderChanged, NoZeroByte, SlotUnset, SlotOfWrongSort}
@@ -52,9 +46,9 @@ use Rattle.laws.proofs.Triple.{Ok, Triple, then, passing, changing, refusing, re
 use Rattle.promises.proofs.Small.{SmallRecord}
 use Rattle.promises.proofs.Values.{value-word, clock-word, WordSlots, slot-word, set_word, slot_of-word}
 
-abbrev pub StatedWord : Stated → Type 0
-StatedWord Missing = Unit {0}
-StatedWord (As v) = Word v
+abbrev pub StatedWord : Option ℕ → Type 0
+StatedWord None = Unit {0}
+StatedWord (Some v) = Word v
 
 pub record WordSaid (d : Said) : Type 0 where
   pub stream : Word d.stream
@@ -102,7 +96,7 @@ word-refuse r i = refusing WordEntry WordStop WordIds place_of r i
 pub word-due : {m : Step} → Worded m → Worded (due ⨾ m)
 word-due h = dued WordEntry WordStop WordIds place_of tt h
 
-word-order : (o : LastOrder) → Worded (change (with_order o))
+word-order : (o : Option Order) → Worded (change (with_order o))
 unfolding with_order
 word-order o = changing WordEntry WordStop WordIds _
     (λ s h. record { place = h.place; clock = h.clock; slots = h.slots; said = h.said })
@@ -117,10 +111,10 @@ unfolding say with_said
 word-say f g = changing WordEntry WordStop WordIds _
     (λ s h. record { place = h.place; clock = h.clock; slots = h.slots; said = g s.said h.said })
 
-word-new_clock : (l : ℕ) (o : Option ℕ) → Word l → ((c : ℕ) → o ≡ some c → Word c) → Worded (new_clock l o)
+word-new_clock : (l : ℕ) (o : Option ℕ) → Word l → ((c : ℕ) → o ≡ Some c → Word c) → Worded (new_clock l o)
 unfolding new_clock
-word-new_clock l none g h = word-refuse ClockTooLarge tt
-word-new_clock l (some c) g h = six ⨾ʷ advanced
+word-new_clock l None g h = word-refuse ClockTooLarge tt
+word-new_clock l (Some c) g h = six ⨾ʷ advanced
   where
     six : Worded (λ s. listed (entry clock_advanced s.place l c 0) s.place s)
     six = record {
@@ -227,7 +221,7 @@ module _ (e : Env) (g : Env64 e) where
             (let p : ℕ = (aligned e a s).0 in
             let v : ℕ = bits o e.bytes p n in
             let w : Word (value_of k n v) = value-word k n o e.bytes p h in
-            a-field m (kind_of k) a n (value_of k n v) (kind-le k) y w ⨾ʷ word-order (Was o)
+            a-field m (kind_of k) a n (value_of k n v) (kind-le k) y w ⨾ʷ word-order (Some o)
             ⨾ʷ word-store i (slot_of k n v) (slot_of-word k n o e.bytes p h)
             ⨾ʷ word-role r n (value_of k n v) (omega arith) w).at s x;
       }))))
@@ -247,11 +241,11 @@ module _ (e : Env) (g : Env64 e) where
       (a-field m k 8 (8 * n.0) v q z u ⨾ʷ word-store i (sl v) (f v u) ⨾ʷ word-role r (7 * n.0) v (omega (arith, y.most)) u).at s
       (h, ahead-fits e (aligned e 8 s) n.0 b y.inside)
 
-  word-zero : (m : ℕ) (x : Ended) (s : State) → m < table_limit → Wordy s → (aligned e 8 s).0 ≤ e.bound.0
-      → ((n : ByteLength) → x ≡ After n → n.0 < length (ahead e (aligned e 8 s))) → WordedOut (read_zero e m x s)
+  word-zero : (m : ℕ) (x : Option ByteLength) (s : State) → m < table_limit → Wordy s → (aligned e 8 s).0 ≤ e.bound.0
+      → ((n : ByteLength) → x ≡ Some n → n.0 < length (ahead e (aligned e 8 s))) → WordedOut (read_zero e m x s)
   unfolding read_zero ◌⨾◌
-  word-zero m Never s z h b p = (word-refuse NoZeroByte tt).at s h
-  word-zero m (After n) s z h b p =
+  word-zero m None s z h b p = (word-refuse NoZeroByte tt).at s h
+  word-zero m (Some n) s z h b p =
       let l : n.0 < length (ahead e (aligned e 8 s)) = p n refl in
       let f : (aligned e 8 s).0 + 8 * (n.0 + 1) ≤ e.bound.0 = ahead-fits e (aligned e 8 s) (n.0 + 1) b (omega arith) in
       let c : Word e.bound.0 = g.bound in

@@ -5,7 +5,7 @@ use Rattle.std.specs.Prelude.{◌≡◌, ℕ, suc, ◌+◌, ◌-◌, ◌*◌, �
 use Rattle.rules.specs.declared.Entry.{Entry}
 use Rattle.rules.specs.declared.Verdict.TheVariants.{Accepted}
 use Rattle.rules.specs.Place.{bit_place}
-use Rattle.rules.specs.declared.Result.{Result}
+use Rattle.rules.specs.declared.Report.{Report}
 use Rattle.rules.specs.Entry.{entry, words, packet_starts, lengths_settled}
 use Rattle.rules.specs.Verdict.{number_of}
 use Rattle.rules.specs.Read.{read_all}
@@ -104,7 +104,7 @@ pub record ApartFigures : Type 0 where
 -- The same of two calls, by one table: of a stream b, and of a stream b' that is b without the packet k of the first call's list, with
 -- lists of one length. The first was accepted, with two packets or more
 
-abbrev pub result_without : ℕ → List ℕ → List Entry → Result
+abbrev pub result_without : ℕ → List ℕ → List Entry → Report
 result_without k b es = record {
   number = 0;
   entries = length (list_without k es);

@@ -1,8 +1,10 @@
 -- The smallest bundle on a small table, as one statement: two stream classes, each with event classes 0 and 1. In order: what is kept; the
 -- answers; the buffer; the lists.
-use Rattle.std.specs.Prelude.{◌≡◌, ℕ, List, [], ◌∷◌, ◌++◌, replicate}
-use Rattle.rules.specs.declared.Bundled.{Bundled}
-use Rattle.rules.specs.declared.Bundled.TheVariants.{Written, TableRefused, TooManyStreams, ShortBuffer}
+use Rattle.rules.specs.Verdict.{table_fault}
+use Rattle.rules.specs.declared.NoBundle.TheVariants.{Table, TooManyStreams, ShortBuffer}
+use Rattle.rules.specs.declared.NoBundle.{NoBundle}
+use Rattle.rules.specs.declared.ByteLength.{ByteLength}
+use Rattle.std.specs.Prelude.{◌≡◌, ℕ, List, [], ◌∷◌, ◌++◌, replicate, Ok, Err, Result}
 use Rattle.rules.specs.Place.{byte_length}
 use Rattle.rules.specs.Entry.{words}
 use Rattle.rules.specs.Read.{read_all}
@@ -41,20 +43,20 @@ abbrev pub kept_for_both : List ℕ
 kept_for_both = always ++ stream_of 0 ++ stream_of 1 ++ event_class 0 1 ++ event_class 1 0
 
 -- the answer for the first stream, by the bytes of the buffer; what it leaves there, and in the lists, with rooms ms
-abbrev pub answered : ℕ → Bundled
+abbrev pub answered : ℕ → Result ByteLength NoBundle
 answered room = bundle_answer two_by_two stream01 (2 ∷ []) (50 ∷ []) lent room
 
-abbrev pub buffer_behind : Bundled → List ℕ → List ℕ
+abbrev pub buffer_behind : Result ByteLength NoBundle → List ℕ → List ℕ
 buffer_behind r old = buffer_after r (cut_of stream01 (2 ∷ []) (50 ∷ [])) old
 
-abbrev pub lists_behind : Bundled → List ℕ → List ℕ → List ℕ → List ℕ
+abbrev pub lists_behind : Result ByteLength NoBundle → List ℕ → List ℕ → List ℕ → List ℕ
 lists_behind r b ns ms = lists_after r (bundle_readings two_by_two b ns ms lent) ms lent
 
 abbrev pub words_for : List ℕ → List ℕ
 words_for b = words (read_all two_by_two b 50).entries
 
 -- "number, length, id"
-abbrev pub numbers_of : Bundled → List ℕ
+abbrev pub numbers_of : Result ByteLength NoBundle → List ℕ
 numbers_of r = bundled_number r ∷ bundled_length r ∷ bundled_first r ∷ []
 
 pub record BundleFigures : Type 0 where
@@ -70,25 +72,25 @@ pub record BundleFigures : Type 0 where
   pub no-list : cut_of (stream01 ++ stream10) (2 ∷ 2 ∷ []) (50 ∷ []) ≡ kept_for_one
   pub long : cut_of (stream01 ++ stream10) (2 ∷ 9 ∷ []) (50 ∷ 50 ∷ []) ≡ kept_for_both
   -- 45 with the bytes that are needed
-  pub fits : answered 79 ≡ Written (byte_length 79)
-  pub short : answered 78 ≡ ShortBuffer (byte_length 79)
+  pub fits : answered 79 ≡ Ok (byte_length 79)
+  pub short : answered 78 ≡ Err (ShortBuffer (byte_length 79))
   -- "up to sixteen streams"; 44 comes before 45, and 20 before 44
-  pub sixteen : bundle_answer preamble [] (replicate 16 0) [] [] 2 ≡ Written (byte_length 2)
-  pub seventeen : bundle_answer preamble [] (replicate 17 0) [] [] 0 ≡ TooManyStreams
-  pub bad-table : bundle_answer (0 ∷ []) [] (replicate 17 0) [] [] 0 ≡ TableRefused 2 (byte_length 0)
+  pub sixteen : bundle_answer preamble [] (replicate 16 0) [] [] 2 ≡ Ok (byte_length 2)
+  pub seventeen : bundle_answer preamble [] (replicate 17 0) [] [] 0 ≡ Err TooManyStreams
+  pub bad-table : bundle_answer (0 ∷ []) [] (replicate 17 0) [] [] 0 ≡ Err (Table (table_fault 2 (byte_length 0)))
   -- the answers in numbers
   pub number-0 : numbers_of (answered 79) ≡ 0 ∷ 79 ∷ 0 ∷ []
   pub number-45 : numbers_of (answered 78) ≡ 45 ∷ 79 ∷ 0 ∷ []
-  pub number-44 : numbers_of TooManyStreams ≡ 44 ∷ 0 ∷ 0 ∷ []
-  pub number-20 : numbers_of (TableRefused 2 (byte_length 7)) ≡ 20 ∷ 7 ∷ 2 ∷ []
+  pub number-44 : numbers_of (Err TooManyStreams) ≡ 44 ∷ 0 ∷ 0 ∷ []
+  pub number-20 : numbers_of (Err (Table (table_fault 2 (byte_length 7)))) ≡ 20 ∷ 7 ∷ 2 ∷ []
   -- "the buffer is then untouched"
   pub buffer : buffer_behind (answered 81) (replicate 81 7) ≡ kept_for_one ++ (7 ∷ 7 ∷ [])
   pub buffer-45 : buffer_behind (answered 78) (replicate 78 7) ≡ replicate 78 7
-  pub buffer-44 : buffer_behind TooManyStreams (replicate 81 7) ≡ replicate 81 7
-  pub buffer-20 : buffer_behind (TableRefused 2 (byte_length 7)) (replicate 81 7) ≡ replicate 81 7
+  pub buffer-44 : buffer_behind (Err TooManyStreams) (replicate 81 7) ≡ replicate 81 7
+  pub buffer-20 : buffer_behind (Err (Table (table_fault 2 (byte_length 7)))) (replicate 81 7) ≡ replicate 81 7
   -- each reading in its own list, of a short buffer too; behind its entries, in a list of no stream and behind the last list as it came
   pub lists : lists_behind (answered 79) (stream01 ++ stream10) (2 ∷ 2 ∷ []) (50 ∷ 52 ∷ [])
       ≡ words_for stream01 ++ words_for stream10 ++ replicate 20 9
   pub lists-45 : lists_behind (answered 78) stream01 (2 ∷ []) (55 ∷ 30 ∷ []) ≡ words_for stream01 ++ replicate 70 9
-  pub lists-44 : lists_behind TooManyStreams stream01 (2 ∷ []) (50 ∷ []) ≡ lent
-  pub lists-20 : lists_behind (TableRefused 2 (byte_length 7)) stream01 (2 ∷ []) (50 ∷ []) ≡ lent
+  pub lists-44 : lists_behind (Err TooManyStreams) stream01 (2 ∷ []) (50 ∷ []) ≡ lent
+  pub lists-20 : lists_behind (Err (Table (table_fault 2 (byte_length 7)))) stream01 (2 ∷ []) (50 ∷ []) ≡ lent

@@ -1,10 +1,9 @@
 -- Small tables and streams at the places where a builder goes wrong, as one statement: document 01's "Errors a builder falls into", and
 -- steps where two numbers lie close together. A table is written record by record.
-use Rattle.std.specs.Prelude.{◌≡◌, ℕ, List, [], ◌∷◌, ◌++◌, map, false, replicate}
-use Rattle.std.proofs.Math.Option.{none, some}
+use Rattle.std.specs.Prelude.{◌≡◌, ℕ, List, [], ◌∷◌, ◌++◌, map, false, replicate, None, Some}
 use Rattle.rules.specs.declared.Order.TheVariants.{Little}
 use Rattle.rules.specs.declared.Entry.{Entry}
-use Rattle.rules.specs.declared.Result.{Result}
+use Rattle.rules.specs.declared.Report.{Report}
 use Rattle.rules.specs.Class.{Class, no_role, unsigned_int, fixed, dynamic_blob as blob_of, structure as structure_of, no_member, member}
 use Rattle.rules.specs.Class.{static_array as static_of, dynamic_array as dynamic_of}
 use Rattle.rules.specs.Table.{Table, asked}
@@ -201,17 +200,17 @@ early array =
     let element : Class = structure_of 0 (member (blob_of 16) (member length no_member)) in
     record {
       uuid = [];
-      header = none;
-      streams = record { id = 0; timed = false; context = none; header = none; common = some (structure_of 0 (member length no_member)) } ∷ [];
-      events = record { stream = 0; id = 0; specific = none; payload = some (structure_of 0 (member (array element) no_member)) } ∷ [];
+      header = None;
+      streams = record { id = 0; timed = false; context = None; header = None; common = Some (structure_of 0 (member length no_member)) } ∷ [];
+      events = record { stream = 0; id = 0; specific = None; payload = Some (structure_of 0 (member (array element) no_member)) } ∷ [];
     }
 
 -- Answers
 
-abbrev pub answer : List ℕ → List ℕ → Result
+abbrev pub answer : List ℕ → List ℕ → Report
 answer table stream = result_of (read_all table stream 500)
 
-abbrev pub result : ℕ → ℕ → ℕ → ℕ → ℕ → Result
+abbrev pub result : ℕ → ℕ → ℕ → ℕ → ℕ → Report
 result n k p i j = record { number = n; entries = k; place = p; first = i; second = j }
 
 abbrev pub number : List ℕ → ℕ

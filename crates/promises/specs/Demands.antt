@@ -1,17 +1,14 @@
 -- The three demands, of calls of a reader. A call is what its caller sees: the result, and the words of the lent list before and after. In
 -- order: the entries that a list holds; a call; the contract of `read`; demands 1, 2 and 3; less room; all of it, gathered.
-use Rattle.std.specs.Prelude.{◌≡◌, ◌⊎◌, ℕ, zero, suc, ◌*◌, ◌/◌, ◌≤◌, List, [], ◌∷◌, ◌++◌, Bool, length, get_or, take, drop}
-use Rattle.std.proofs.Math.Option.{none, some}
+use Rattle.std.specs.Prelude.{◌≡◌, ◌⊎◌, ℕ, zero, suc, ◌*◌, ◌/◌, ◌≤◌, List, [], ◌∷◌, ◌++◌, Bool, length, get_or, take, drop, None, Some, Err}
 use Rattle.rules.specs.declared.Entry.{Entry}
-use Rattle.rules.specs.declared.Result.{Result}
+use Rattle.rules.specs.declared.Report.{Report}
 use Rattle.rules.specs.Limits.{words_per_entry}
-use Rattle.rules.specs.declared.Checked.TheVariants.{Refused}
 use Rattle.rules.specs.Place.{bit_place, byte_length}
 use Rattle.rules.specs.Parse.{checked}
 use Rattle.rules.specs.Entry.{entry}
-use Rattle.rules.specs.Verdict.{refusal_number, refusal_first, refusal_second}
+use Rattle.rules.specs.Verdict.{refusal_number, refusal_first, refusal_second, table_fault}
 use Rattle.rules.specs.Read.{read_all, result_of, list_after}
-use Rattle.clock.specs.declared.Ticked.TheVariants.{TooLarge}
 use Rattle.clock.specs.Ticked.{ticked_number}
 use Rattle.promises.specs.Clocks.{Ticking, NeedsMore}
 use Rattle.rules.specs.Edition.{leave}
@@ -24,11 +21,11 @@ entries_in (suc n) ws =
     entry (get_or ws 0 0) (bit_place (get_or ws 1 0)) (get_or ws 2 0) (get_or ws 3 0) (get_or ws 4 0) ∷ entries_in n (drop words_per_entry ws)
 
 pub record Call : Type 0 where
-  pub result : Result
+  pub result : Report
   pub before : List ℕ
   pub after : List ℕ
 
-abbrev pub call : Result → List ℕ → List ℕ → Call
+abbrev pub call : Report → List ℕ → List ℕ → Call
 call r ws ws' = record { result = r; before = ws; after = ws' }
 
 -- what it listed
@@ -52,8 +49,8 @@ pub record Contract (x b : List ℕ) (c : Call) : Type 0 where
 -- Demand 1: an answer for every table x, stream b and list
 
 -- "20: table refused; first id is its number, place its byte; 0 entries": as the check of the table answers
-pub record ByTable (x : List ℕ) (r : Result) : Type 0 where
-  pub check : checked x ≡ Refused r.first (byte_length r.place)
+pub record ByTable (x : List ℕ) (r : Report) : Type 0 where
+  pub check : checked x ≡ Err (table_fault r.first (byte_length r.place))
   pub number : (1 ≤ r.first) × (r.first ≤ 15)
   pub byte : r.place ≤ length x
   pub none : r.entries ≡ 0
@@ -85,12 +82,12 @@ pub record Demand2 (x b : List ℕ) (c : Call) : Type 0 where
   -- the first entry is a packet's: what stands before it does not count
   pub clocks : (p : Entry) → Ticking 0 p (listed_by c)
   -- "clock above 64 bits" (36)
-  pub too_large : c.result.number ≡ ticked_number TooLarge → NeedsMore (listed_by c) c.result.place
+  pub too_large : c.result.number ≡ ticked_number None → NeedsMore (listed_by c) c.result.place
 
 -- Demand 3: of one stream, a call by a table x and a call by what stays of it, with lists of one length
 
 -- refused at an entry of the list that is the finding of a class left out, behind the entries before it
-abbrev pub refused_at : Lost → Result
+abbrev pub refused_at : Lost → Report
 refused_at l = record {
   number = refusal_number l.refusal.why;
   entries = l.index;
@@ -103,10 +100,10 @@ pub record LeftOut (ks : ℕ → Bool) (ke : ℕ → ℕ → Bool) (short : List
   -- the rest is accepted
   pub accepted : Good short
   -- c lists the finding of a class left out, as its entry number k from 0: d lists the k entries before it, and is refused there
-  pub cut : (l : Lost) → missed ks ke (listed_by c) ≡ some l
+  pub cut : (l : Lost) → missed ks ke (listed_by c) ≡ Some l
       → (d.result ≡ refused_at l) × (d.after ≡ words_of l.index c ++ came_behind l.index d)
   -- c lists none: d has its result and lists what it lists
-  pub same : missed ks ke (listed_by c) ≡ none
+  pub same : missed ks ke (listed_by c) ≡ None
       → (d.result ≡ c.result) × (d.after ≡ words_of c.result.entries c ++ came_behind c.result.entries d)
 
 abbrev pub Demand3Calls : List ℕ → List ℕ → Call → Call → Type 0

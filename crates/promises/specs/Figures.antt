@@ -1,6 +1,5 @@
 -- The starred figures of document 01 ("Figures to check against"), as one statement. Its words are those of five-word entries (02, 7).
-use Rattle.std.specs.Prelude.{◌≡◌, ℕ, ◌^◌, ◌-◌, List, [], ◌∷◌, ◌++◌, ℤ, pos, neg_ℤ}
-use Rattle.std.proofs.Math.Option.{some}
+use Rattle.std.specs.Prelude.{◌≡◌, ℕ, ◌^◌, ◌-◌, List, [], ◌∷◌, ◌++◌, ℤ, pos, neg_ℤ, Some}
 use Rattle.rules.specs.declared.Order.TheVariants.{Little, Big}
 use Rattle.rules.specs.declared.Entry.{Entry}
 use Rattle.rules.specs.declared.Leb.TheVariants.{Value}
@@ -63,8 +62,8 @@ pub record Figures : Type 0 where
   pub leb-padded : leb_unsigned (0x80 ∷ 0x00 ∷ []) ≡ Value 0 (byte_length 2)
   pub leb-bits : leb_width (byte_length 2) ≡ 14
   -- "Clock 250, L 8, stamp 5: 261. Clock 261, stamp 5: 261."
-  pub clock-turned : clock_after 250 8 5 ≡ some 261
-  pub clock-same : clock_after 261 8 5 ≡ some 261
+  pub clock-turned : clock_after 250 8 5 ≡ Some 261
+  pub clock-same : clock_after 261 8 5 ≡ Some 261
   -- "Clock 5, L 64, stamp 4: 36. L 70 the same."
   pub clock-64 : (s : State) → new_clock 64 (clock_after 5 64 4) s ≡ refuse ClockTooLarge s
   pub clock-70 : (s : State) → new_clock 70 (clock_after 5 70 4) s ≡ refuse ClockTooLarge s

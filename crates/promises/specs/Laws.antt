@@ -1,10 +1,8 @@
 -- Laws of the rules that later work rests on, as one statement. In order: what holds of entries, of states within a packet, and of
 -- readings; then the laws.
-use Rattle.std.specs.Prelude.{◌≡◌, ◌⊎◌, ℕ, ◌+◌, ◌-◌, ◌*◌, ◌≤◌, ◌<◌, List, [], ◌∷◌, ◌++◌, length}
-use Rattle.std.proofs.Math.Option.{some}
+use Rattle.std.specs.Prelude.{◌≡◌, ◌⊎◌, ℕ, ◌+◌, ◌-◌, ◌*◌, ◌≤◌, ◌<◌, List, [], ◌∷◌, ◌++◌, length, Some, None}
 use Rattle.facts.specs.Bytes.{Bytes}
 use Rattle.rules.specs.declared.BitPlace.{BitPlace}
-use Rattle.rules.specs.declared.Stated.TheVariants.{Missing}
 use Rattle.rules.specs.declared.Entry.{Entry}
 use Rattle.rules.specs.Limits.{words_per_entry}
 use Rattle.rules.specs.Entry.{words}
@@ -57,7 +55,7 @@ pub record Laws (x : List ℕ) (t : Table) : Type 0 where
   -- the place never goes back: through the entries, and to the verdict
   pub rises : (b : List ℕ) (room : ℕ) → Rising (read_all x b room).entries 0 (place_of (read_all x b room).verdict)
   -- an event stays between the packet's start and the content's end
-  pub stays : (i : ℕ) (c : StreamClass) → (asked t).stream i ≡ some c → (e : Env) (n : ℕ) (s : State) → Inside e s → Within e (read_event (asked t) c e n s)
+  pub stays : (i : ℕ) (c : StreamClass) → (asked t).stream i ≡ Some c → (e : Env) (n : ℕ) (s : State) → Inside e s → Within e (read_event (asked t) c e n s)
   -- a reading that goes through ends at the stream's last bit
   pub ends : (b : List ℕ) (room : ℕ) → number_of (read_all x b room).verdict ≡ 0 → place_of (read_all x b room).verdict ≡ 8 * length b
   -- none ends behind it
@@ -71,7 +69,7 @@ pub record Laws (x : List ℕ) (t : Table) : Type 0 where
   pub event-rounds : (c : StreamClass) (e : Env) (to : BitPlace) (n : ℕ) (s : State) (more : ℕ)
       → read_events (asked t) c e to n (e.bound.0 - s.place.0 + more) s ≡ read_events (asked t) c e to n (e.bound.0 - s.place.0) s
   pub packet-rounds : (b : List ℕ) (room more : ℕ)
-      → read_packets (asked t) b 0 Missing (length b + more) (begin room) ≡ read_packets (asked t) b 0 Missing (length b) (begin room)
+      → read_packets (asked t) b 0 None (length b + more) (begin room) ≡ read_packets (asked t) b 0 None (length b) (begin room)
   -- where the table is of bytes, every word fits 64 bits: of each entry, of the verdict, and so of the list
   pub fits : Bytes x → (b : List ℕ) (room : ℕ) → WordReading (read_all x b room)
   pub list-fits : Bytes x → (b : List ℕ) (room : ℕ) → AllWords (words (read_all x b room).entries)

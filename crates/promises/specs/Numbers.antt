@@ -1,13 +1,12 @@
 -- The papers' numbers for answers: by them the rules refuse a LEB128 number, a string and a stamp, and by nothing else where they are 0;
 -- and a record of no kind. In order: what a number says of an outcome; when a field gets so far; the numbers.
-use Rattle.std.specs.Prelude.{◌≡◌, ◌↔◌, ℕ, ◌+◌, ◌-◌, ◌*◌, ◌%◌, ◌^◌, ◌≤◌, List, [], ◌∷◌, Bool, false}
+use Rattle.std.specs.Prelude.{◌≡◌, ◌↔◌, ℕ, ◌+◌, ◌-◌, ◌*◌, ◌%◌, ◌^◌, ◌≤◌, List, [], ◌∷◌, Bool, false, Some, None}
 use Rattle.rules.specs.declared.BitPlace.{BitPlace}
 use Rattle.rules.specs.declared.ByteLength.{ByteLength}
 use Rattle.rules.specs.declared.Content.TheVariants.{Unsigned}
 use Rattle.rules.specs.declared.Refusal.{Refusal}
 use Rattle.rules.specs.declared.Leb.{Leb}
 use Rattle.rules.specs.declared.Leb.TheVariants.{Value, Past, Large}
-use Rattle.rules.specs.declared.Ended.TheVariants.{After, Never}
 use Rattle.rules.specs.Limits.{words_per_entry, leb_limit, length_limit}
 use Rattle.rules.specs.Place.{further}
 use Rattle.rules.specs.Record.{u8, record_of}
@@ -21,11 +20,9 @@ use Rattle.rules.specs.Verdict.{stop_at, refusal_number}
 use Rattle.rules.specs.Step.{State, Out, stop, go}
 use Rattle.rules.specs.Field.{Env, aligned, ahead, bytes_at, role, read}
 use Rattle.leb128.specs.Answer.{leb_number}
-use Rattle.clock.specs.declared.Ticked.TheVariants.{TooLarge}
 use Rattle.clock.specs.Ticked.{ticked_of, ticked_number}
 use Rattle.clock.specs.Least.{Least}
 use Rattle.text.specs.Number.{text_number, ended_number}
-use Rattle.table_offsets.specs.declared.Body.TheVariants.{Unknown}
 use Rattle.table_offsets.specs.Bodies.{body_of, body_number}
 
 -- an entry is listed
@@ -66,9 +63,9 @@ pub record Numbers : Type 0 where
   -- the numbers themselves (Refusing a stream)
   pub leb-past : leb_number Past ≡ 22
   pub leb-large : leb_number Large ≡ 24
-  pub zero-never : (formed : Bool) → ended_number formed Never ≡ 25
-  pub no_text : (n : ByteLength) → ended_number false (After n) ≡ 41
-  pub clock-large : ticked_number TooLarge ≡ 36
+  pub zero-never : (formed : Bool) → ended_number formed None ≡ 25
+  pub no_text : (n : ByteLength) → ended_number false (Some n) ≡ 41
+  pub clock-large : ticked_number None ≡ 36
   -- a LEB128 number, kinds 21 and 22
   pub leb : (e : Env) (m i : ℕ) (r : Role) (s : State) → AtBytes e s
       → let x = leb_unsigned (ahead e (aligned e 8 s)) in
@@ -91,6 +88,6 @@ pub record Numbers : Type 0 where
   -- "refused if it needs more than 64": just where the least value, not below the clock, that ends in the stamp's bits does
   pub too_large : (c l v n : ℕ) → Least c l (v % 2 ^ l) n → (ticked_number (ticked_of (clock_after c l v)) ≡ 36) ↔ (2 ^ 64 ≤ n)
   -- a record whose kind has no body (Refusing a table), the first one and any other
-  pub kind-unknown : body_number Unknown ≡ 2
-  pub kind : (x : List ℕ) → body_of (u8 x 0) ≡ Unknown → (short : Bool)
-      → (first_fault short (record_of x) ≡ body_number Unknown) × ((q : Ids) (m : ℕ) → record_fault short q (record_of x) m ≡ body_number Unknown)
+  pub kind-unknown : body_number None ≡ 2
+  pub kind : (x : List ℕ) → body_of (u8 x 0) ≡ None → (short : Bool)
+      → (first_fault short (record_of x) ≡ body_number None) × ((q : Ids) (m : ℕ) → record_fault short q (record_of x) m ≡ body_number None)

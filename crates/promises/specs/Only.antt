@@ -1,10 +1,13 @@
 -- No slack: any two outcomes that a function's statement allows are the same. In order: what that means of a statement; the statements of
 -- the public functions, shape by shape. docs/NO-SLACK.md says which function has which shape.
-use Rattle.std.specs.Prelude.{◌≡◌, ℕ, ◌<◌, ◌≤◌, List}
-use Rattle.rules.specs.declared.Bundled.{Bundled}
+use Rattle.rules.specs.declared.NoBundle.{NoBundle}
+use Rattle.rules.specs.declared.ByteLength.{ByteLength}
+use Rattle.std.specs.Prelude.{◌≡◌, ℕ, ◌<◌, ◌≤◌, List, Result}
 use Rattle.rules.specs.Slots.{Slots}
 use Rattle.rules.specs.Step.{Step}
 use Rattle.clock.specs.declared.Clock.{Clock}
+use Rattle.table_offsets.specs.Walks.{Walk}
+use Rattle.table_offsets.specs.Faults.{fault_number, walk}
 use Rattle.listing.specs.declared.Progress.{Progress}
 use Rattle.listing.specs.Did.{RoleDid}
 use Rattle.field_read.specs.Reads.{FieldReads}
@@ -41,7 +44,7 @@ pub record NoSlack : Type 0 where
       → TwoStreams x b b' (call r.first ws wr) (call r.second vs vr)
       → TwoStreams x b b' (call r'.first ws wr') (call r'.second vs vr') → (r ≡ r') × (wr ≡ wr') × (vr ≡ vr')
   -- a bundle that is cut: the result, the lists and the buffer
-  pub cut-bundle : (x b ns ms ws out : List ℕ) (r r' : Bundled) (wr wr' or or' : List ℕ)
+  pub cut-bundle : (x b ns ms ws out : List ℕ) (r r' : Result ByteLength NoBundle) (wr wr' or or' : List ℕ)
       → CutOnce x b ns ms (cut r ws wr out or) → CutOnce x b ns ms (cut r' ws wr' out or') → (r ≡ r') × (wr ≡ wr') × (or ≡ or')
   -- a role, a field
   pub role : (m : Step) (st : Progress) (ws : List ℕ) → OnlyBoth (λ r ws'. RoleDid m st r ws ws')
@@ -51,3 +54,6 @@ pub record NoSlack : Type 0 where
   -- what is noted of a table, both lists
   pub notes : (t : List ℕ) (x : Notes) → Only (λ y. Made t x y)
   pub opening : (k : ℕ) → Only (λ r. OpeningOf k r)
+  -- a test of a table and a walk over it, by their numbers
+  pub fault : (n : ℕ) → Only (λ r. fault_number r ≡ n)
+  pub walked : (w : Walk) → Only (λ r. walk r ≡ w)

@@ -1,9 +1,10 @@
 -- What is promised of parts of the reader. In order: bits of a stream; LEB128 numbers; the check of the class table by offsets, which is
 -- the rules' own; and what a reading asks of an accepted table, all of which can be had from its bytes.
-use Rattle.std.specs.Prelude.{◌≡◌, ◌⊎◌, ℕ, ◌+◌, ◌*◌, ◌≤◌, List, length, take, drop}
+use Rattle.rules.specs.declared.TableFault.{TableFault}
+use Rattle.rules.specs.declared.ByteLength.{ByteLength}
+use Rattle.std.specs.Prelude.{◌≡◌, ◌⊎◌, ℕ, ◌+◌, ◌*◌, ◌≤◌, List, length, take, drop, Result}
 use Rattle.facts.specs.Bytes.{Bytes}
 use Rattle.rules.specs.declared.Order.{Order}
-use Rattle.rules.specs.declared.Checked.{Checked}
 use Rattle.rules.specs.Limits.{table_limit}
 use Rattle.rules.specs.Bits.{bits}
 use Rattle.rules.specs.Leb128.{leb_unsigned, leb_signed}
@@ -31,7 +32,7 @@ pub record CheckTied : Type 0 where
   -- and the rules' answer is this one or the walk's, whichever is earlier
   pub first : (t : List ℕ) → Bytes t → checked t ≡ earlier (length t) (checked_at t) (fault_byte t (walk t))
   -- and no other
-  pub once : (t : List ℕ) (r s : Checked) → r ≡ checked t → s ≡ checked t → r ≡ s
+  pub once : (t : List ℕ) (r s : Result ByteLength TableFault) → r ≡ checked t → s ≡ checked t → r ≡ s
 
 -- of a table t that is accepted as T
 pub record Accepts (t : List ℕ) (T : Table) : Type 0 where

@@ -1,9 +1,8 @@
 -- Readers that would be no good, and that the statements do not admit. In order: readers; five that fail the contract; two that make up a
 -- count, of entries or of events; a lookup that fails demand 3.
-use Rattle.std.specs.Prelude.{◌≡◌, ◌⊎◌, ℕ, zero, suc, ◌+◌, ◌*◌, ◌<◌, ◌≤◌, List, [], ◌∷◌, Bool, true, false, ◌&&◌, length, get_or, eqb, leb}
-use Rattle.std.proofs.Math.Option.{Option, none, some}
+use Rattle.std.specs.Prelude.{◌≡◌, ◌⊎◌, ℕ, zero, suc, ◌+◌, ◌*◌, ◌<◌, ◌≤◌, List, [], ◌∷◌, Bool, true, false, ◌&&◌, length, get_or, eqb, leb, Option, None, Some}
 use Rattle.rules.specs.declared.Entry.{Entry}
-use Rattle.rules.specs.declared.Result.{Result}
+use Rattle.rules.specs.declared.Report.{Report}
 use Rattle.rules.specs.Limits.{words_per_entry}
 use Rattle.rules.specs.Entry.{packet_starts, event_starts, packet_ends}
 use Rattle.rules.specs.Table.{Table, EventClass, Asked, asked, find_stream}
@@ -16,7 +15,7 @@ use Rattle.promises.specs.Demands.{call, listed_by, Contract}
 
 -- a table, a stream and a list give a result and the list afterwards
 abbrev pub Reader : Type 0
-Reader = List ℕ → List ℕ → List ℕ → Result × List ℕ
+Reader = List ℕ → List ℕ → List ℕ → Report × List ℕ
 
 abbrev pub Meets : Reader → Type 0
 Meets f = (x b ws : List ℕ) → Contract x b (call (f x b ws).0 ws (f x b ws).1)
@@ -87,8 +86,8 @@ Demand3By ask = (ks : ℕ → Bool) (ke : ℕ → ℕ → Bool) (x : List ℕ) (
 
 -- "Taking the nearest event class when the id isn't there."
 unfoldable pub nearest_event : List EventClass → ℕ → ℕ → Option EventClass
-nearest_event [] i j = none
-nearest_event (c ∷ cs) i j = elim (eqb c.stream i && leb j c.id) [ true ↦ some c | false ↦ nearest_event cs i j ]
+nearest_event [] i j = None
+nearest_event (c ∷ cs) i j = elim (eqb c.stream i && leb j c.id) [ true ↦ Some c | false ↦ nearest_event cs i j ]
 
 unfoldable pub nearest : Table → Asked
 nearest t = record { uuid = t.uuid; header = t.header; stream = find_stream t.streams; event = nearest_event t.events }

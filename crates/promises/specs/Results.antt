@@ -1,24 +1,20 @@
 -- What public functions answer by an equation: the types of their results, each once. A statement over all types would not be a fact that a
 -- contract can hold; these are all that there are (tools/pub-functions holds them to the sources).
-use Rattle.std.specs.Prelude.{ℕ, List, Bool}
+use Rattle.std.specs.Prelude.{ℕ, List, Bool, Option, Result}
 use Rattle.rules.specs.declared.BitPlace.{BitPlace}
 use Rattle.rules.specs.declared.ByteLength.{ByteLength}
 use Rattle.rules.specs.declared.Leb.{Leb}
 use Rattle.rules.specs.declared.Said.{Said}
 use Rattle.rules.specs.declared.Content.{Content}
-use Rattle.rules.specs.declared.Checked.{Checked}
-use Rattle.rules.specs.declared.Result.{Result}
-use Rattle.rules.specs.declared.Bundled.{Bundled}
-use Rattle.clock.specs.declared.Ticked.{Ticked}
+use Rattle.rules.specs.declared.Refusal.{Refusal}
+use Rattle.rules.specs.declared.Report.{Report}
+use Rattle.rules.specs.declared.TableFault.{TableFault}
+use Rattle.rules.specs.declared.NoBundle.{NoBundle}
+use Rattle.clock.specs.declared.Clock.{Clock}
 use Rattle.text.specs.declared.Text.{Text}
-use Rattle.slots.specs.declared.Length.{Length}
-use Rattle.slots.specs.declared.Number.{Number}
 use Rattle.listing.specs.declared.Progress.{Progress}
 use Rattle.listing.specs.declared.role.Advanced.{Advanced}
-use Rattle.table_offsets.specs.declared.Body.{Body}
-use Rattle.table_offsets.specs.declared.Walk.{Walk}
 use Rattle.table_offsets.specs.declared.Says.{Says}
-use Rattle.class_layout.specs.declared.TablePlace.{TablePlace}
 use Rattle.frame.specs.declared.Frame.{Frame}
 use Rattle.leaf_find_number.specs.declared.Found.{Found}
 use Rattle.leaf_after.specs.declared.Seen.{Seen}
@@ -34,8 +30,8 @@ use Rattle.event_turns.specs.declared.Turn.{Turn}
 pub data Answer : Type 0 where
   number test list : Answer
   bit_place byte_length leb text content said checked result bundled : Answer
-  ticked length slot_number state advanced : Answer
-  body walk says table_place : Answer
+  clock slot_number state advanced : Answer
+  place says : Answer
   frame found seen leaves choice inside opened entered run ran turn : Answer
 
 unfoldable pub Of : Answer → Type 0
@@ -48,18 +44,15 @@ Of leb = Leb
 Of text = Text
 Of content = Content
 Of said = Said
-Of checked = Checked
-Of result = Result
-Of bundled = Bundled
-Of ticked = Ticked
-Of length = Length
-Of slot_number = Number
+Of checked = Result ByteLength TableFault
+Of result = Report
+Of bundled = Result ByteLength NoBundle
+Of clock = Option Clock
+Of slot_number = Result ℕ Refusal
 Of state = Progress
 Of advanced = Advanced
-Of body = Body
-Of walk = Walk
+Of place = Option ℕ
 Of says = Says
-Of table_place = TablePlace
 Of frame = Frame
 Of found = Found
 Of seen = Seen

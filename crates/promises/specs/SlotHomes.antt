@@ -1,8 +1,7 @@
 -- "A table in which a slot is set both inside an array element and outside it, within one packet's or one event's roots, is refused as
 -- 11." (02, 3) So in an accepted table all classes that set one slot, within one packet's or one event's roots, have one home: the innermost
 -- array whose element they stand in, or none. Said of the trees that the rules' parse gives, and not of the walk that finds the fault.
-use Rattle.std.specs.Prelude.{◌≡◌, ◌⊎◌, ℕ, ◌+◌, List, [], ◌∷◌, ◌++◌}
-use Rattle.std.proofs.Math.Option.{Option, none, some}
+use Rattle.std.specs.Prelude.{◌≡◌, ◌⊎◌, ℕ, ◌+◌, List, [], ◌∷◌, ◌++◌, Option, None, Some}
 use Rattle.rules.specs.Class.{Class, fixed, leb128, signed_leb128, string, static_string, static_blob, dynamic_string, dynamic_blob, structure}
 use Rattle.rules.specs.Class.{static_array, dynamic_array, flagged, optional, variant, Classes, no_member, member, Options, no_option, option}
 use Rattle.rules.specs.Class.{plain, setting, sets}
@@ -41,8 +40,8 @@ unfoldable mutual
   settings (dynamic_string i) h p = []
   settings (dynamic_blob i) h p = []
   settings (structure a cs) h p = member_settings cs h p 0
-  settings (static_array n a c) h p = settings c (some p) (0 ∷ p)
-  settings (dynamic_array i a c) h p = settings c (some p) (0 ∷ p)
+  settings (static_array n a c) h p = settings c (Some p) (0 ∷ p)
+  settings (dynamic_array i a c) h p = settings c (Some p) (0 ∷ p)
   settings (flagged i c) h p = settings c h (0 ∷ p)
   settings (optional i g rs c) h p = settings c h (0 ∷ p)
   settings (variant i g os) h p = option_settings os h p 0
@@ -57,8 +56,8 @@ unfoldable mutual
 
 -- of roots, each there or not, the first of which has this number
 unfoldable pub of_root : ℕ → Option Class → List Setting
-of_root n none = []
-of_root n (some c) = settings c none (n ∷ [])
+of_root n None = []
+of_root n (Some c) = settings c None (n ∷ [])
 
 unfoldable pub of_roots : ℕ → List (Option Class) → List Setting
 of_roots n [] = []
@@ -98,7 +97,7 @@ abbrev two : Class → Class → Class
 two c d = structure 0 (member c (member d no_member))
 
 abbrev One : Class → Type 0
-One c = OneHome (settings c none (0 ∷ []))
+One c = OneHome (settings c None (0 ∷ []))
 
 unfoldable pub slots_in : List Setting → List ℕ
 slots_in [] = []
@@ -112,7 +111,7 @@ pub record SlotHomes : Type 0 where
   pub in-and-out : One (two (array leaf) leaf) → ⊥
   pub out-and-in : One (two leaf (array leaf)) → ⊥
   pub two-arrays : One (two (array leaf) (array leaf)) → ⊥
-  pub two-roots : OneHome (of_roots 2 (some (array leaf) ∷ some (array leaf) ∷ [])) → ⊥
+  pub two-roots : OneHome (of_roots 2 (Some (array leaf) ∷ Some (array leaf) ∷ [])) → ⊥
   pub inner-and-outer : One (array (two leaf (array leaf))) → ⊥
   -- twice in one element; outside all, also in an option or an optional
   pub one-element : One (array (two leaf leaf))

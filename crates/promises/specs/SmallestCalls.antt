@@ -1,12 +1,12 @@
 -- The smallest bundle, of calls. In order: calls of `read`, one a stream, and the smallest table by them; a call of `bundle`; what it
 -- answers.
-use Rattle.std.specs.Prelude.{◌≡◌, ℕ, ◌<◌, ◌≤◌, Bool, true, length, drop}
+use Rattle.rules.specs.Verdict.{table_fault}
+use Rattle.rules.specs.declared.NoBundle.{NoBundle}
+use Rattle.std.specs.Prelude.{◌≡◌, ℕ, ◌<◌, ◌≤◌, Bool, true, length, drop, Err, Result}
 use mathlib.Core.List.{List, [], ◌∷◌, ◌++◌, map, head_d, tail}
 use Rattle.rules.specs.declared.ByteLength.{ByteLength}
 use Rattle.rules.specs.declared.Entry.{Entry}
-use Rattle.rules.specs.declared.Result.{Result}
-use Rattle.rules.specs.declared.Checked.TheVariants.{Refused}
-use Rattle.rules.specs.declared.Bundled.{Bundled}
+use Rattle.rules.specs.declared.Report.{Report}
 use Rattle.rules.specs.Parse.{checked}
 use Rattle.rules.specs.Edition.{leave}
 use Rattle.rules.specs.Lists.{parts}
@@ -27,7 +27,7 @@ Reads x (b ∷ bs) ls (c ∷ cs) = Contract x b c × (c.before ≡ head_d ls [])
 abbrev pub lists_of : List Call → List (List Entry)
 lists_of cs = map (λ (c : Call). listed_by c) cs
 
-abbrev pub results_of : List Call → List Result
+abbrev pub results_of : List Call → List Report
 results_of cs = map (λ (c : Call). c.result) cs
 
 -- the words of their lists, one behind another
@@ -54,13 +54,13 @@ pub record SmallestCalled (x y : List ℕ) (bs ls : List (List ℕ)) (cs : List 
 -- A call of `bundle`: the result, the words of the lent lists before and after, the bytes of the buffer before and after
 
 pub record Cut : Type 0 where
-  pub result : Bundled
+  pub result : Result ByteLength NoBundle
   pub before : List ℕ
   pub after : List ℕ
   pub buffer : List ℕ
   pub written : List ℕ
 
-abbrev pub cut : Bundled → List ℕ → List ℕ → List ℕ → List ℕ → Cut
+abbrev pub cut : Result ByteLength NoBundle → List ℕ → List ℕ → List ℕ → List ℕ → Cut
 cut r ws ws' out out' = record { result = r; before = ws; after = ws'; buffer = out; written = out' }
 
 -- its contract, for a table x, streams that stand in b with lengths ns, and rooms ms: the result, every word of the lists and every byte
@@ -91,7 +91,7 @@ pub record Cuts (x : List ℕ) (bs ls : List (List ℕ)) (cs : List Call) (c : C
 -- "A refused table (20), over sixteen streams and a short output buffer (new numbers) are refused in that order; the buffer is then
 -- untouched." The numbers stand here by themselves, so that the rules are held to them
 pub record Answers (x b ns ms : List ℕ) (cs : List Call) (c : Cut) : Type 0 where
-  pub table-refused : (n : ℕ) (p : ByteLength) → checked x ≡ Refused n p → Refuses 20 p.0 n c
+  pub table-refused : (n : ℕ) (p : ByteLength) → checked x ≡ Err (table_fault n p) → Refuses 20 p.0 n c
   pub over-sixteen : Good x → 16 < length ns → Refuses 44 0 0 c
   pub cuts : Good x → length ns ≤ 16 → Cuts x (parts ns b) (parts ms c.before) cs c
 

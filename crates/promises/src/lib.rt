@@ -1,11 +1,11 @@
 // What is promised, and proved: the statements stand in specs/, their proofs in proofs/.
 #![tactic(auto)]
 
-use rules::Result;
+use rules::Report;
 
 // What two readings answer.
 #[derive(Clone, Copy)]
 pub struct Both {
-    pub first: Result,
-    pub second: Result,
+    pub first: Report,
+    pub second: Report,
 }

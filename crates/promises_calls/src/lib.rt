@@ -10,10 +10,10 @@ ghost use Rattle.promises.specs.SmallestCalls.{cut, CutOnce};
 use bundle::bundle;
 use promises::Both;
 use reader::read;
-use rules::{Bundled, Result};
+use rules::{ByteLength, NoBundle, Report};
 
 // Reads a stream by a table. Demands 1 and 2, and whatever else is promised.
-pub fn read_once(table: &[u8], stream: &[u8], list: &mut [u64]) -> Result
+pub fn read_once(table: &[u8], stream: &[u8], list: &mut [u64]) -> Report
     ensures one_call { OneCall table.now stream.now (call result list.old list.new) }
     ensures promises { Promises }
 {
@@ -66,7 +66,7 @@ pub fn cut_once(
     rooms: &[u64],
     list: &mut [u64],
     out: &mut [u8],
-) -> Bundled
+) -> Result<ByteLength, NoBundle>
     ensures { CutOnce table.now streams.now lengths.now rooms.now
         (cut result list.old list.new out.old out.new) }
 {

@@ -2,8 +2,7 @@
 // the packets.
 #![tactic(auto)]
 
-ghost use Rattle.std.specs.Prelude.{◌≡◌, ◌≤◌, length, replicate};
-ghost use Rattle.rules.specs.declared.Checked.TheVariants.{Accepted};
+ghost use Rattle.std.specs.Prelude.{◌≡◌, ◌≤◌, length};
 ghost use Rattle.rules.specs.declared.Refusal.TheVariants.{StreamSize};
 ghost use Rattle.rules.specs.Limits.{stream_limit};
 ghost use Rattle.rules.specs.Place.{byte_length, bit_place};
@@ -19,35 +18,34 @@ ghost use Rattle.reader_result.specs.Answer.{refused_with};
 ghost use Rattle.reader.specs.Answers.{Answers};
 
 use check_table::check;
-use class_layout::TablePlace;
 use class_lookup::{PLACES, find_trace_class, make_index};
 use class_notes::prepare;
 use class_roots::{root_place, uuid_place};
 use numbers::{faults, limits};
 use packet_read::read_packets;
 use reader_result::{answer, refused};
-use rules::{BitPlace, Checked, Refusal, Result, Stop};
+use rules::{BitPlace, Refusal, Report, Stop};
 
 // Reads a stream by a table: lists its entries, and answers how it went. For every table, stream and list the rules' own answer.
-pub fn read(table: &[u8], stream: &[u8], list: &mut [u64]) -> Result
+pub fn read(table: &[u8], stream: &[u8], list: &mut [u64]) -> Report
     ensures { (result ≡ result_of (read_all table.now stream.now (length list.old)))
         × (list.new ≡ list_after (read_all table.now stream.now (length list.old)) list.old) }
 {
     match check(table) {
-        Checked::Refused(number, byte) => Result {
+        Err(fault) => Report {
             number: faults::TABLE_REFUSED,
             entries: 0,
-            place: byte.0 as u64,
-            first: number as u64,
+            place: fault.byte.0 as u64,
+            first: fault.number as u64,
             second: 0,
         },
-        Checked::Accepted(length) => read_stream(table, stream, list),
+        Ok(_) => read_stream(table, stream, list),
     }
 }
 
 // By an accepted table: 21, and then the packets.
-fn read_stream(table: &[u8], stream: &[u8], list: &mut [u64]) -> Result
-    requires { checked table.now ≡ Accepted (byte_length (length table.now)) }
+fn read_stream(table: &[u8], stream: &[u8], list: &mut [u64]) -> Report
+    requires { checked table.now ≡ Ok (byte_length (length table.now)) }
     ensures { Answers (read_stream (asked_at table.now) stream.now (length list.old)) result list.old list.new }
 {
     if stream.len() == 0 {
@@ -57,10 +55,10 @@ fn read_stream(table: &[u8], stream: &[u8], list: &mut [u64]) -> Result
     if too_long {
         return bad_size();
     }
-    let mut sizes = no_sizes();
-    let mut aligns = no_aligns();
+    let mut sizes = [0; limits::TABLE_LIMIT];
+    let mut aligns = [0; limits::TABLE_LIMIT];
     prepare(table, &mut sizes, &mut aligns);
-    let mut index = empty_index();
+    let mut index = [0; PLACES];
     make_index(table, &sizes, &mut index);
     read_prepared(table, &sizes, &aligns, &index, stream, list)
 }
@@ -73,27 +71,27 @@ fn read_prepared(
     index: &[u32],
     stream: &[u8],
     list: &mut [u64],
-) -> Result
+) -> Report
     requires ready { Ready table.now (notes sizes.now aligns.now) }
     requires in_bounds { (1 ≤ length stream.now) × (length stream.now ≤ stream_limit) }
     requires hints { Hints table.now index.now }
     ensures { Answers (read_stream (asked_at table.now) stream.now (length list.old)) result list.old list.new }
 {
     match find_trace_class(table, sizes) {
-        TablePlace::Nothing => read_by(
+        None => read_by(
             table,
             sizes,
             aligns,
             index,
             &table[0..0],
-            TablePlace::Nothing,
+            None,
             stream,
             list,
         ),
-        TablePlace::At(trace) => {
+        Some(trace) => {
             let header = root_place(table, sizes, trace, 0);
             match uuid_place(table, trace) {
-                TablePlace::Nothing => {
+                None => {
                     read_by(
                         table,
                         sizes,
@@ -105,7 +103,7 @@ fn read_prepared(
                         list,
                     )
                 }
-                TablePlace::At(at) => read_by(
+                Some(at) => read_by(
                     table,
                     sizes,
                     aligns,
@@ -127,10 +125,10 @@ fn read_by(
     aligns: &[u32],
     index: &[u32],
     uuid: &[u8],
-    header: TablePlace,
+    header: Option<usize>,
     stream: &[u8],
     list: &mut [u64],
-) -> Result
+) -> Report
     requires lent { Lent table.now (notes sizes.now aligns.now) uuid.now header stream.now }
     requires in_bounds { 1 ≤ length stream.now }
     requires hints { Hints table.now index.now }
@@ -139,27 +137,7 @@ fn read_by(
     answer(read_packets(table, sizes, aligns, index, uuid, header, stream, list))
 }
 
-// Room for the notes of the longest table.
-fn no_sizes() -> [u16; 65536]
-    ensures { 65536 ≡ length result }
-{
-    [0; 65536]
-}
-
-fn no_aligns() -> [u32; 65536]
-    ensures { 65536 ≡ length result }
-{
-    [0; 65536]
-}
-
-// "every place empty at first" (request 10)
-fn empty_index() -> [u32; PLACES]
-    ensures { result ≡ replicate 4096 0 }
-{
-    [0; PLACES]
-}
-
-fn bad_size() -> Result
+fn bad_size() -> Report
     ensures { result ≡ refused_with (stop_at StreamSize (bit_place 0)) 0 }
 {
     let place = BitPlace(0);

@@ -4,36 +4,32 @@
 ghost use Rattle.std.specs.Prelude.{◌≡◌};
 ghost use Rattle.reader_result.specs.Answer.{answer_of, refused_with, result_with};
 
-use listing::Went;
 use numbers::limits::WORDS_PER_ENTRY;
 use outcome::Ran;
-use rules::{BitPlace, Refusal, Result, Stop};
+use rules::{BitPlace, Refusal, Report, Stop};
 
 // The answer of what was read, with the words that it listed.
-pub fn answer(ran: Ran) -> Result
+pub fn answer(ran: Ran) -> Report
     ensures { result ≡ answer_of ran.went ran.used ran.state }
 {
-    let went = ran.went;
-    let used = ran.used;
-    match went {
-        Went::On => Result {
+    match ran.went {
+        Ok(()) => Report {
             number: 0,
-            entries: used / WORDS_PER_ENTRY,
+            entries: ran.used / WORDS_PER_ENTRY,
             place: ran.state.place.0,
             first: 0,
             second: 0,
         },
-        Went::Stopped(stop) => refused(stop, used / WORDS_PER_ENTRY),
+        Err(stop) => refused(stop, ran.used / WORDS_PER_ENTRY),
     }
 }
 
 // The answer of a refusal behind so many entries, in the paper's numbers.
-pub fn refused(stop: Stop, entries: usize) -> Result
+pub fn refused(stop: Stop, entries: usize) -> Report
     ensures { result ≡ refused_with stop entries }
 {
-    let why = stop.why;
     let place = stop.place;
-    match why {
+    match stop.why {
         Refusal::StreamSize => with(21, entries, place, 0, 0),
         Refusal::PastBound => with(22, entries, place, 0, 0),
         Refusal::OrderChanged => with(23, entries, place, 0, 0),
@@ -58,10 +54,10 @@ pub fn refused(stop: Stop, entries: usize) -> Result
     }
 }
 
-fn with(number: u8, entries: usize, place: BitPlace, first: u64, second: u64) -> Result
+fn with(number: u8, entries: usize, place: BitPlace, first: u64, second: u64) -> Report
     ensures { result ≡ result_with number entries place first second }
 {
-    Result {
+    Report {
         number,
         entries,
         place: place.0,

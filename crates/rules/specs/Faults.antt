@@ -1,8 +1,7 @@
 -- The fifteen numbers that refuse a table, and the tests that give them: of one record, with those before it. A test that finds nothing
 -- gives 0. Where the record stands and what comes of it is in Parse.
 -- "Then the first record with a fault decides, by its first byte, and there the lowest number". (Refusing a table)
-use Rattle.std.specs.Prelude.{ℕ, zero, suc, ◌+◌, ◌-◌, List, [], ◌∷◌, Bool, true, false, not, ◌&&◌, ◌||◌, length, get_or, ltb, leb, eqb}
-use Rattle.std.proofs.Math.Option.{Option, none, some}
+use Rattle.std.specs.Prelude.{ℕ, zero, suc, ◌+◌, ◌-◌, List, [], ◌∷◌, Bool, true, false, not, ◌&&◌, ◌||◌, length, get_or, ltb, leb, eqb, Option, None, Some}
 use Rattle.rules.specs.Limits.{fragment_limit, slot_count, packet_slot_count, no_slot, no_clock}
 use Rattle.rules.specs.Class.{Role, no_role, magic, stream_class_id, stream_id, uuid, total_length, content_length, clock, end_clock, discarded, sequence, event_class_id}
 use Rattle.rules.specs.Class.{Sign, plain, signed, Range, key}
@@ -223,11 +222,11 @@ sign_of zero = plain
 sign_of (suc g) = signed
 
 unfoldable pub other_sign : Sign → Option Sign → Bool
-other_sign g none = false
-other_sign plain (some plain) = false
-other_sign plain (some signed) = true
-other_sign signed (some plain) = true
-other_sign signed (some signed) = false
+other_sign g None = false
+other_sign plain (Some plain) = false
+other_sign plain (Some signed) = true
+other_sign signed (Some plain) = true
+other_sign signed (Some signed) = false
 
 unfoldable pub meets : Sign → ℕ → ℕ → List Range → Bool
 meets g l h [] = false

@@ -1,20 +1,15 @@
 -- Reading a field. "Order within a field: room, slot checks 26, 27, 28, alignment, 23, then its bits or bytes; 29 after the slot checks."
 -- "Afterwards, in order: entry, slot, role." (Reading)
-use Rattle.std.specs.Prelude.{ℕ, zero, suc, ◌+◌, ◌-◌, ◌*◌, ◌/◌, ◌%◌, ◌^◌, List, [], ◌∷◌, Bool, true, false, not, ◌&&◌, length, take, drop, ltb, eqb}
-use Rattle.std.proofs.Math.Option.{Option, none, some}
+use Rattle.rules.specs.declared.ByteLength.{ByteLength}
+use Rattle.std.specs.Prelude.{ℕ, zero, suc, ◌+◌, ◌-◌, ◌*◌, ◌/◌, ◌%◌, ◌^◌, List, [], ◌∷◌, Bool, true, false, not, ◌&&◌, length, take, drop, ltb, eqb, Option, None, Some}
 use Rattle.rules.specs.declared.BitPlace.{BitPlace}
 use Rattle.rules.specs.declared.Order.{Order}
 use Rattle.rules.specs.declared.Order.TheVariants.{Little, Big}
-use Rattle.rules.specs.declared.LastOrder.{LastOrder}
-use Rattle.rules.specs.declared.LastOrder.TheVariants.{Nothing, Was}
 use Rattle.rules.specs.declared.Content.{Content}
 use Rattle.rules.specs.declared.Content.TheVariants.{Unset, Flag, Unsigned, Signed}
-use Rattle.rules.specs.declared.Stated.TheVariants.{As}
 use Rattle.rules.specs.declared.Said.{Said}
 use Rattle.rules.specs.declared.Leb.{Leb}
 use Rattle.rules.specs.declared.Leb.TheVariants.{Value, Past, Large}
-use Rattle.rules.specs.declared.Ended.{Ended}
-use Rattle.rules.specs.declared.Ended.TheVariants.{After, Never}
 use Rattle.rules.specs.declared.Refusal.TheVariants.{PastBound, OrderChanged, LebTooLarge, NoZeroByte, SlotUnset, SlotOfWrongSort}
 use Rattle.rules.specs.declared.Refusal.TheVariants.{LengthTooLarge, SelectorInNoOption, WrongMagic, WrongUuid, ClockTooLarge, NotText}
 use Rattle.rules.specs.Limits.{length_limit, leb_limit, magic_number}
@@ -71,8 +66,8 @@ store i x = change (λ s. with_slots (set_slot s.slots i x) s)
 
 -- "entry 6 shows it": "place after the field, L, clock"; "clock above 64 bits" (36)
 unfoldable pub new_clock : ℕ → Option ℕ → Step
-new_clock l none = refuse ClockTooLarge
-new_clock l (some c) = (λ s. listed (entry clock_advanced s.place l c 0) s.place s) ⨾ change (with_clock c)
+new_clock l None = refuse ClockTooLarge
+new_clock l (Some c) = (λ s. listed (entry clock_advanced s.place l c 0) s.place s) ⨾ change (with_clock c)
 
 unfoldable pub say : (Said → Said) → Step
 say f = change (λ s. with_said (f s.said) s)
@@ -84,10 +79,10 @@ role magic l v = check (λ s. not (eqb v magic_number)) WrongMagic
 role stream_class_id l v = say (λ d. record { stream = v; total = d.total; content = d.content; ending = d.ending; event = d.event })
 role stream_id l v = pass
 role uuid l v = pass
-role total_length l v = say (λ d. record { stream = d.stream; total = As v; content = d.content; ending = d.ending; event = d.event })
-role content_length l v = say (λ d. record { stream = d.stream; total = d.total; content = As v; ending = d.ending; event = d.event })
+role total_length l v = say (λ d. record { stream = d.stream; total = Some v; content = d.content; ending = d.ending; event = d.event })
+role content_length l v = say (λ d. record { stream = d.stream; total = d.total; content = Some v; ending = d.ending; event = d.event })
 role clock l v = due ⨾ (λ s. new_clock l (clock_after s.clock l v) s)
-role end_clock l v = say (λ d. record { stream = d.stream; total = d.total; content = d.content; ending = As v; event = d.event })
+role end_clock l v = say (λ d. record { stream = d.stream; total = d.total; content = d.content; ending = Some v; event = d.event })
 role discarded l v = pass
 role sequence l v = pass
 role event_class_id l v = say (λ d. record { stream = d.stream; total = d.total; content = d.content; ending = d.ending; event = v })
@@ -165,12 +160,12 @@ slot_of unsigned_int n v = Unsigned v
 slot_of signed_int n v = Signed (word (signed v n))
 slot_of float n v = Unset
 
-unfoldable pub other_order : Order → LastOrder → Bool
-other_order o Nothing = true
-other_order Little (Was Little) = false
-other_order Little (Was Big) = true
-other_order Big (Was Little) = true
-other_order Big (Was Big) = false
+unfoldable pub other_order : Order → Option Order → Bool
+other_order o None = true
+other_order Little (Some Little) = false
+other_order Little (Some Big) = true
+other_order Big (Some Little) = true
+other_order Big (Some Big) = false
 
 -- "Order may differ from that of the previous kind 16 to 20 field in the packet only at a multiple of 8 from P (23)." (000 6.3.3, step 3)
 unfoldable pub turned : Env → ℕ → Order → State → Bool
@@ -181,7 +176,7 @@ read_fixed e m k n o a i r =
     due ⨾ fit e a 0 ⨾ check (turned e a o) OrderChanged ⨾ fit e a n
     ⨾ λ s.
     let v = bits o e.bytes (aligned e a s).0 n in
-    (field e m (kind_of k) a n (value_of k n v) ⨾ change (with_order (Was o)) ⨾ store i (slot_of k n v) ⨾ role r n (value_of k n v)) s
+    (field e m (kind_of k) a n (value_of k n v) ⨾ change (with_order (Some o)) ⨾ store i (slot_of k n v) ⨾ role r n (value_of k n v)) s
 
 -- Kinds 21 to 27 stand at whole bytes (000 6.3.8 to 6.3.15)
 
@@ -197,9 +192,9 @@ unfoldable pub as_text : List ℕ → Step
 as_text b = check (λ s. not (is_text b)) NotText
 
 -- "string 23 counts without its zero (bits include it)"
-unfoldable pub read_zero : Env → ℕ → Ended → Step
-read_zero e m (After n) = (λ s. as_text (bytes_at e (aligned e 8 s) n.0) s) ⨾ field e m 23 8 (8 * (n.0 + 1)) n.0
-read_zero e m Never = refuse NoZeroByte
+unfoldable pub read_zero : Env → ℕ → Option ByteLength → Step
+read_zero e m (Some n) = (λ s. as_text (bytes_at e (aligned e 8 s) n.0) s) ⨾ field e m 23 8 (8 * (n.0 + 1)) n.0
+read_zero e m None = refuse NoZeroByte
 
 -- n bytes as text: "Strings 24 and 26 have bits for all their bytes"; and as a BLOB: "BLOBs their byte count"
 unfoldable pub read_text : Env → ℕ → ℕ → ℕ → Step

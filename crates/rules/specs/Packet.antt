@@ -1,10 +1,6 @@
 -- Reading packets, step by step. (Reading; 000 6.1, 6.2)
-use Rattle.std.specs.Prelude.{ℕ, zero, suc, ◌+◌, ◌-◌, ◌*◌, ◌%◌, List, Bool, true, false, not, ◌&&◌, ◌||◌, length, ltb, eqb}
-use Rattle.std.proofs.Math.Option.{Option, none, some}
+use Rattle.std.specs.Prelude.{ℕ, zero, suc, ◌+◌, ◌-◌, ◌*◌, ◌%◌, List, Bool, true, false, not, ◌&&◌, ◌||◌, length, ltb, eqb, Option, None, Some}
 use Rattle.rules.specs.declared.BitPlace.{BitPlace}
-use Rattle.rules.specs.declared.LastOrder.TheVariants.{Nothing}
-use Rattle.rules.specs.declared.Stated.{Stated}
-use Rattle.rules.specs.declared.Stated.TheVariants.{Missing, As}
 use Rattle.rules.specs.declared.Said.{Said}
 use Rattle.rules.specs.declared.Refusal.TheVariants.{StreamClassChanged, StreamClassUnknown, LengthsContradict, ClocksContradict, EventClassUnknown, EventTookNoBits, ClockWentBack}
 use Rattle.rules.specs.Place.{bit_place, further}
@@ -21,8 +17,8 @@ mark k n v s = listed (entry k s.place n v 0) s.place s
 
 -- a root that is there is read; m is its structure's number
 unfoldable pub read_root : Env → ℕ → Option Class → Step
-read_root e m none = pass
-read_root e m (some c) = read e m c
+read_root e m None = pass
+read_root e m (Some c) = read e m c
 
 -- "counted from 0 at the record that opens it" (02, 7): the first root's record is 1, and its structure 2
 abbrev pub first_root : ℕ
@@ -30,8 +26,8 @@ first_root = 2
 
 -- the records of a root that is there: its own, and those of its structure
 unfoldable pub root_records : Option Class → ℕ
-root_records none = 0
-root_records (some c) = 1 + records c
+root_records None = 0
+root_records (Some c) = 1 + records c
 
 -- the numbers of the other roots' structures: the records go on through a fragment's roots
 abbrev pub header_number : StreamClass → ℕ
@@ -48,8 +44,8 @@ payload_number d = first_root + root_records d.specific
 
 -- "event class unknown (stream class id, event id)" (37)
 unfoldable pub with_event : ℕ → ℕ → Option EventClass → (EventClass → Step) → Step
-with_event i j none f = refuse (EventClassUnknown i j)
-with_event i j (some d) f = f d
+with_event i j None f = refuse (EventClassUnknown i j)
+with_event i j (Some d) f = f d
 
 -- slots "16 to 63" are unset "when an event starts"; its id is 0 until its header says one
 unfoldable pub start_event : State → State
@@ -94,15 +90,15 @@ read_events t c e to n (suc left) = λ s.
 
 -- A packet's lengths: "If one length is missing it equals the other; if both are, both run to the stream's end."
 
-unfoldable pub or_else : Stated → Stated → ℕ → ℕ
-or_else (As x) y z = x
-or_else Missing (As y) z = y
-or_else Missing Missing z = z
+unfoldable pub or_else : Option ℕ → Option ℕ → ℕ → ℕ
+or_else (Some x) y z = x
+or_else None (Some y) z = y
+or_else None None z = z
 
 -- "35: start clock above a stated end clock"
-unfoldable pub above : ℕ → Stated → Bool
-above x Missing = false
-above x (As y) = ltb y x
+unfoldable pub above : ℕ → Option ℕ → Bool
+above x None = false
+above x (Some y) = ltb y x
 
 -- "34: total not a multiple of 8, content above total, total past the stream, content ending before the context does". "The bound is the
 -- stream's end until the packet's lengths are known, then the content's end."
@@ -120,15 +116,15 @@ read_content t c b p total content =
 
 -- "stream class ... unknown (first id)" (33)
 unfoldable pub with_stream : ℕ → Option StreamClass → (StreamClass → Step) → Step
-with_stream i none f = refuse (StreamClassUnknown i)
-with_stream i (some c) f = f c
+with_stream i None f = refuse (StreamClassUnknown i)
+with_stream i (Some c) f = f c
 
-unfoldable pub differs : ℕ → Stated → Bool
-differs i Missing = false
-differs i (As j) = not (eqb i j)
+unfoldable pub differs : ℕ → Option ℕ → Bool
+differs i None = false
+differs i (Some j) = not (eqb i j)
 
 unfoldable pub nothing_said : Said
-nothing_said = record { stream = 0; total = Missing; content = Missing; ending = Missing; event = 0 }
+nothing_said = record { stream = 0; total = None; content = None; ending = None; event = 0 }
 
 -- "All slots are unset when a packet starts"; "Clock, from 0 at each packet"; no field of the packet has an order yet
 unfoldable pub start_packet : State → State
@@ -136,14 +132,14 @@ start_packet s = record {
   place = s.place;
   room = s.room;
   slots = no_slots;
-  order = Nothing;
+  order = None;
   clock = 0;
   last = s.last;
   said = nothing_said;
 }
 
 -- the kth packet, where i is the first one's stream class id
-unfoldable pub read_packet : Asked → List ℕ → ℕ → Stated → Step
+unfoldable pub read_packet : Asked → List ℕ → ℕ → Option ℕ → Step
 read_packet t b k i s₀ =
     (let e : Env = record { bytes = b; start = s₀.place; bound = bit_place (8 * length b); uuid = t.uuid } in
     due
@@ -160,10 +156,10 @@ read_packet t b k i s₀ =
     read_content t c b s₀.place (or_else s.said.total s.said.content rest) (or_else s.said.content s.said.total rest) s) s) s₀
 
 -- "Continue while bytes remain." Each packet takes a byte or more, so that as many rounds as there are bytes are enough
-unfoldable pub read_packets : Asked → List ℕ → ℕ → Stated → ℕ → Step
+unfoldable pub read_packets : Asked → List ℕ → ℕ → Option ℕ → ℕ → Step
 read_packets t b k i zero = pass
 read_packets t b k i (suc left) = λ s.
     elim (ltb s.place.0 (8 * length b)) [
-      | true ↦ (read_packet t b k i ⨾ λ s. read_packets t b (k + 1) (As s.said.stream) left s) s
+      | true ↦ (read_packet t b k i ⨾ λ s. read_packets t b (k + 1) (Some s.said.stream) left s) s
       | false ↦ pass s
     ]

@@ -1,12 +1,11 @@
 -- Reading a class table: the table, or the number and the byte of the first record with a fault. A parser works on the rest of the
 -- bytes, so that a record's byte is what the table has more.
-use Rattle.std.specs.Prelude.{ℕ, zero, suc, ◌-◌, List, [], ◌∷◌, ◌++◌, Bool, true, false, not, ◌&&◌, ◌||◌, length, get_or, ltb, leb, eqb}
-use Rattle.std.proofs.Math.Option.{Option, none, some}
+use Rattle.rules.specs.Verdict.{table_fault}
+use Rattle.rules.specs.declared.TableFault.{TableFault}
+use Rattle.std.specs.Prelude.{ℕ, zero, suc, ◌-◌, List, [], ◌∷◌, ◌++◌, Bool, true, false, not, ◌&&◌, ◌||◌, length, get_or, ltb, leb, eqb, Option, None, Some, Err, Ok, Result}
 use Rattle.rules.specs.declared.Order.{Order}
 use Rattle.rules.specs.declared.Order.TheVariants.{Little, Big}
 use Rattle.rules.specs.declared.ByteLength.{ByteLength}
-use Rattle.rules.specs.declared.Checked.{Checked}
-use Rattle.rules.specs.declared.Checked.TheVariants.{Accepted, Refused}
 use Rattle.rules.specs.Limits.{table_limit, depth_limit, no_clock}
 use Rattle.rules.specs.Place.{byte_length}
 use Rattle.rules.specs.Class.{Sign, plain, Range, Class, fixed, leb128, signed_leb128, string, static_string, static_blob, dynamic_string, dynamic_blob}
@@ -53,12 +52,12 @@ Ranges = Option Sign × List Range
 
 -- what a sound record holds
 unfoldable pub range_of : Record → Ranges
-range_of unknown = (none, [])
-range_of (fragment f) = (none, [])
-range_of (root r) = (none, [])
-range_of (class y) = (none, [])
-range_of (option n) = (none, [])
-range_of (range g l h) = (some (sign_of g), record { low = l; high = h } ∷ [])
+range_of unknown = (None, [])
+range_of (fragment f) = (None, [])
+range_of (root r) = (None, [])
+range_of (class y) = (None, [])
+range_of (option n) = (None, [])
+range_of (range g l h) = (Some (sign_of g), record { low = l; high = h } ∷ [])
 
 unfoldable pub count_of : Record → ℕ
 count_of unknown = 0
@@ -69,8 +68,8 @@ count_of (range g l h) = 0
 count_of (option n) = n
 
 unfoldable pub the_sign : Option Sign → Sign
-the_sign none = plain
-the_sign (some g) = g
+the_sign None = plain
+the_sign (Some g) = g
 
 -- n ranges, under a sign, and the sign behind them
 unfoldable pub parse_ranges : Ids → List Range → ℕ → Option Sign → Parser Ranges
@@ -102,7 +101,7 @@ order_of (suc o) = Big
 
 -- an optional of no ranges goes by a flag
 unfoldable pub selected : ℕ → Ranges → Class → Class
-selected i p c = elim p.0 [ none ↦ flagged i c | some g ↦ optional i g p.1 c ]
+selected i p c = elim p.0 [ None ↦ flagged i c | Some g ↦ optional i g p.1 c ]
 
 -- behind a sound record, where f reads the classes one deeper
 unfoldable pub parse_shape : Ids → (Spot → Parser Class) → Spot → Says → Shape → Parser Class
@@ -117,8 +116,8 @@ parse_shape q f z y blob_of x = good (dynamic_blob y.reads) x
 parse_shape q f z y members x = then (parse_members f (member_spot z) y.count x) λ cs x. good (structure y.align cs) x
 parse_shape q f z y elements x = then (f inside x) λ c x. good (static_array y.count y.align c) x
 parse_shape q f z y elements_of x = then (f inside x) λ c x. good (dynamic_array y.reads y.align c) x
-parse_shape q f z y option? x = then (parse_ranges q [] y.count none x) λ p x. then (f inside x) λ c x. good (selected y.reads p c) x
-parse_shape q f z y options x = then (parse_options q f y.count (none, []) x) λ p x. good (variant y.reads (the_sign p.0) p.1) x
+parse_shape q f z y option? x = then (parse_ranges q [] y.count None x) λ p x. then (f inside x) λ c x. good (selected y.reads p c) x
+parse_shape q f z y options x = then (parse_options q f y.count (None, []) x) λ p x. good (variant y.reads (the_sign p.0) p.1) x
 
 unfoldable pub parse_body : Ids → (Spot → Parser Class) → Spot → Record → Parser Class
 parse_body q f z unknown x = bad unknown_kind x
@@ -158,8 +157,8 @@ parse_roots q timed has_uuid [] x =
 parse_roots q timed has_uuid (n ∷ ns) x =
     elim (leb (size x) (length x) && is_root n (record_of x)) [
       | true ↦ then (parse_class q (record { root = n; timed = timed; uuid = has_uuid }) depth_limit top (behind x)) λ c x.
-          then (parse_roots q timed has_uuid ns x) λ cs x. good (some c ∷ cs) x
-      | false ↦ then (parse_roots q timed has_uuid ns x) λ cs x. good (none ∷ cs) x
+          then (parse_roots q timed has_uuid ns x) λ cs x. good (Some c ∷ cs) x
+      | false ↦ then (parse_roots q timed has_uuid ns x) λ cs x. good (None ∷ cs) x
     ]
 
 -- Fragments: "Kinds 1 to 5 open a fragment. Its roots follow"
@@ -187,10 +186,10 @@ has_uuid (stream_class i c) = false
 has_uuid (event_class i j) = false
 
 unfoldable pub no_table : Table
-no_table = record { uuid = []; header = none; streams = []; events = [] }
+no_table = record { uuid = []; header = None; streams = []; events = [] }
 
 unfoldable pub root_of : List (Option Class) → ℕ → Option Class
-root_of l i = get_or l i none
+root_of l i = get_or l i None
 
 -- "1 if it has a UUID else 0; 16 bytes"
 unfoldable pub uuid_of : ℕ → List ℕ → List ℕ
@@ -264,18 +263,18 @@ unfoldable pub byte_of : List ℕ → List ℕ → ByteLength
 byte_of b x = byte_length (length b - length x)
 
 -- "An accepted table gives 0 and its length."
-unfoldable pub checked_of : List ℕ → Parsed Table → Checked
-checked_of b (bad n x) = Refused n (byte_of b x)
-checked_of b (good t x) = Accepted (byte_length (length b))
+unfoldable pub checked_of : List ℕ → Parsed Table → Result ByteLength TableFault
+checked_of b (bad n x) = Err (table_fault n (byte_of b x))
+checked_of b (good t x) = Ok (byte_length (length b))
 
-unfoldable pub checked : List ℕ → Checked
+unfoldable pub checked : List ℕ → Result ByteLength TableFault
 checked b = checked_of b (parse b)
 
 -- document 01's number and byte for each answer
-unfoldable pub checked_number : Checked → ℕ
-checked_number (Accepted n) = 0
-checked_number (Refused n b) = n
+unfoldable pub checked_number : Result ByteLength TableFault → ℕ
+checked_number (Ok n) = 0
+checked_number (Err v) = v.number
 
-unfoldable pub checked_byte : Checked → ByteLength
-checked_byte (Accepted n) = n
-checked_byte (Refused n b) = b
+unfoldable pub checked_byte : Result ByteLength TableFault → ByteLength
+checked_byte (Ok n) = n
+checked_byte (Err v) = v.byte

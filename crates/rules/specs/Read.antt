@@ -1,12 +1,10 @@
 -- A table's bytes, a stream's bytes and the words of a list give entries and a verdict.
-use Rattle.std.specs.Prelude.{ℕ, ◌*◌, List, [], ◌++◌, true, false, ◌||◌, length, drop, ltb, eqb}
-use Rattle.rules.specs.declared.LastOrder.TheVariants.{Nothing}
-use Rattle.rules.specs.declared.Stated.TheVariants.{Missing}
+use Rattle.std.specs.Prelude.{ℕ, ◌*◌, List, [], ◌++◌, true, false, ◌||◌, length, drop, ltb, eqb, None}
 use Rattle.rules.specs.declared.Entry.{Entry}
 use Rattle.rules.specs.declared.Refusal.TheVariants.{StreamSize}
 use Rattle.rules.specs.declared.Verdict.{Verdict}
 use Rattle.rules.specs.declared.Verdict.TheVariants.{Accepted, TableRefused, Refused}
-use Rattle.rules.specs.declared.Result.{Result}
+use Rattle.rules.specs.declared.Report.{Report}
 use Rattle.rules.specs.Limits.{stream_limit, words_per_entry}
 use Rattle.rules.specs.Place.{bit_place}
 use Rattle.rules.specs.Slots.{no_slots}
@@ -22,7 +20,7 @@ pub record Reading : Type 0 where
   pub verdict : Verdict
 
 -- "Result: number (0 accepted), entries, place, two ids." (Refusing a stream)
-unfoldable pub result_of : Reading → Result
+unfoldable pub result_of : Reading → Report
 result_of r = record {
   number = number_of r.verdict;
   entries = length r.entries;
@@ -41,14 +39,14 @@ ended (stop es v) = record { entries = es; verdict = Refused v }
 ended (go es s) = record { entries = es; verdict = Accepted s.place }
 
 unfoldable pub begin : ℕ → State
-begin room = record { place = bit_place 0; room = room; slots = no_slots; order = Nothing; clock = 0; last = 0; said = nothing_said }
+begin room = record { place = bit_place 0; room = room; slots = no_slots; order = None; clock = 0; last = 0; said = nothing_said }
 
 -- "stream empty or over 536,870,911 bytes; 0 entries, place 0" (21)
 unfoldable pub read_stream : Asked → List ℕ → ℕ → Reading
 read_stream t b room =
     elim (eqb (length b) 0 || ltb stream_limit (length b)) [
       | true ↦ record { entries = []; verdict = Refused (stop_at StreamSize (bit_place 0)) }
-      | false ↦ ended (read_packets t b 0 Missing (length b) (begin room))
+      | false ↦ ended (read_packets t b 0 None (length b) (begin room))
     ]
 
 -- "20 comes before 21."

@@ -1,7 +1,7 @@
 -- Steps of a reading, one after another. A step lists entries, and goes on or stops.
-use Rattle.std.specs.Prelude.{ℕ, ◌-◌, List, [], ◌∷◌, ◌++◌, Bool, true, false, ltb}
+use Rattle.rules.specs.declared.Order.{Order}
+use Rattle.std.specs.Prelude.{ℕ, ◌-◌, List, [], ◌∷◌, ◌++◌, Bool, true, false, ltb, Option}
 use Rattle.rules.specs.declared.BitPlace.{BitPlace}
-use Rattle.rules.specs.declared.LastOrder.{LastOrder}
 use Rattle.rules.specs.declared.Said.{Said}
 use Rattle.rules.specs.declared.Entry.{Entry}
 use Rattle.rules.specs.declared.Refusal.{Refusal}
@@ -17,7 +17,7 @@ pub record State : Type 0 where
   pub place : BitPlace
   pub room : ℕ
   pub slots : Slots
-  pub order : LastOrder
+  pub order : Option Order
   pub clock : ℕ
   pub last : ℕ
   pub said : Said
@@ -86,7 +86,7 @@ change f s = go [] (f s)
 unfoldable pub with_slots : Slots → State → State
 with_slots l s = record { place = s.place; room = s.room; slots = l; order = s.order; clock = s.clock; last = s.last; said = s.said }
 
-unfoldable pub with_order : LastOrder → State → State
+unfoldable pub with_order : Option Order → State → State
 with_order o s = record { place = s.place; room = s.room; slots = s.slots; order = o; clock = s.clock; last = s.last; said = s.said }
 
 unfoldable pub with_clock : ℕ → State → State

@@ -1,8 +1,6 @@
 -- The bytes of a string before its first zero byte. (000 6.3.11, 6.3.12)
-use Rattle.std.specs.Prelude.{ℕ, zero, suc, ◌+◌, List, [], ◌∷◌, Bool, true, false, ◌&&◌, take, leb}
-use Rattle.std.proofs.Math.Option.{Option, none, some}
-use Rattle.rules.specs.declared.Ended.{Ended}
-use Rattle.rules.specs.declared.Ended.TheVariants.{After, Never}
+use Rattle.rules.specs.declared.ByteLength.{ByteLength}
+use Rattle.std.specs.Prelude.{ℕ, zero, suc, ◌+◌, List, [], ◌∷◌, Bool, true, false, ◌&&◌, take, leb, Option, None, Some}
 use Rattle.rules.specs.Place.{byte_length}
 
 -- "the value is the count before the first zero byte, or of all" (Reading)
@@ -11,14 +9,14 @@ text_length [] = 0
 text_length (zero ∷ bs) = 0
 text_length (suc b ∷ bs) = text_length bs + 1
 
-unfoldable pub one_later : Ended → Ended
-one_later (After n) = After (byte_length (n.0 + 1))
-one_later Never = Never
+unfoldable pub one_later : Option ByteLength → Option ByteLength
+one_later (Some n) = Some (byte_length (n.0 + 1))
+one_later None = None
 
 -- the bytes before the zero byte; "no zero byte before the bound" (25)
-unfoldable pub zero_at : List ℕ → Ended
-zero_at [] = Never
-zero_at (zero ∷ bs) = After (byte_length 0)
+unfoldable pub zero_at : List ℕ → Option ByteLength
+zero_at [] = None
+zero_at (zero ∷ bs) = Some (byte_length 0)
 zero_at (suc b ∷ bs) = one_later (zero_at bs)
 
 -- Well-formed UTF-8. "must be well-formed UTF-8 as RFC 3629 says" (02, 1)
@@ -49,14 +47,14 @@ rows =
     ∷ []
 
 unfoldable pub row_of : List Row → ℕ → Option Row
-row_of [] b = none
-row_of (r ∷ rs) b = elim (leb r.first b && leb b r.last) [ true ↦ some r | false ↦ row_of rs b ]
+row_of [] b = None
+row_of (r ∷ rs) b = elim (leb r.first b && leb b r.last) [ true ↦ Some r | false ↦ row_of rs b ]
 
 -- characters, where so many bytes of one are still to come, the next of them within a range
 unfoldable pub utf8_from : ℕ → ℕ → ℕ → List ℕ → Bool
 utf8_from zero l h [] = true
 utf8_from (suc n) l h [] = false
-utf8_from zero l h (b ∷ bs) = elim (row_of rows b) [ none ↦ false | some r ↦ utf8_from r.more r.low r.high bs ]
+utf8_from zero l h (b ∷ bs) = elim (row_of rows b) [ None ↦ false | Some r ↦ utf8_from r.more r.low r.high bs ]
 utf8_from (suc n) l h (b ∷ bs) = leb l b && leb b h && utf8_from n 0x80 0xBF bs
 
 unfoldable pub utf8 : List ℕ → Bool

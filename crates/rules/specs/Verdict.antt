@@ -6,12 +6,17 @@ use Rattle.rules.specs.declared.Refusal.TheVariants.{SlotOfWrongSort, LengthTooL
 use Rattle.rules.specs.declared.Refusal.TheVariants.{StreamClassChanged, StreamClassUnknown, LengthsContradict, ClocksContradict}
 use Rattle.rules.specs.declared.Refusal.TheVariants.{ClockTooLarge, EventClassUnknown, EventTookNoBits, ClockWentBack, ListFull, NotText}
 use Rattle.rules.specs.declared.BitPlace.{BitPlace}
+use Rattle.rules.specs.declared.ByteLength.{ByteLength}
 use Rattle.rules.specs.declared.Stop.{Stop}
+use Rattle.rules.specs.declared.TableFault.{TableFault}
 use Rattle.rules.specs.declared.Verdict.{Verdict}
 use Rattle.rules.specs.declared.Verdict.TheVariants.{Accepted, TableRefused, Refused}
 
 abbrev pub stop_at : Refusal → BitPlace → Stop
 stop_at r p = record { why = r; place = p }
+
+abbrev pub table_fault : ℕ → ByteLength → TableFault
+table_fault n b = record { number = n; byte = b }
 
 unfoldable pub refusal_number : Refusal → ℕ
 refusal_number StreamSize = 21

@@ -18,13 +18,6 @@ pub enum Order {
     Big,
 }
 
-// The order of the packet's last field of kind 16 to 20.
-#[derive(Clone, Copy)]
-pub enum LastOrder {
-    Nothing,
-    Was(Order),
-}
-
 // What a slot holds. A signed number is its 64-bit word.
 #[derive(Clone, Copy)]
 pub enum Content {
@@ -40,20 +33,13 @@ pub struct Slot {
     pub content: Content,
 }
 
-// A number that a role may say.
-#[derive(Clone, Copy)]
-pub enum Stated {
-    Missing,
-    As(u64),
-}
-
 // What the roles of a packet's or an event's fields said.
 #[derive(Clone, Copy)]
 pub struct Said {
     pub stream: u64,
-    pub total: Stated,
-    pub content: Stated,
-    pub ending: Stated,
+    pub total: Option<u64>,
+    pub content: Option<u64>,
+    pub ending: Option<u64>,
     pub event: u64,
 }
 
@@ -68,19 +54,12 @@ pub struct Entry {
 }
 
 // What reading a LEB128 number finds: the number in 64 bits and its bytes; that its bytes run past the bound; that it is too long
-// or too large.
+// or too large. Three ends, which whoever reads one tells apart: a Result would put two of them into one.
 #[derive(Clone, Copy)]
 pub enum Leb {
     Value { value: u64, bytes: ByteLength },
     Past,
     Large,
-}
-
-// Where a null-terminated string ends: behind so many bytes, the zero byte not among them; or nowhere before the bound.
-#[derive(Clone, Copy)]
-pub enum Ended {
-    After(ByteLength),
-    Never,
 }
 
 // Why a stream is refused.
@@ -116,7 +95,8 @@ pub struct Stop {
     pub place: BitPlace,
 }
 
-// How a reading ends. A refused table has a number and a byte; all else has a place in bits.
+// How a reading ends. A refused table has a number and a byte; all else has a place in bits. Three ends of the rules' own, which the
+// promises name (`OneCall`): no code builds one.
 #[derive(Clone, Copy)]
 pub enum Verdict {
     Accepted(BitPlace),
@@ -126,7 +106,7 @@ pub enum Verdict {
 
 // What a reading answers beside the list. The place counts bits from the stream's start; of a refused table (20) it is a byte.
 #[derive(Clone, Copy)]
-pub struct Result {
+pub struct Report {
     pub number: u8,
     pub entries: usize,
     pub place: u64,
@@ -134,18 +114,19 @@ pub struct Result {
     pub second: u64,
 }
 
-// How the check of a table ends: its length, or a number and the byte of the record at fault.
+// Why a table is refused: a number of "Refusing a table", and the byte of the record at fault. A check that finds no fault answers the
+// table's length.
 #[derive(Clone, Copy)]
-pub enum Checked {
-    Accepted(ByteLength),
-    Refused(u8, ByteLength),
+pub struct TableFault {
+    pub number: u8,
+    pub byte: ByteLength,
 }
 
-// How cutting a bundle ends: the table's length; why the table that it is cut from is refused; over sixteen streams; how many bytes are needed.
+// Why no bundle is written: the table that it is cut from is refused; over sixteen streams; how many bytes are needed. One that is written
+// has a length.
 #[derive(Clone, Copy)]
-pub enum Bundled {
-    Written(ByteLength),
-    TableRefused(u8, ByteLength),
+pub enum NoBundle {
+    Table(TableFault),
     TooManyStreams,
     ShortBuffer(ByteLength),
 }

@@ -1,10 +1,10 @@
 -- What an accepted table's fragments say of clocks: a clock class has an id that is not 255 and a frequency that is not 0 (10), and a
 -- clock that a stream class names stands earlier (8). In order: a clock's record; one fragment, under the ids seen before it; the
 -- fragments; the table.
+use Rattle.std.specs.Prelude.{None, Some}
 use mathlib.Core.Path.{◌≡◌, refl, sym, ap, ◌∙◌}
 use mathlib.Core.List.{List, [], ◌∷◌}
 use mathlib.Core.Bool.{Bool, true, false, not, ◌&&◌, ◌||◌}
-use mathlib.Core.Option.{none, some}
 use Prim.Native.Nat.{ℕ, zero, suc, ◌+◌, ◌-◌, ◌≤◌}
 use native.Mathlib.Omega.{arith}
 use borrow.Author.Tests.{ltb-true, ltb-false, eq-eqb, ne_eqb, eqb-false}
@@ -57,7 +57,7 @@ module _ (t : List ℕ) where
 
   -- a clock was seen before, or is among these
   abbrev Known : Ids → List ℕ → ℕ → Type 0
-  Known q os c = among c q.clocks ≡ false → first_of (λ p. is_clock t p c) os ≡ none → ⊥
+  Known q os c = among c q.clocks ≡ false → first_of (λ p. is_clock t p c) os ≡ None → ⊥
 
   -- a stream class's clock, if it names one, is known
   abbrev Names : Ids → List ℕ → ℕ → Type 0
@@ -96,7 +96,7 @@ module _ (t : List ℕ) where
       let h = stream_at t at i c e in
       let c₁ : c ≡ u8 t (at + 9) = cc h.says in
       let no = pick-false _ 7 _ (pick-zero _ 6 _ z) in
-      λ some new first. not-and (eqb c 255) (among c q.clocks) no (ne_eqb c 255 (λ b. some (sym c₁ ∙ b))) (rw c₁ new)
+      λ Some new first. not-and (eqb c 255) (among c q.clocks) no (ne_eqb c 255 (λ b. Some (sym c₁ ∙ b))) (rw c₁ new)
   own-names q (event_class i j) m at os e z k = absurd (omega (arith, k, (event-at t at i j e).kind))
 
   -- what was not seen before a fragment, and is not this one, is not seen behind it
@@ -115,7 +115,7 @@ module _ (t : List ℕ) where
   known_on : (q : Ids) (g : Opening) (at c : ℕ) (os : List ℕ) → record_of (drop at t) ≡ fragment g → Known (seen q g) os c
       → (b : Bool) → is_clock t at c ≡ b → Known q (at ∷ os) c
   known_on q g at c os e k true h new first =
-      let none-some : some at ≡ none = sym (first-here (λ p. is_clock t p c) at os h) ∙ first in
+      let none-some : Some at ≡ None = sym (first-here (λ p. is_clock t p c) at os h) ∙ first in
       let z : ◌≡◌ {A = ℕ} 0 1 = cc in
       absurd (omega (arith, z))
   known_on q g at c os e k false h new first =

@@ -1,9 +1,9 @@
 -- The walk from record to record finds what stands among the table's fragments: between where a fragment opens and where it ends no record
 -- is of kinds 1 to 5. In order: the walk; past the end; over records that open nothing; over the fragments; over a table.
+use Rattle.std.specs.Prelude.{Option, None, Some}
 use mathlib.Core.Path.{◌≡◌, refl, sym, ap, ◌∙◌}
 use mathlib.Core.List.{List, [], ◌∷◌}
 use mathlib.Core.Bool.{Bool, true, false}
-use mathlib.Core.Option.{Option, none, some}
 use Prim.Native.Nat.{ℕ, zero, suc, ◌+◌, ◌-◌, ◌<◌, ◌≤◌}
 use native.Mathlib.Nat.{zero-add, suc-add}
 use native.Mathlib.Omega.{arith}
@@ -20,18 +20,18 @@ use Rattle.class_layout.proofs.RootNumbers.{opening-bytes, roots-passed, records
 
 -- the first of n records from a byte on that passes a test
 unfoldable pub found : (ℕ → Bool) → List ℕ → ℕ → ℕ → Option ℕ
-found f t zero at = none
-found f t (suc n) at = elim (f at) [ true ↦ some at | false ↦ found f t n (next_record t at) ]
+found f t zero at = None
+found f t (suc n) at = elim (f at) [ true ↦ Some at | false ↦ found f t n (next_record t at) ]
 
 found-on : (f : ℕ → Bool) (t : List ℕ) (n at : ℕ) → f at ≡ false → found f t (suc n) at ≡ found f t n (next_record t at)
 unfolding found
 found-on f t n at h = simp (found, h)
 
-found_here : (f : ℕ → Bool) (t : List ℕ) (n at : ℕ) → f at ≡ true → found f t (suc n) at ≡ some at
+found_here : (f : ℕ → Bool) (t : List ℕ) (n at : ℕ) → f at ≡ true → found f t (suc n) at ≡ Some at
 unfolding found
 found_here f t n at h = simp (found, h)
 
-pub first-here : (f : ℕ → Bool) (at : ℕ) (os : List ℕ) → f at ≡ true → first_of f (at ∷ os) ≡ some at
+pub first-here : (f : ℕ → Bool) (at : ℕ) (os : List ℕ) → f at ≡ true → first_of f (at ∷ os) ≡ Some at
 unfolding first_of
 first-here f at os h = simp (first_of, h)
 
@@ -46,7 +46,7 @@ row_low t (suc m) p q r = omega (arith, row_low t m (next_record t p) q r.1, nex
 
 -- A test that no record passes which opens no fragment, and none past the table's end
 module _ (f : ℕ → Bool) (t : List ℕ) (opens : (p : ℕ) → 5 < u8 t p → f p ≡ false) (ends : (p : ℕ) → length t ≤ p → f p ≡ false) where
-  found-past : (n at : ℕ) → length t ≤ at → found f t n at ≡ none
+  found-past : (n at : ℕ) → length t ≤ at → found f t n at ≡ None
   unfolding found
   found-past zero at h = refl
   found-past (suc n) at h = found-on f t n at (ends at h) ∙ found-past n (next_record t at) (omega (arith, next-onward t at))

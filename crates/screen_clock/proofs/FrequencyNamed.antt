@@ -1,10 +1,10 @@
 -- The frequency is the one that the rules' records say of the clock that the stream class names. In order: numbers by offsets and by the
 -- rest of the bytes; what the walks find is what stands among the fragments; a stream class that names no clock, and one that does.
+use Rattle.std.specs.Prelude.{Option, None, Some}
 use mathlib.Core.Path.{◌≡◌, refl, sym, ap, ◌∙◌}
 use mathlib.Core.Logic.{⊎_elim}
 use mathlib.Core.List.{List, [], ◌∷◌}
 use mathlib.Core.Bool.{Bool, true, false, ◌&&◌}
-use mathlib.Core.Option.{Option, none, some}
 use Prim.Native.Nat.{ℕ, zero, suc, ◌+◌, ◌<◌, ◌≤◌}
 use native.Mathlib.Omega.{arith}
 use borrow.Author.Tests.{eqb-true, eq-eqb, not-false}
@@ -47,12 +47,12 @@ number-at (suc n) t at = ⊎_elim
 -- What the walks find
 
 unfoldable clock_at : List ℕ → Option ℕ → ℕ
-clock_at t none = 255
-clock_at t (some p) = get_or t (p + 9) 0
+clock_at t None = 255
+clock_at t (Some p) = get_or t (p + 9) 0
 
 unfoldable frequency_at : List ℕ → Option ℕ → ℕ
-frequency_at t none = 0
-frequency_at t (some p) = number_at t (p + 2) 8
+frequency_at t None = 0
+frequency_at t (Some p) = number_at t (p + 2) 8
 
 clock-found : (n : ℕ) (t : List ℕ) (at i : ℕ) → clock_from n t at i ≡ clock_at t (found (λ p. is_stream t p i) t n at)
 unfolding clock_from found clock_at
@@ -62,7 +62,7 @@ clock-found (suc n) t at i =
   where
     by : (b : Bool) → clock_from n t (behind t at) i ≡ clock_at t (found (λ p. is_stream t p i) t n (next_record t at))
         → elim b [ true ↦ get_or t (at + 9) 0 | false ↦ clock_from n t (behind t at) i ]
-        ≡ clock_at t (elim b [ true ↦ some at | false ↦ found (λ p. is_stream t p i) t n (next_record t at) ])
+        ≡ clock_at t (elim b [ true ↦ Some at | false ↦ found (λ p. is_stream t p i) t n (next_record t at) ])
     by true h = refl
     by false h = h
 
@@ -74,7 +74,7 @@ frequency-found (suc n) t at i =
   where
     by : (b : Bool) → frequency_from n t (behind t at) i ≡ frequency_at t (found (λ p. is_clock t p i) t n (next_record t at))
         → elim b [ true ↦ number_at t (at + 2) 8 | false ↦ frequency_from n t (behind t at) i ]
-        ≡ frequency_at t (elim b [ true ↦ some at | false ↦ found (λ p. is_clock t p i) t n (next_record t at) ])
+        ≡ frequency_at t (elim b [ true ↦ Some at | false ↦ found (λ p. is_clock t p i) t n (next_record t at) ])
     by true h = refl
     by false h = h
 
@@ -136,7 +136,7 @@ module _ (t : List ℕ) (T : Table) (y : List ℕ) (ok : parse t ≡ good T y) w
   stream-record o k = record-at t o 4 k ∙ rw (u8-body t o 9 8 (omega arith), number-body t o 9 0 8 (omega arith))
 
   -- The stream class at o, which names the clock c
-  module _ (i o : ℕ) (there : find_stream_at t os i ≡ some o) where
+  module _ (i o : ℕ) (there : find_stream_at t os i ≡ Some o) where
     abbrev c : ℕ
     c = u8 t (o + 9)
 
@@ -154,17 +154,17 @@ module _ (t : List ℕ) (T : Table) (y : List ℕ) (ok : parse t ≡ good T y) w
 
     no-clock-named : c ≡ 255 → (r : Option ℕ) → first_of (λ p. is_clock t p c) os ≡ r → frequency_at t r ≡ 0
     unfolding frequency_at
-    no-clock-named e none h = refl
-    no-clock-named e (some p) h =
+    no-clock-named e None h = refl
+    no-clock-named e (Some p) h =
         let f = first_holds _ (λ p. is_clock t p c) os p h clocks.sane in
         let k = clock-kind c p f.0 in
         absurd ((f.1 k.0).0 (k.1 ∙ e))
 
     a-clock-named : (c ≡ 255 → ⊥) → (r : Option ℕ) → first_of (λ p. is_clock t p c) os ≡ r → Clocked t i (frequency_at t r)
     unfolding frequency_at
-    a-clock-named n none h =
+    a-clock-named n None h =
         absurd ((first_holds _ (is_stream_class t i) os o there clocks.names).1 kind.0 n (unfold no_ids among in refl) h)
-    a-clock-named n (some p) h =
+    a-clock-named n (Some p) h =
         let f = first_holds _ (λ p. is_clock t p c) os p h clocks.sane in
         let k = clock-kind c p f.0 in
         let turns : u64 t (p + 2) ≡ number_at t (p + 2) 8 = unfold u64 in number-at 8 t (p + 2) in
@@ -191,12 +191,12 @@ module _ (t : List ℕ) (T : Table) (y : List ℕ) (ok : parse t ≡ good T y) w
   unfolding asked asked_at
   asks i = ap (λ a. a.stream i) (asked-at t T y ok)
 
-  named : (i : ℕ) (k : StreamClass) → find_stream T.streams i ≡ some k → Named t i k
+  named : (i : ℕ) (k : StreamClass) → find_stream T.streams i ≡ Some k → Named t i k
   named i k e = by (find_stream_at t os i) refl (sym (asks i) ∙ e)
     where
-      by : (r : Option ℕ) → find_stream_at t os i ≡ r → map_option (stream_class_at t) r ≡ some k → Named t i k
-      by none h e = let z : ◌≡◌ {A = ℕ} 0 1 = unfold map_option in cc in absurd (omega (arith, z))
-      by (some o) h e = of-class i o h k (unfold map_option in cc)
+      by : (r : Option ℕ) → find_stream_at t os i ≡ r → map_option (stream_class_at t) r ≡ Some k → Named t i k
+      by None h e = let z : ◌≡◌ {A = ℕ} 0 1 = unfold map_option in cc in absurd (omega (arith, z))
+      by (Some o) h e = of-class i o h k (unfold map_option in cc)
 
 pub frequency-named : FrequencyNamed
 frequency-named t T y ok i k e = named t T y ok i k e

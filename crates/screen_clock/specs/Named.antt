@@ -1,7 +1,6 @@
 -- What is promised of a frequency: in a table that the rules accept it is the one of the clock class that the stream class names, as the
 -- rules' own records say both.
-use Rattle.std.specs.Prelude.{ℕ, ◌≡◌, List, true, false, drop}
-use Rattle.std.proofs.Math.Option.{some}
+use Rattle.std.specs.Prelude.{ℕ, ◌≡◌, List, true, false, drop, Some}
 use Rattle.rules.specs.Record.{fragment, clock_class, stream_class, record_of}
 use Rattle.rules.specs.Table.{Table, StreamClass, find_stream}
 use Rattle.rules.specs.Parse.{good, parse}
@@ -14,9 +13,9 @@ pub record Clocked (t : List ℕ) (i f : ℕ) : Type 0 where
   pub stream : ℕ
   pub clock : ℕ
   pub id : ℕ
-  pub stream-there : find_stream_at t (fragments_of t) i ≡ some stream
+  pub stream-there : find_stream_at t (fragments_of t) i ≡ Some stream
   pub stream-says : record_of (drop stream t) ≡ fragment (stream_class i id)
-  pub clock-there : first_of (λ p. is_clock t p id) (fragments_of t) ≡ some clock
+  pub clock-there : first_of (λ p. is_clock t p id) (fragments_of t) ≡ Some clock
   pub clock-says : record_of (drop clock t) ≡ fragment (clock_class id f)
   pub some-turns : f ≡ 0 → ⊥
 
@@ -27,5 +26,5 @@ pub record Named (t : List ℕ) (i : ℕ) (k : StreamClass) : Type 0 where
 
 abbrev pub FrequencyNamed : Type 0
 FrequencyNamed =
-    (t : List ℕ) (T : Table) (y : List ℕ) → parse t ≡ good T y → (i : ℕ) (k : StreamClass) → find_stream T.streams i ≡ some k
+    (t : List ℕ) (T : Table) (y : List ℕ) → parse t ≡ good T y → (i : ℕ) (k : StreamClass) → find_stream T.streams i ≡ Some k
     → Named t i k

@@ -8,7 +8,6 @@ ghost use Rattle.screen_clock.specs.Frequency.{behind as Frequency·behind, is_s
 use numbers::kinds;
 use numbers::limits::NO_CLOCK;
 use table_bytes::{byte, number};
-use table_offsets::Body;
 use table_records::bodies::body_of;
 
 // The frequency of the clock that the stream class of an id names; 0 where there is none.
@@ -19,13 +18,13 @@ pub fn frequency_of(table: &[u8], id: u64) -> u64
     frequency(table, clock)
 }
 
-// The walk stops at the table's end; that it makes no more turns than there are bytes is what ends it in any bytes.
+// The walk stops at the table's end; that it makes no more turns than there are bytes is what ends it in any bytes. Where there is none
+// it answers the table's own byte for none, as `clock_from` has it.
 fn clock_of(table: &[u8], id: u64) -> u8
     ensures { result ≡ clock_from (length table.now) table.now 0 id }
 {
-    let mut left = table.len();
     let mut at = 0;
-    while 0 < left {
+    for _turn in 0..table.len() {
         if table.len() <= at {
             return NO_CLOCK;
         }
@@ -33,7 +32,6 @@ fn clock_of(table: &[u8], id: u64) -> u8
             return byte(table, at + 9);
         }
         at = behind(table, at);
-        left -= 1;
     }
     NO_CLOCK
 }
@@ -41,9 +39,8 @@ fn clock_of(table: &[u8], id: u64) -> u8
 fn frequency(table: &[u8], clock: u8) -> u64
     ensures { result ≡ frequency_from (length table.now) table.now 0 clock }
 {
-    let mut left = table.len();
     let mut at = 0;
-    while 0 < left {
+    for _turn in 0..table.len() {
         if table.len() <= at {
             return 0;
         }
@@ -51,7 +48,6 @@ fn frequency(table: &[u8], clock: u8) -> u64
             return frequency_at(table, at);
         }
         at = behind(table, at);
-        left -= 1;
     }
     0
 }
@@ -93,7 +89,7 @@ fn behind(table: &[u8], at: usize) -> usize
     ensures { result ≡ Frequency·behind table.now at }
 {
     match body_of(table[at]) {
-        Body::Bytes(n) => at + 1 + n,
-        Body::Unknown => at + 1,
+        Some(n) => at + 1 + n,
+        None => at + 1,
     }
 }

@@ -1,6 +1,6 @@
 -- Laws of the columns of a head: how long each is at most, and what the code lays of each.
-use mathlib.Core.Path.{◌≡◌, refl, sym, ap, ◌∙◌}
-use mathlib.Core.List.{List, [], ◌∷◌, ◌++◌, append-nil}
+use mathlib.Core.Path.{◌≡◌, refl, ap, ◌∙◌}
+use mathlib.Core.List.{List, [], ◌∷◌, ◌++◌}
 use mathlib.Core.Bool.{Bool, true, false}
 use Prim.Native.Nat.{ℕ, ◌+◌, ◌-◌, ◌≤◌}
 use native.Mathlib.Omega.{arith}
@@ -15,12 +15,6 @@ use Rattle.screen_head.specs.Head.{column, value_of_kind, shown_value, has_sign}
 pub left-fills : (w n : ℕ) (x : List ℕ) → n ≡ w - length x → x ++ times n blank ≡ left w x
 unfolding left
 left-fills w n x e = ap (λ k. x ++ times k blank) e
-
-pub left-full : (w : ℕ) (x : List ℕ) → w ≤ length x → x ≡ left w x
-unfolding left times
-left-full w x h =
-    let e : w - length x ≡ 0 = omega arith in
-    sym (ap (λ k. x ++ times k blank) e ∙ append-nil x)
 
 pub left-length : (w : ℕ) (x : List ℕ) → length (left w x) ≡ length x + (w - length x)
 unfolding left

@@ -1,9 +1,9 @@
 -- Laws of the words of kinds: which kinds have none, and how long a word is.
-use mathlib.Core.Path.{◌≡◌, refl, sym, ap, ◌∙◌}
+use mathlib.Core.Path.{◌≡◌, refl, sym, ap}
 use mathlib.Core.Logic.{⊎_elim}
 use mathlib.Core.List.{List, [], ◌∷◌}
 use mathlib.Core.Bool.{false, ◌||◌}
-use Prim.Native.Nat.{ℕ, ◌+◌, ◌-◌, ◌<◌, ◌≤◌}
+use Prim.Native.Nat.{ℕ, ◌<◌, ◌≤◌}
 use native.Mathlib.Omega.{arith}
 use borrow.Author.Tests.{ne_eqb}
 use lib.ListN.{length, length-append, get_or-eq_default}
@@ -12,35 +12,38 @@ use Rattle.facts.proofs.Numbers.{lt-or-ge}
 use Rattle.facts.proofs.Cases.{Each, below, ◌▷◌}
 use Rattle.screen_number.specs.Number.{bytes, decimal}
 use Rattle.screen_number.proofs.Decimal.{decimal-length}
+use Rattle.screen_number.proofs.Apart.{Among, Apart, not-among}
 use Rattle.screen_head.specs.Kinds.{rows, row, row_of, word, named, unknown, kind_number}
 use Rattle.screen_head.specs.Head.{has_sign}
-
-pub no_word : (k : ℕ) → row_of k ≡ unknown → kind_number k ≡ word k
-unfolding word named unknown
-no_word k e = sym (ap (λ r. named k r.name) e)
 
 pub none-behind : (k : ℕ) → 33 ≤ k → row_of k ≡ unknown
 unfolding row_of rows row
 none-behind k h = get_or-eq_default rows unknown h
 
-abbrev None : ℕ → Type 0
-None k = row_of (9 + k) ≡ unknown
+-- a kind that is none of those with a word has none
+abbrev with_words : List ℕ
+with_words =
+    1 ∷ 2 ∷ 3 ∷ 4 ∷ 5 ∷ 6 ∷ 7 ∷ 8 ∷ 16 ∷ 17 ∷ 18 ∷ 19 ∷ 20 ∷ 21 ∷ 22 ∷ 23 ∷ 24 ∷ 25 ∷ 26 ∷ 27 ∷ 28 ∷ 29 ∷ 30 ∷ 31 ∷ 32 ∷ []
 
-none_each : Each None 0 7
+abbrev Wordless : ℕ → Type 0
+Wordless k = (Among k with_words → ⊥) → (row_of k).name ≡ []
+
+wordless_each : Each Wordless 0 33
 unfolding row_of rows row unknown
-none_each = refl ▷ refl ▷ refl ▷ refl ▷ refl ▷ refl ▷ refl ▷ tt
+wordless_each =
+    (λ n. refl) ▷ (λ n. absurd (n tt)) ▷ (λ n. absurd (n tt)) ▷ (λ n. absurd (n tt)) ▷ (λ n. absurd (n tt)) ▷ (λ n. absurd (n tt))
+    ▷ (λ n. absurd (n tt)) ▷ (λ n. absurd (n tt)) ▷ (λ n. absurd (n tt)) ▷ (λ n. refl) ▷ (λ n. refl) ▷ (λ n. refl) ▷ (λ n. refl)
+    ▷ (λ n. refl) ▷ (λ n. refl) ▷ (λ n. refl) ▷ (λ n. absurd (n tt)) ▷ (λ n. absurd (n tt)) ▷ (λ n. absurd (n tt))
+    ▷ (λ n. absurd (n tt)) ▷ (λ n. absurd (n tt)) ▷ (λ n. absurd (n tt)) ▷ (λ n. absurd (n tt)) ▷ (λ n. absurd (n tt))
+    ▷ (λ n. absurd (n tt)) ▷ (λ n. absurd (n tt)) ▷ (λ n. absurd (n tt)) ▷ (λ n. absurd (n tt)) ▷ (λ n. absurd (n tt))
+    ▷ (λ n. absurd (n tt)) ▷ (λ n. absurd (n tt)) ▷ (λ n. absurd (n tt)) ▷ (λ n. absurd (n tt)) ▷ tt
 
-pub none_between : (k : ℕ) → 9 ≤ k → k < 16 → row_of k ≡ unknown
-none_between k h l =
-    let e : 9 + (k - 9) ≡ k = omega arith in
-    ap row_of (sym e) ∙ below None 7 none_each (k - 9) (omega arith)
-
-none-zero : row_of 0 ≡ unknown
-unfolding row_of rows row unknown
-none-zero = refl
-
-pub none_first : (k : ℕ) → k < 1 → row_of k ≡ unknown
-none_first k h = let e : k ≡ 0 = omega arith in ap row_of e ∙ none-zero
+pub wordless : (k : ℕ) → Apart k with_words → word k ≡ kind_number k
+unfolding word named unknown
+wordless k n = ap (λ x. named k x) (⊎_elim
+    (λ (l : k < 33). below Wordless 33 wordless_each k l (not-among k with_words n))
+    (λ (l : 33 ≤ k). ap (λ r. r.name) (none-behind k l))
+    (lt-or-ge k 33))
 
 -- a word has 15 bytes at most, and one with a number 25
 kind-number-length : (k : ℕ) → length (kind_number k) ≤ 25
@@ -62,10 +65,10 @@ named-length k [] h = kind-number-length k
 named-length k (b ∷ x) h = omega arith
 
 pub word-length : (k : ℕ) → length (word k) ≤ 25
-unfolding word
+unfolding word named unknown
 word-length k = ⊎_elim
     (λ (l : k < 33). named-length k (row_of k).name (leb→le (length (row_of k).name) 15 (below Short 33 short-each k l)))
-    (λ (l : 33 ≤ k). rw (← (no_word k (none-behind k l))) (kind-number-length k))
+    (λ (l : 33 ≤ k). rw (none-behind k l) (kind-number-length k))
     (lt-or-ge k 33)
 
 -- 19 and 22 alone have a sign
@@ -87,14 +90,3 @@ sign_of k = ⊎_elim
     (λ (l : k < 33). below Signed 33 signed-each k l)
     (λ (l : 33 ≤ k). rw (ne_eqb k 19 (λ e. omega (arith, e, l)), ne_eqb k 22 (λ e. omega (arith, e, l))) (unknown-sign k (none-behind k l)))
     (lt-or-ge k 33)
-
--- what is left of the marks where none of the others is it
-from-five : (k : ℕ) → 1 ≤ k → (k ≡ 1 → ⊥) → (k ≡ 2 → ⊥) → (k ≡ 3 → ⊥) → (k ≡ 4 → ⊥) → 5 ≤ k
-from-five k h a b c d = omega arith
-
-to-eight : (k : ℕ) → 5 ≤ k → k < 9 → (k ≡ 5 → ⊥) → (k ≡ 6 → ⊥) → (k ≡ 7 → ⊥) → 8 ≡ k
-to-eight k h l a b c = omega arith
-
-pub last-mark : (k : ℕ) → (1 ≤ k) × (k < 9)
-    → (k ≡ 1 → ⊥) → (k ≡ 2 → ⊥) → (k ≡ 3 → ⊥) → (k ≡ 4 → ⊥) → (k ≡ 5 → ⊥) → (k ≡ 6 → ⊥) → (k ≡ 7 → ⊥) → 8 ≡ k
-last-mark k h a b c d e f g = to-eight k (from-five k h.0 a b c d) h.1 e f g

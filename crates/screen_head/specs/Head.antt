@@ -1,5 +1,6 @@
 -- An entry's five words in their columns.
 use Rattle.std.specs.Prelude.{ℕ, List, ◌∷◌, ◌++◌, Bool, true, false}
+use Rattle.rules.specs.declared.Entry.{Entry}
 use Rattle.screen_number.specs.Number.{decimal, signed_decimal, left, right, blank}
 use Rattle.screen_head.specs.Kinds.{Shows, plain, signed, as_hex, as_float, as_seconds, as_text, as_bytes, row_of, word}
 
@@ -13,6 +14,10 @@ pub record Five : Type 0 where
 
 abbrev pub five : ℕ → ℕ → ℕ → ℕ → ℕ → Five
 five k p b v n = record { kind = k; place = p; bits = b; value = v; number = n }
+
+-- as the code has them
+abbrev pub five_of : Entry → Five
+five_of e = five e.kind e.place.0 e.bits e.value e.number
 
 -- whether a value is shown with its sign
 unfoldable pub has_sign : Shows → Bool

@@ -7,10 +7,11 @@ ghost use Rattle.std.specs.Prelude.{◌≡◌, ◌∷◌, ◌+◌, ◌-◌, ◌�
 ghost use Rattle.std.proofs.lemmas.List.Edits.{sets};
 ghost use Rattle.screen_number.specs.Number.{decimal, left};
 ghost use Rattle.screen_head.specs.Kinds.{row_of, word};
-ghost use Rattle.screen_head.specs.Head.{head, five, column, value_of_kind, has_sign};
+ghost use Rattle.screen_head.specs.Head.{head, five_of, column, value_of_kind, has_sign};
 
 use kinds::put_word;
 use numbers::entries;
+use rules::Entry;
 use screen_number::{put_right, put_signed_right, put_times};
 
 mod kinds;
@@ -27,24 +28,16 @@ const VALUE_WIDTH: usize = 21;
 const NUMBER_WIDTH: usize = 5;
 
 // Place, bits, value and the number of the class record, each at the right end of its column; the kind's word at the left end.
-pub fn put_head(
-    out: &mut [u8],
-    at: usize,
-    kind: u64,
-    place: u64,
-    bits: u64,
-    value: u64,
-    number: u64,
-) -> usize
+pub fn put_head(out: &mut [u8], at: usize, entry: Entry) -> usize
     requires { at + 112 ≤ length out.old }
-    ensures value { result ≡ at + length (head (five kind place bits value number)) }
-    ensures out_after { out.new ≡ sets out.old at (head (five kind place bits value number)) }
+    ensures value { result ≡ at + length (head (five_of entry)) }
+    ensures out_after { out.new ≡ sets out.old at (head (five_of entry)) }
 {
-    let behind_kind = put_kind(out, at, kind);
-    let behind_place = put_column(out, behind_kind, PLACE_WIDTH, place);
-    let behind_bits = put_column(out, behind_place, BITS_WIDTH, bits);
-    let behind_value = put_value(out, behind_bits, kind, value);
-    put_column(out, behind_value, NUMBER_WIDTH, number)
+    let behind_kind = put_kind(out, at, entry.kind);
+    let behind_place = put_column(out, behind_kind, PLACE_WIDTH, entry.place.0);
+    let behind_bits = put_column(out, behind_place, BITS_WIDTH, entry.bits);
+    let behind_value = put_value(out, behind_bits, entry.kind, entry.value);
+    put_column(out, behind_value, NUMBER_WIDTH, entry.number)
 }
 
 fn put_kind(out: &mut [u8], at: usize, kind: u64) -> usize
@@ -53,11 +46,8 @@ fn put_kind(out: &mut [u8], at: usize, kind: u64) -> usize
     ensures out_after { out.new ≡ sets out.old at (left 15 (word kind)) }
 {
     let end = put_word(out, at, kind);
-    let width = end - at;
-    if width < KIND_WIDTH {
-        return put_times(out, end, KIND_WIDTH - width, b' ');
-    }
-    end
+    let blanks = KIND_WIDTH.saturating_sub(end - at);
+    put_times(out, end, blanks, b' ')
 }
 
 fn put_column(out: &mut [u8], at: usize, width: usize, n: u64) -> usize

@@ -4,47 +4,68 @@ use mathlib.Core.List.{List, [], ◌∷◌, ◌++◌}
 use mathlib.Core.Bool.{true, false}
 use Prim.Native.Nat.{ℕ, ◌<◌, ◌≤◌}
 use borrow.Author.Tests.{eq-eqb, ne_eqb}
-use lib.ListN.{length, get_or, get_or-eq_default}
+use lib.ListN.{length, get_or-eq_default}
 use Rattle.facts.proofs.Cases.{Each, below, ◌▷◌}
 use Rattle.screen_number.specs.Number.{bytes}
-use Rattle.screen_head.specs.Kinds.{Shows, plain, signed, as_hex, as_float, as_seconds, as_text, as_bytes, row_of, rows, row, unknown}
-use Rattle.screen_head.specs.Head.{Five, five}
-use Rattle.screen_meaning.specs.Bytes.{blob, bit_array}
+use Rattle.screen_head.specs.Kinds.{Shows, plain, signed, as_hex, as_float, as_seconds, as_text, as_bytes, row_of, rows, unknown}
+use Rattle.screen_head.specs.Head.{Five}
+use Rattle.screen_number.proofs.Apart.{Among, Apart, not-among}
+use Rattle.facts.proofs.Numbers.{lt-or-ge}
+use native.Mathlib.Omega.{arith}
+use mathlib.Core.Logic.{⊎_elim}
+use Rattle.screen_line.specs.declared.meant.Sort.{Sort}
+use Rattle.screen_line.specs.declared.meant.Sort.TheVariants.{Nothing, Hex, Float, Seconds, Text, Bytes}
+use Rattle.screen_meaning.specs.Bytes.{blob}
 use Rattle.screen_meaning.specs.Seconds.{seconds}
-use Rattle.screen_meaning.specs.Float.{shown_float}
-use Rattle.screen_line.specs.Line.{meaning, bytes_of, clock_meaning, blob_meaning}
+use Rattle.screen_line.specs.Line.{meaning, clock_meaning, blob_meaning}
 use Rattle.screen_line.specs.Pieces.{sort_of, sort_of_kind, is_text}
-use Rattle.screen_line.specs.Sorts.{short_meaning, from_seconds}
+use Rattle.screen_line.specs.Sorts.{short_meaning, from_seconds, number_of, sorts}
 
--- by kind, as the code has it
-abbrev pub sorts : List ℕ
-sorts =
-    0 ∷ 0 ∷ 0 ∷ 0 ∷ 0 ∷ 0 ∷ 3 ∷ 0 ∷ 0 ∷ 0 ∷ 0 ∷ 0 ∷ 0 ∷ 0 ∷ 0 ∷ 0 ∷ 1 ∷ 0 ∷ 0 ∷ 0 ∷ 2 ∷ 0 ∷ 0 ∷ 4 ∷ 4 ∷ 5 ∷ 4 ∷ 5 ∷ 0 ∷ 0 ∷ 0 ∷ 0 ∷ 0 ∷ []
-
-abbrev Right : ℕ → Type 0
-Right k = get_or sorts k 0 ≡ sort_of_kind k
-
-all_right : Each Right 0 33
-unfolding sort_of_kind sort_of row_of rows row unknown
-all_right =
-    refl ▷ refl ▷ refl ▷ refl ▷ refl ▷ refl ▷ refl ▷ refl ▷ refl ▷ refl ▷ refl ▷ refl ▷ refl ▷ refl ▷ refl ▷ refl ▷ refl ▷ refl ▷ refl
-    ▷ refl ▷ refl ▷ refl ▷ refl ▷ refl ▷ refl ▷ refl ▷ refl ▷ refl ▷ refl ▷ refl ▷ refl ▷ refl ▷ refl ▷ tt
-
-pub sort-at : (k : ℕ) → k < 33 → get_or sorts k 0 ≡ sort_of_kind k
-sort-at k h = below Right 33 all_right k h
-
-pub sort-above : (k : ℕ) → 33 ≤ k → 0 ≡ sort_of_kind k
-unfolding sort_of_kind sort_of row_of rows row unknown
+sort-above : (k : ℕ) → 33 ≤ k → 0 ≡ sort_of_kind k
+unfolding sorts
 sort-above k h = rw (get_or-eq_default rows unknown {n = k} h)
+
+-- a kind that is none of these has nothing behind its numbers
+abbrev sorted : List ℕ
+sorted = 6 ∷ 16 ∷ 20 ∷ 23 ∷ 24 ∷ 25 ∷ 26 ∷ 27 ∷ []
+
+abbrev Sortless : ℕ → Type 0
+Sortless k = (Among k sorted → ⊥) → 0 ≡ sort_of_kind k
+
+sortless_each : Each Sortless 0 33
+unfolding sorts
+sortless_each =
+    (λ n. refl) ▷ (λ n. refl) ▷ (λ n. refl) ▷ (λ n. refl) ▷ (λ n. refl) ▷ (λ n. refl) ▷ (λ n. absurd (n tt)) ▷ (λ n. refl) ▷
+    (λ n. refl) ▷ (λ n. refl) ▷ (λ n. refl) ▷ (λ n. refl) ▷ (λ n. refl) ▷ (λ n. refl) ▷ (λ n. refl) ▷ (λ n. refl) ▷
+    (λ n. absurd (n tt)) ▷ (λ n. refl) ▷ (λ n. refl) ▷ (λ n. refl) ▷ (λ n. absurd (n tt)) ▷ (λ n. refl) ▷ (λ n. refl) ▷
+    (λ n. absurd (n tt)) ▷ (λ n. absurd (n tt)) ▷ (λ n. absurd (n tt)) ▷ (λ n. absurd (n tt)) ▷ (λ n. absurd (n tt)) ▷ (λ n. refl) ▷
+    (λ n. refl) ▷ (λ n. refl) ▷ (λ n. refl) ▷ (λ n. refl) ▷ tt
+
+pub sortless : (k : ℕ) → Apart k sorted → 0 ≡ sort_of_kind k
+sortless k n = ⊎_elim
+    (λ (l : k < 33). below Sortless 33 sortless_each k l (not-among k sorted n))
+    (λ (l : 33 ≤ k). sort-above k l)
+    (lt-or-ge k 33)
 
 -- a text or not
 pub is-text : (e : Five) (n : ℕ) → n ≡ sort_of_kind e.kind → n ≡ 4 → is_text e ≡ true
 unfolding is_text
 is-text e n h k = eq-eqb (sort_of_kind e.kind) 4 (sym h ∙ k)
 
-pub no_text : (e : Five) (n : ℕ) → n ≡ sort_of_kind e.kind → (n ≡ 4 → ⊥) → is_text e ≡ false
+no_text : (e : Five) (n : ℕ) → n ≡ sort_of_kind e.kind → (n ≡ 4 → ⊥) → is_text e ≡ false
 unfolding is_text
 no_text e n h k = ne_eqb (sort_of_kind e.kind) 4 (λ z. k (h ∙ z))
+
+text-number : (o : Sort) → number_of o ≡ 4 → o ≡ Text
+text-number Nothing e = absurd (omega (arith, e))
+text-number Hex e = absurd (omega (arith, e))
+text-number Float e = absurd (omega (arith, e))
+text-number Seconds e = absurd (omega (arith, e))
+text-number Text e = refl
+text-number Bytes e = absurd (omega (arith, e))
+
+pub not-text : (e : Five) (o : Sort) → number_of o ≡ sort_of_kind e.kind → (o ≡ Text → ⊥) → is_text e ≡ false
+not-text e o h n = no_text e (number_of o) h (λ z. n (text-number o z))
 
 -- the meaning of what is no text
 by-sort : (h : Shows) (s : List ℕ) (f : ℕ) (e : Five) → (sort_of h ≡ 4 → ⊥) → short_meaning (sort_of h) s f e ≡ meaning h s f e
@@ -61,40 +82,6 @@ pub meant-by : (s : List ℕ) (f : ℕ) (e : Five) (n : ℕ) → n ≡ sort_of_k
     → short_meaning n s f e ≡ meaning (row_of e.kind).shows s f e
 unfolding sort_of_kind
 meant-by s f e n h k = ap (λ j. short_meaning j s f e) h ∙ by-sort (row_of e.kind).shows s f e (λ z. k (h ∙ z))
-
--- it goes by place, bits and value alone
-pub same-meaning : (n : ℕ) (s : List ℕ) (f k p b v m : ℕ) → short_meaning n s f (five 0 p b v 0) ≡ short_meaning n s f (five k p b v m)
-unfolding short_meaning from_seconds bytes_of
-same-meaning n s f k p b v m = refl
-
--- case by case
-pub means-hex : (n : ℕ) (s : List ℕ) (f : ℕ) (e : Five) → n ≡ 1 → bytes "  " ++ bit_array e.bits e.value ≡ short_meaning n s f e
-unfolding short_meaning
-means-hex n s f e h = simp (short_meaning, eq-eqb n 1 h)
-
-pub means-float : (n : ℕ) (s : List ℕ) (f : ℕ) (e : Five) → (n ≡ 1 → ⊥) → n ≡ 2
-    → bytes "  " ++ shown_float e.bits e.value ≡ short_meaning n s f e
-unfolding short_meaning
-means-float n s f e h k = simp (short_meaning, ne_eqb n 1 h, eq-eqb n 2 k)
-
-means-other : (n : ℕ) (s : List ℕ) (f : ℕ) (e : Five) → (n ≡ 1 → ⊥) → (n ≡ 2 → ⊥) → from_seconds n s f e ≡ short_meaning n s f e
-unfolding short_meaning
-means-other n s f e h k = simp (short_meaning, ne_eqb n 1 h, ne_eqb n 2 k)
-
-pub means-seconds : (n : ℕ) (s : List ℕ) (f : ℕ) (e : Five) → (n ≡ 1 → ⊥) → (n ≡ 2 → ⊥) → n ≡ 3
-    → clock_meaning f e.value ≡ short_meaning n s f e
-unfolding from_seconds
-means-seconds n s f e h k z = simp (from_seconds, eq-eqb n 3 z) at (means-other n s f e h k)
-
-pub means-bytes : (n : ℕ) (s : List ℕ) (f : ℕ) (e : Five) → (n ≡ 1 → ⊥) → (n ≡ 2 → ⊥) → (n ≡ 3 → ⊥) → n ≡ 5
-    → blob_meaning (bytes_of s e) ≡ short_meaning n s f e
-unfolding from_seconds
-means-bytes n s f e h k z y = simp (from_seconds, ne_eqb n 3 z, eq-eqb n 5 y) at (means-other n s f e h k)
-
-pub means-nothing : (n : ℕ) (s : List ℕ) (f : ℕ) (e : Five) → (n ≡ 1 → ⊥) → (n ≡ 2 → ⊥) → (n ≡ 3 → ⊥) → (n ≡ 5 → ⊥)
-    → [] ≡ short_meaning n s f e
-unfolding from_seconds
-means-nothing n s f e h k z y = simp (from_seconds, ne_eqb n 3 z, ne_eqb n 5 y) at (means-other n s f e h k)
 
 -- a clock and a BLOB
 pub no-clock-meant : (f v : ℕ) → f ≡ 0 → [] ≡ clock_meaning f v

@@ -14,9 +14,8 @@ use Rattle.facts.proofs.Numbers.{lt-or-ge}
 use Rattle.rules.specs.Limits.{words_per_entry}
 use Rattle.rules.specs.Entry.{stream_class_found}
 use Rattle.screen_clock.specs.Frequency.{frequency_of}
-use Rattle.screen_head.specs.Head.{Five, five}
-use Rattle.screen_line.specs.Line.{bytes_of}
-use Rattle.screen_line.specs.Pieces.{pieces, is_text}
+use Rattle.screen_head.specs.Head.{Five}
+use Rattle.screen_line.specs.Pieces.{pieces}
 use Rattle.screen_list.specs.declared.Put.{Put}
 use Rattle.screen_list.specs.Lines.{entries_in, settled}
 use Rattle.screen_list.specs.Rest.{rest_of, pieces_from}
@@ -69,22 +68,13 @@ entries-most words n = ⊎_elim
     (lt-or-ge (words / words_per_entry) n)
 
 -- the frequency
-pub settled-anew : (t : List ℕ) (f k p b v n : ℕ) → k ≡ stream_class_found → frequency_of t v ≡ settled t f (five k p b v n)
+pub settled-anew : (t : List ℕ) (f : ℕ) (e : Five) → e.kind ≡ stream_class_found → frequency_of t e.value ≡ settled t f e
 unfolding settled
-settled-anew t f k p b v n h = simp (settled, eq-eqb k stream_class_found h)
+settled-anew t f e h = simp (settled, eq-eqb e.kind stream_class_found h)
 
-pub settled_before : (t : List ℕ) (f k p b v n : ℕ) → (k ≡ stream_class_found → ⊥) → f ≡ settled t f (five k p b v n)
+pub settled_before : (t : List ℕ) (f : ℕ) (e : Five) → (e.kind ≡ stream_class_found → ⊥) → f ≡ settled t f e
 unfolding settled
-settled_before t f k p b v n h = simp (settled, ne_eqb k stream_class_found h)
-
--- what `pieces` and `settle` answer by some of the words is so by all of them
-pub pieces-by : (s : List ℕ) (k p b v n : ℕ) → pieces s (five k p 0 v 0) ≡ pieces s (five k p b v n)
-unfolding pieces is_text bytes_of
-pieces-by s k p b v n = refl
-
-pub settled-by : (t : List ℕ) (f k p b v n : ℕ) → settled t f (five k 0 0 v 0) ≡ settled t f (five k p b v n)
-unfolding settled
-settled-by t f k p b v n = refl
+settled_before t f e h = simp (settled, ne_eqb e.kind stream_class_found h)
 
 -- what the code makes of its callees' answers
 abbrev put_of : ℕ → ℕ → ℕ → Bool → Put
@@ -93,20 +83,15 @@ put_of k u f w = record { piece = k; used = u; frequency = f; whole = w }
 put_same : {k k' u u' f f' : ℕ} {w w' : Bool} → k ≡ k' → u ≡ u' → f ≡ f' → w ≡ w' → put_of k u f w ≡ put_of k' u' f' w'
 put_same m n o p = cc
 
-module _ (t s l l' : List ℕ) (u k f g p to end kind place bits value number : ℕ) where
-  abbrev e : Five
-  e = five kind place bits value number
-
+module _ (t s l l' : List ℕ) (u k f g p to end : ℕ) (e : Five) where
   abbrev text : ℕ → ℕ → List ℕ
   text n z = laid_text (n - k) s z e (length l) u k
 
-  pub entry-put : g ≡ settled t f (five kind 0 0 value 0) → p ≡ pieces s (five kind place 0 value 0)
+  pub entry-put : g ≡ settled t f e → p ≡ pieces s e
       → ((to ≡ laid_to (p - k) s g e (length l) u k) × (end ≡ u + length (text p g))) × (l' ≡ sets l u (text p g))
       → (put_of to end g (leb p to) ≡ put_to t s e (length l) u k f) × (l' ≡ sets l u (put_text t s e (length l) u k f))
   unfolding put_to put_text
-  entry-put m n h =
-      let a : g ≡ settled t f e = m ∙ settled-by t f kind place bits value number in
-      let b : p ≡ pieces s e = n ∙ pieces-by s kind place bits value number in
+  entry-put a b h =
       let x : text p g ≡ text (pieces s e) (settled t f e) = ap (λ j. text j g) b ∙ ap (λ z. text (pieces s e) z) a in
       let y : to ≡ laid_to (pieces s e - k) s (settled t f e) e (length l) u k =
       h.0.0 ∙ ap (λ j. laid_to (j - k) s g e (length l) u k) b ∙ ap (λ z. laid_to (pieces s e - k) s z e (length l) u k) a

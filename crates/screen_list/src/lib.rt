@@ -5,7 +5,7 @@
 ghost use Rattle.std.specs.Prelude.{◌≡◌, ◌+◌, ◌-◌, ◌/◌, ◌≤◌, ◌<◌, length};
 ghost use Rattle.std.proofs.lemmas.List.Edits.{sets};
 ghost use Rattle.rules.specs.Limits.{words_per_entry};
-ghost use Rattle.screen_head.specs.Head.{five};
+ghost use Rattle.screen_head.specs.Head.{five_of};
 ghost use Rattle.screen_line.specs.Pieces.{piece as Pieces·piece};
 ghost use Rattle.screen_list.specs.Lines.{entries_in, entry_at, settled};
 ghost use Rattle.screen_list.specs.Rest.{first_mark};
@@ -13,6 +13,7 @@ ghost use Rattle.screen_list.specs.Fill.{laid_to, laid_text, put_to, put_text, f
 
 use numbers::entries::STREAM_CLASS_FOUND;
 use numbers::limits::WORDS_PER_ENTRY;
+use rules::{BitPlace, Entry};
 use screen_clock::frequency_of;
 use screen_line::{pieces, put_piece};
 
@@ -27,7 +28,8 @@ pub struct Mark {
     pub frequency: u64,
 }
 
-// How far a call came, how many bytes it wrote, and whether nothing is left. Where something is, less than a piece's room was left.
+// How far a call came, how many bytes it wrote, and whether nothing is left. Where something is, less than a piece's room was left. The
+// flag goes beside the mark: both are there either way, and `Goes` speaks of both.
 #[derive(Clone, Copy)]
 pub struct Filled {
     pub mark: Mark,
@@ -61,14 +63,13 @@ pub fn fill(
         (written table.now stream.now list.now entries (length out.old) mark) }
 {
     let count = entries_in(list, entries);
-    let mut at = mark.entry;
     let mut piece = mark.piece;
     let mut frequency = mark.frequency;
     let mut used = 0;
-    while at < count {
+    for at in mark.entry..count {
         let put = put_entry(out, used, table, stream, list, at, piece, frequency);
         used = put.used;
-        if put.whole {} else {
+        if !put.whole {
             let next = Mark {
                 entry: at,
                 piece: put.piece,
@@ -82,10 +83,9 @@ pub fn fill(
         }
         frequency = put.frequency;
         piece = 0;
-        at += 1;
     }
     let end = Mark {
-        entry: at,
+        entry: mark.entry.max(count),
         piece: piece,
         frequency: frequency,
     };
@@ -107,7 +107,7 @@ fn entries_in(list: &[u64], entries: usize) -> usize
 }
 
 // What was put of an entry's line: the piece that it came to, the end of what is used, the frequency behind the entry, and whether it was
-// the whole line.
+// the whole line. The others are there either way (`put_to`).
 #[derive(Clone, Copy)]
 struct Put {
     piece: usize,
@@ -135,16 +135,16 @@ fn put_entry(
         (length out.old) used piece frequency) }
 {
     let from = at * WORDS_PER_ENTRY;
-    let kind = list[from];
-    let place = list[from + 1];
-    let bits = list[from + 2];
-    let value = list[from + 3];
-    let number = list[from + 4];
-    let turns = settle(table, frequency, kind, value);
-    let count = pieces(stream, kind, place, value);
-    let laid = put_pieces(
-        out, used, stream, turns, kind, place, bits, value, number, piece, count,
-    );
+    let entry = Entry {
+        kind: list[from],
+        place: BitPlace(list[from + 1]),
+        bits: list[from + 2],
+        value: list[from + 3],
+        number: list[from + 4],
+    };
+    let turns = settle(table, frequency, entry);
+    let count = pieces(stream, entry);
+    let laid = put_pieces(out, used, stream, turns, entry, piece, count);
     Put {
         piece: laid.piece,
         used: laid.used,
@@ -154,11 +154,11 @@ fn put_entry(
 }
 
 // "stream-class" settles the clock of what follows.
-fn settle(table: &[u8], frequency: u64, kind: u64, id: u64) -> u64
-    ensures { result ≡ settled table.now frequency (five kind 0 0 id 0) }
+fn settle(table: &[u8], frequency: u64, entry: Entry) -> u64
+    ensures { result ≡ settled table.now frequency (five_of entry) }
 {
-    if kind == STREAM_CLASS_FOUND {
-        return frequency_of(table, id);
+    if entry.kind == STREAM_CLASS_FOUND {
+        return frequency_of(table, entry.value);
     }
     frequency
 }
@@ -175,37 +175,28 @@ fn put_pieces(
     used: usize,
     stream: &[u8],
     frequency: u64,
-    kind: u64,
-    place: u64,
-    bits: u64,
-    value: u64,
-    number: u64,
+    entry: Entry,
     piece: usize,
     count: usize,
 ) -> Reached
     requires { used ≤ length out.old }
-    ensures piece_value { (result.piece ≡ laid_to (count - piece) stream.now frequency (five kind place bits value number)
-        (length out.old) used piece) × (result.used ≡ used + length (laid_text (count - piece) stream.now frequency
-        (five kind place bits value number) (length out.old) used piece)) }
-    ensures out_after { out.new ≡ sets out.old used (laid_text (count - piece) stream.now frequency
-        (five kind place bits value number) (length out.old) used piece) }
+    ensures piece_value { (result.piece ≡ laid_to (count - piece) stream.now frequency (five_of entry) (length out.old) used piece)
+        × (result.used ≡ used + length (laid_text (count - piece) stream.now frequency (five_of entry) (length out.old) used piece)) }
+    ensures out_after { out.new ≡ sets out.old used
+        (laid_text (count - piece) stream.now frequency (five_of entry) (length out.old) used piece) }
 {
     let mut end = used;
-    let mut i = piece;
-    while i < count {
+    for i in piece..count {
         if out.len() - end < PIECE_ROOM {
             return Reached {
                 piece: i,
                 used: end,
             };
         }
-        end = put_at(
-            out, end, stream, frequency, kind, place, bits, value, number, i,
-        );
-        i += 1;
+        end = put_at(out, end, stream, frequency, entry, i);
     }
     Reached {
-        piece: i,
+        piece: piece.max(count),
         used: end,
     }
 }
@@ -216,28 +207,13 @@ fn put_at(
     used: usize,
     stream: &[u8],
     frequency: u64,
-    kind: u64,
-    place: u64,
-    bits: u64,
-    value: u64,
-    number: u64,
+    entry: Entry,
     i: usize,
 ) -> usize
     requires { used + 256 ≤ length out.old }
-    ensures value { result ≡ used + length (Pieces·piece stream.now frequency (five kind place bits value number) i) }
-    ensures out_after { out.new ≡ sets out.old used
-        (Pieces·piece stream.now frequency (five kind place bits value number) i) }
+    ensures value { result ≡ used + length (Pieces·piece stream.now frequency (five_of entry) i) }
+    ensures out_after { out.new ≡ sets out.old used (Pieces·piece stream.now frequency (five_of entry) i) }
 {
-    let more = put_piece(
-        &mut out[used..],
-        stream,
-        frequency,
-        kind,
-        place,
-        bits,
-        value,
-        number,
-        i,
-    );
+    let more = put_piece(&mut out[used..], stream, frequency, entry, i);
     used + more
 }

@@ -151,9 +151,6 @@ decimals-some n m u d e q h k g = rw (k, g) (simp (decimals, h))
 pub one_way : (p l : ℕ) → (p - l ≡ 0) ⊎ (l - p ≡ 0)
 one_way p l = ⊎_elim (λ (h : p < l). inl (omega arith)) (λ (h : l ≤ p). inr (omega arith)) (lt-or-ge p l)
 
-pub no-up : (u d : ℕ) → (u ≡ 0) ⊎ (d ≡ 0) → (d ≡ 0 → ⊥) → u ≡ 0
-no-up u d h n = ⊎_elim (λ (e : u ≡ 0). e) (λ (e : d ≡ 0). absurd (n e)) h
-
 -- what is no number
 pub special-inf : (n x : ℕ) → x ≡ 0 → sign n ++ bytes "inf" ≡ special n x
 unfolding special

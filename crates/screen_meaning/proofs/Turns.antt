@@ -2,7 +2,7 @@
 use mathlib.Core.Path.{◌≡◌, sym, ap, ◌∙◌}
 use mathlib.Core.List.{[], ◌++◌}
 use Prim.Native.Nat.{ℕ, ◌+◌, ◌-◌, ◌*◌, ◌/◌, ◌%◌, ◌^◌, ◌<◌, ◌≤◌}
-use native.Mathlib.Nat.{div-add-mod', mod-lt, div-lt_iff_lt-mul, div-eq_of_lt-le, pow-suc, pow-le-pow_right}
+use native.Mathlib.Nat.{div-add-mod', mod-lt, div-lt_iff_lt-mul, div-eq_of_lt-le, pow-suc}
 use native.Mathlib.Numerals.{add-one}
 use native.Mathlib.Omega.{arith}
 use borrow.Author.Tests.{eq-eqb, ne_eqb}
@@ -63,9 +63,6 @@ pub record Cut (f p l n d : ℕ) : Type 0 where
   pub less : l < f
   pub few : n < 10 ^ d
 
-pub cut-none : (f p : ℕ) → p < f → Cut f p p 0 0
-cut-none f p h = record { sum = omega arith; less = h; few = omega arith }
-
 pub digit-few : (f l : ℕ) → l < f → l * 10 / f < 10
 digit-few f l h = (div-lt_iff_lt-mul {k = f} {x = l * 10} {y = 10} (omega arith)).1 (omega arith)
 
@@ -79,14 +76,6 @@ cut-more f p l n d w r g ew er =
       less = rw er (mod-lt (l * 10) (omega (arith, g.less)));
       few = omega (arith, t, g.few, ew, digit-few f l g.less);
     }
-
-pub cut-nine : (f p l n d : ℕ) → Cut f p l n d → d ≡ 9 → n ≡ p * 1000000000 / f
-cut-nine f p l n d g e = quotient f n l (p * 1000000000) (g.sum ∙ ap (λ k. p * 10 ^ k) e) g.less
-
-pub cut-room : (f p l n d : ℕ) → d < 9 → Cut f p l n d → n < 100000000
-cut-room f p l n d h g =
-    let most : 10 ^ d ≤ 10 ^ 8 = pow-le-pow_right {n = 10} (omega arith) {i = d} {j = 8} (omega arith) in
-    omega (arith, g.few, most)
 
 -- the text
 pub no-seconds : (f v : ℕ) → f ≡ 0 → [] ≡ seconds f v

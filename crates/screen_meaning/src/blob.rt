@@ -37,10 +37,8 @@ fn put_hexes(out: &mut [u8], at: usize, stream: &[u8], from: usize, n: usize) ->
     ensures out_after { out.new ≡ sets out.old at (hexes (take n (drop from stream.now))) }
 {
     let mut end = at;
-    let mut shown = 0;
-    while shown < n {
-        end = put_hex(out, end, 2, wide(stream[from + shown]));
-        shown += 1;
+    for shown in 0..n {
+        end = put_hex(out, end, 2, u64::from(stream[from + shown]));
     }
     end
 }
@@ -63,10 +61,4 @@ fn digits_of(bits: u64) -> usize
         return 16;
     }
     ((bits + 3) / 4) as usize
-}
-
-fn wide(b: u8) -> u64
-    ensures { result ≡ b }
-{
-    b as u64
 }

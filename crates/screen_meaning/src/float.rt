@@ -8,6 +8,38 @@ ghost use Rattle.screen_meaning.specs.Float.{decimals, marked, mark, six_decimal
 use crate::millionths::{below_down, below_up, is_exact, millionths, whole};
 use screen_number::{put_bytes, put_decimal, put_hex, put_zeros};
 
+// A format (IEEE 754): digits of the fraction in base 16, what an exponent is less by, the one before the fraction, and the exponent of the
+// fraction's last bit.
+#[derive(Clone, Copy)]
+struct Format {
+    digits: usize,
+    bias: u64,
+    unit: u64,
+    low: u64,
+}
+
+const BINARY32: Format = Format {
+    digits: 6,
+    bias: 127,
+    unit: 0x80_0000,
+    low: 150,
+};
+
+const BINARY64: Format = Format {
+    digits: 13,
+    bias: 1023,
+    unit: 0x10_0000_0000_0000,
+    low: 1075,
+};
+
+// A number's sign, its exponent as it is written, and its fraction.
+#[derive(Clone, Copy)]
+struct Parts {
+    negative: u64,
+    raised: u64,
+    fraction: u64,
+}
+
 // A float by its bits: exact in base 16, then in decimals.
 pub fn put_float(out: &mut [u8], at: usize, bits: u64, value: u64) -> usize
     requires { at + 96 ≤ length out.old }
@@ -15,71 +47,47 @@ pub fn put_float(out: &mut [u8], at: usize, bits: u64, value: u64) -> usize
     ensures out_after { out.new ≡ sets out.old at (shown_float bits value) }
 {
     if bits == 32 {
-        return put_binary32(
-            out,
-            at,
-            value / 0x8000_0000 % 2,
-            value / 0x80_0000 % 256,
-            value % 0x80_0000,
-        );
+        let parts = Parts {
+            negative: value / 0x8000_0000 % 2,
+            raised: value / 0x80_0000 % 256,
+            fraction: value % 0x80_0000,
+        };
+        return put_binary32(out, at, parts);
     }
-    put_binary64(
-        out,
-        at,
-        value / 0x8000_0000_0000_0000 % 2,
-        value / 0x10_0000_0000_0000 % 2048,
-        value % 0x10_0000_0000_0000,
-    )
+    let parts = Parts {
+        negative: value / 0x8000_0000_0000_0000 % 2,
+        raised: value / 0x10_0000_0000_0000 % 2048,
+        fraction: value % 0x10_0000_0000_0000,
+    };
+    put_binary64(out, at, parts)
 }
 
 const TOP_32: u64 = 255;
 
 const TOP_64: u64 = 2047;
 
-fn put_binary32(out: &mut [u8], at: usize, negative: u64, raised: u64, fraction: u64) -> usize
+fn put_binary32(out: &mut [u8], at: usize, p: Parts) -> usize
     requires at_in_bounds { at + 96 ≤ length out.old }
-    requires raised_bound { (raised < 256) × (fraction < 2 ^ 23) }
-    ensures value { result ≡ at + length (binary32 negative raised fraction) }
-    ensures out_after { out.new ≡ sets out.old at (binary32 negative raised fraction) }
+    requires raised_bound { (p.raised < 256) × (p.fraction < 2 ^ 23) }
+    ensures value { result ≡ at + length (binary32 p.negative p.raised p.fraction) }
+    ensures out_after { out.new ≡ sets out.old at (binary32 p.negative p.raised p.fraction) }
 {
-    if raised == TOP_32 {
-        return put_special(out, at, negative, fraction);
+    if p.raised == TOP_32 {
+        return put_special(out, at, p.negative, p.fraction);
     }
-    put_finite(
-        out,
-        at,
-        6,
-        127,
-        0x80_0000,
-        150,
-        negative,
-        raised,
-        fraction,
-        fraction * 2,
-    )
+    put_finite(out, at, BINARY32, p, p.fraction * 2)
 }
 
-fn put_binary64(out: &mut [u8], at: usize, negative: u64, raised: u64, fraction: u64) -> usize
+fn put_binary64(out: &mut [u8], at: usize, p: Parts) -> usize
     requires at_in_bounds { at + 96 ≤ length out.old }
-    requires raised_bound { (raised < 2048) × (fraction < 2 ^ 52) }
-    ensures value { result ≡ at + length (binary64 negative raised fraction) }
-    ensures out_after { out.new ≡ sets out.old at (binary64 negative raised fraction) }
+    requires raised_bound { (p.raised < 2048) × (p.fraction < 2 ^ 52) }
+    ensures value { result ≡ at + length (binary64 p.negative p.raised p.fraction) }
+    ensures out_after { out.new ≡ sets out.old at (binary64 p.negative p.raised p.fraction) }
 {
-    if raised == TOP_64 {
-        return put_special(out, at, negative, fraction);
+    if p.raised == TOP_64 {
+        return put_special(out, at, p.negative, p.fraction);
     }
-    put_finite(
-        out,
-        at,
-        13,
-        1023,
-        0x10_0000_0000_0000,
-        1075,
-        negative,
-        raised,
-        fraction,
-        fraction,
-    )
+    put_finite(out, at, BINARY64, p, p.fraction)
 }
 
 fn put_special(out: &mut [u8], at: usize, negative: u64, fraction: u64) -> usize
@@ -94,36 +102,20 @@ fn put_special(out: &mut [u8], at: usize, negative: u64, fraction: u64) -> usize
     put_bytes(out, at, b"nan")
 }
 
-// A number of a format by its parts.
-fn put_finite(
-    out: &mut [u8],
-    at: usize,
-    digits: usize,
-    bias: u64,
-    unit: u64,
-    low: u64,
-    negative: u64,
-    raised: u64,
-    fraction: u64,
-    full: u64,
-) -> usize
+// A number of a format by its parts, and the fraction filled to whole digits.
+fn put_finite(out: &mut [u8], at: usize, f: Format, p: Parts, full: u64) -> usize
     requires at_in_bounds { at + 96 ≤ length out.old }
-    requires digits_bound { (digits ≤ 13) × ((unit + fraction < 2 ^ 53) × (raised < 2048)) }
-    ensures value { result ≡ at + length (finite (format digits bias unit low) negative raised fraction full) }
-    ensures out_after { out.new ≡ sets out.old at (finite (format digits bias unit low) negative raised fraction full) }
+    requires digits_bound { (f.digits ≤ 13) × ((f.unit + p.fraction < 2 ^ 53) × (p.raised < 2048)) }
+    ensures value { result ≡ at + length (finite (format f.digits f.bias f.unit f.low) p.negative p.raised p.fraction full) }
+    ensures out_after { out.new ≡ sets out.old at (finite (format f.digits f.bias f.unit f.low) p.negative p.raised p.fraction full) }
 {
-    let a = put_sign(out, at, negative);
-    let b = put_exact(out, a, digits, full, bias, raised, fraction);
-    let power = power_of(raised);
-    let m = significand(unit, raised, fraction);
-    put_decimals(
-        out,
-        b,
-        negative,
-        m,
-        lacking(power, low),
-        lacking(low, power),
-    )
+    let a = put_sign(out, at, p.negative);
+    let b = put_exact(out, a, f.digits, full, f.bias, p.raised, p.fraction);
+    let power = power_of(p.raised);
+    let m = significand(f.unit, p.raised, p.fraction);
+    let up = power.saturating_sub(f.low);
+    let down = f.low.saturating_sub(power);
+    put_decimals(out, b, p.negative, m, up, down)
 }
 
 fn put_sign(out: &mut [u8], at: usize, negative: u64) -> usize
@@ -212,15 +204,6 @@ fn significand(unit: u64, raised: u64, fraction: u64) -> u64
         return fraction;
     }
     unit + fraction
-}
-
-fn lacking(n: u64, taken: u64) -> u64
-    ensures { result ≡ n - taken }
-{
-    if taken < n {
-        return n - taken;
-    }
-    0
 }
 
 // Six decimals, behind a mark that says whether they are exact; nothing from 10 to the 12 on.

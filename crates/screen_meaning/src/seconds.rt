@@ -28,12 +28,10 @@ fn nanos(frequency: u64, part: u64) -> u64
 {
     let mut left = part;
     let mut found: u64 = 0;
-    let mut digits: u64 = 0;
-    while digits < 9 {
+    for _digit in 0..9usize {
         let next = tenfold(frequency, left);
         found = found * 10 + next.whole;
         left = next.left;
-        digits += 1;
     }
     found
 }
@@ -53,15 +51,13 @@ fn tenfold(frequency: u64, part: u64) -> Digit
     let lacking = frequency - part;
     let mut whole: u64 = 0;
     let mut left: u64 = 0;
-    let mut turns: u64 = 0;
-    while turns < 10 {
+    for _turn in 0..10usize {
         if lacking <= left {
             left -= lacking;
             whole += 1;
         } else {
             left += part;
         }
-        turns += 1;
     }
     Digit { whole, left }
 }

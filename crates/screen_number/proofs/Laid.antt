@@ -1,14 +1,16 @@
 -- Laws of a text that is laid over a lent slice, and of the functions' own steps. In order: one text behind another; what a call has laid,
 -- and another behind it; so many equal bytes; digits; columns; bytes that are given.
 use mathlib.Core.Path.{◌≡◌, refl, sym, ap, subst, ◌∙◌}
-use mathlib.Core.List.{List, [], ◌∷◌, ◌++◌}
+use mathlib.Core.List.{List, [], ◌∷◌, ◌++◌, append_assoc}
 use Prim.Native.Nat.{ℕ, zero, suc, ◌+◌, ◌-◌, ◌/◌, ◌%◌, ◌^◌, ◌<◌, ◌≤◌}
 use native.Mathlib.Nat.{add-zero, add-suc, suc-add}
-use native.Mathlib.Numerals.{add-one}
 use native.Mathlib.Omega.{arith}
 use borrow.Author.Tests.{lt-ltb, le-ltb}
-use lib.ListN.{length, get_or, set, take, length-append, length-set}
-use lib.Seq.{sets, length-sets, length-take-le, take-suc}
+use lib.ListN.{length, set, take, drop, replicate, length-append}
+use lib.Seq.{sets}
+use borrow.Rule.Slice.PartMut.{put_mid}
+use Rattle.std.proofs.lemmas.Slice.{put_mid-paste}
+use Rattle.std.proofs.lemmas.List.Edits.{paste_all, sets-eq}
 use Rattle.screen_number.specs.Number.{decimal, signed_decimal, times, minus, glyph, hex, right, blank, zeros}
 use Rattle.screen_number.proofs.Decimal.{decimal-one, decimal-more}
 
@@ -47,22 +49,10 @@ same_text l m i e x y p h = (h.0 ∙ ap (λ z. i + length z) p, h.1 ∙ ap (λ z
 pub one_byte : (l : List ℕ) (i b : ℕ) → Laid l (set l i b) i (i + 1) (b ∷ [])
 one_byte l i b = record { end = refl; list = refl }
 
-pub laid-length : {l m : List ℕ} {i e : ℕ} {x : List ℕ} → Laid l m i e x → length m ≡ length l
-laid-length {l} {m} {i} {e} {x} h = ap length h.list ∙ length-sets l i x
-
-pub times_more : (n b : ℕ) → times (n + 1) b ≡ times n b ++ (b ∷ [])
-unfolding times
-times_more zero b = refl
-times_more (suc n) b = let e : suc n + 1 ≡ suc (n + 1) = omega arith in rw e (ap (λ x. b ∷ x) (times_more n b))
-
 pub length-times : (n b : ℕ) → length (times n b) ≡ n
 unfolding times
 length-times zero b = refl
 length-times (suc n) b = ap suc (length-times n b)
-
-pub times-step : (l : List ℕ) (i n b : ℕ) → set (sets l i (times n b)) (i + n) b ≡ sets l i (times (n + 1) b)
-times-step l i n b =
-    rw (times_more n b) (ap (λ k. set (sets l i (times n b)) (i + k) b) (sym (length-times n b)) ∙ sets-append l i (times n b) (b ∷ []))
 
 -- a number of one digit, and one of more
 module _ (n : ℕ) (h : n < 10) where
@@ -126,26 +116,6 @@ high-laid l i w h k = let e : i + 1 ≡ suc i = omega arith in rw (e, ← (signe
 pub high-length : (w : ℕ) → 2 ^ 63 ≤ w → w < 2 ^ 64 → 1 + length (decimal (2 ^ 64 - 1 - w + 1)) ≡ length (signed_decimal w)
 high-length w h k = rw (← (signed_high w h k)) (omega arith)
 
--- bytes one behind the other
-pub two-laid : (l : List ℕ) (i a b : ℕ) → set (set l i a) (i + 1) b ≡ sets l i (a ∷ b ∷ [])
-two-laid l i a b = let e : i + 1 ≡ suc i = omega arith in rw e
-
-pub four-laid : (l : List ℕ) (i a b c d : ℕ) → set (set (set (set l i a) (i + 1) b) (i + 2) c) (i + 3) d ≡ sets l i (a ∷ b ∷ c ∷ d ∷ [])
-four-laid l i a b c d =
-    let e : i + 1 ≡ suc i = omega arith in
-    let f : i + 2 ≡ suc (suc i) = omega arith in
-    let g : i + 3 ≡ suc (suc (suc i)) = omega arith in
-    rw (e, f, g)
-
-pub length_two : (l : List ℕ) (i j a b : ℕ) → length (set (set l i a) j b) ≡ length l
-length_two l i j a b = length-set (set l i a) j b ∙ length-set l i a
-
-pub length_three : (l : List ℕ) (i j k a b c : ℕ) → length (set (set (set l i a) j b) k c) ≡ length l
-length_three l i j k a b c = length-set (set (set l i a) j b) k c ∙ length_two l i j a b
-
-pub length-four : (l : List ℕ) (i j k m a b c d : ℕ) → length (set (set (set (set l i a) j b) k c) m d) ≡ length l
-length-four l i j k m a b c d = length-set (set (set (set l i a) j b) k c) m d ∙ length_three l i j k a b c
-
 -- a column: blanks, and the text at its right end
 pub right-length : (w : ℕ) (x : List ℕ) → w - length x + length x ≡ length (right w x)
 unfolding right
@@ -166,16 +136,13 @@ pub fills-zeros : (w n v : ℕ) → n ≡ w - length (decimal v) → times n 48 
 unfolding zeros
 fills-zeros w n v e = ap (λ k. times k 48 ++ decimal v) e
 
--- bytes that are given, the first i of them
-pub copied_none : (l : List ℕ) (i : ℕ) (g : List ℕ) → l ≡ sets l i (take 0 g)
-copied_none l i g = refl
+-- a part of the room that was lent and came back
+pub part-laid : (a k : ℕ) (l x y : List ℕ) → y ≡ x → k ≡ length x → a + length x ≤ length l → put_mid a k l y ≡ sets l a x
+part-laid a k l x y e n h =
+    put_mid-paste a k l y x (length x) e (sym n) refl ∙ paste_all l a x (length x) refl
+    ∙ sym (sets-eq x l a h ∙ append_assoc (take a l) x (drop (a + length x) l))
 
-pub copied-step : (l m : List ℕ) (i k : ℕ) (g : List ℕ) → k < length g → m ≡ sets l i (take k g)
-    → set m (i + k) (get_or g k 0) ≡ sets l i (take (k + 1) g)
-copied-step l m i k g h e =
-    let s : k + 1 ≡ suc k = add-one k in
-    let n : length (take k g) ≡ k = length-take-le k g (omega arith) in
-    rw (s, take-suc g k 0 h)
-    (ap (λ z. set z (i + k) (get_or g k 0)) e
-    ∙ ap (λ z. set (sets l i (take k g)) (i + z) (get_or g k 0)) (sym n)
-    ∙ sets-append l i (take k g) (get_or g k 0 ∷ []))
+pub times-replicate : (n b : ℕ) → replicate n b ≡ times n b
+unfolding times
+times-replicate zero b = refl
+times-replicate (suc n) b = ap (λ x. b ∷ x) (times-replicate n b)

@@ -12,7 +12,8 @@ pub fn put_right(out: &mut [u8], at: usize, width: usize, n: u64) -> usize
     ensures value { result ≡ at + length (right width (decimal n)) }
     ensures out_after { out.new ≡ sets out.old at (right width (decimal n)) }
 {
-    let blanks = lacking(width, figures(n));
+    let taken = figures(n);
+    let blanks = width.saturating_sub(taken);
     let from = put_times(out, at, blanks, b' ');
     put_decimal(out, from, n)
 }
@@ -23,7 +24,8 @@ pub fn put_signed_right(out: &mut [u8], at: usize, width: usize, word: u64) -> u
     ensures value { result ≡ at + length (right width (signed_decimal word)) }
     ensures out_after { out.new ≡ sets out.old at (right width (signed_decimal word)) }
 {
-    let free = lacking(width, signed_figures(word));
+    let taken = signed_figures(word);
+    let free = width.saturating_sub(taken);
     let from = put_times(out, at, free, b' ');
     put_signed(out, from, word)
 }
@@ -34,7 +36,8 @@ pub fn put_zeros(out: &mut [u8], at: usize, width: usize, n: u64) -> usize
     ensures value { result ≡ at + length (zeros width n) }
     ensures out_after { out.new ≡ sets out.old at (zeros width n) }
 {
-    let missing = lacking(width, figures(n));
+    let taken = figures(n);
+    let missing = width.saturating_sub(taken);
     let behind = put_times(out, at, missing, b'0');
     put_decimal(out, behind, n)
 }
@@ -57,14 +60,4 @@ fn signed_figures(word: u64) -> usize
         return figures(word);
     }
     figures(0xFFFF_FFFF_FFFF_FFFF - word + 1) + 1
-}
-
-// What is left of a width.
-fn lacking(width: usize, taken: usize) -> usize
-    ensures { result ≡ width - taken }
-{
-    if taken < width {
-        return width - taken;
-    }
-    0
 }

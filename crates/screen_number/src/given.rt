@@ -9,12 +9,9 @@ pub fn put_bytes(out: &mut [u8], at: usize, given: &[u8]) -> usize
     ensures value { result ≡ at + length given.now }
     ensures out_after { out.new ≡ sets out.old at given.now }
 {
-    let mut done = 0;
-    while done < given.len() {
-        out[at + done] = given[done];
-        done += 1;
-    }
-    at + done
+    let end = at + given.len();
+    out[at..end].copy_from_slice(given);
+    end
 }
 
 // So many bytes, all the same.
@@ -23,10 +20,7 @@ pub fn put_times(out: &mut [u8], at: usize, n: usize, b: u8) -> usize
     ensures value { result ≡ at + length (times n b) }
     ensures out_after { out.new ≡ sets out.old at (times n b) }
 {
-    let mut i = 0;
-    while i < n {
-        out[at + i] = b;
-        i += 1;
-    }
-    at + n
+    let end = at + n;
+    out[at..end].fill(b);
+    end
 }

@@ -5,8 +5,7 @@ use mathlib.Core.Bool.{Bool, true, false, ◌||◌}
 use Prim.Native.Nat.{ℕ, zero, suc, ◌+◌, ◌-◌, ◌*◌, ◌<◌, ◌≤◌}
 use native.Mathlib.Omega.{arith}
 use borrow.Author.Tests.{eq-eqb, ne_eqb, lt-ltb, le-ltb, le-leb, lt-leb}
-use lib.ListN.{length, get_or, take, drop, length-append, length-take, get_or-eq_default}
-use lib.Seq.{get_or-take, get_or-drop}
+use lib.ListN.{length, get_or, length-append}
 use lib.Dec.{leb, eqb}
 use Rattle.screen_number.specs.Number.{hex}
 use Rattle.screen_number.proofs.Laid.{length-hex}
@@ -76,11 +75,6 @@ part-append s i (suc m) n =
     (part-append s (i + 1) m n))
 
 -- bytes of a text that is a part of the stream
-pub byte-in : (s : List ℕ) (from n i : ℕ) → i < n → get_or s (from + i) 0 ≡ get_or (take n (drop from s)) i 0
-byte-in s from n i h = sym (get_or-take n (drop from s) i 0 h ∙ get_or-drop from s i 0)
-
-pub byte-behind : (s : List ℕ) (from n i : ℕ) → n ≤ i → 0 ≡ get_or (take n (drop from s)) i 0
-byte-behind s from n i h = sym (get_or-eq_default (take n (drop from s)) 0 (omega (arith, length-take n (drop from s))))
 
 pub before-none : (s : List ℕ) (i k : ℕ) → i < k → 0 ≡ before s i k
 unfolding before

@@ -29,10 +29,8 @@ pub fn put_part(
     ensures out_after { out.new ≡ sets out.old at (part (take bytes (drop from stream.now)) done n) }
 {
     let mut end = at;
-    let mut shown = 0;
-    while shown < n {
+    for shown in 0..n {
         end = put_byte(out, end, stream, from, bytes, done + shown);
-        shown += 1;
     }
     end
 }
@@ -83,7 +81,7 @@ fn put_escaped(out: &mut [u8], at: usize, hidden: bool, c: u8) -> usize
     if hidden {
         out[at] = b'\\';
         out[at + 1] = b'x';
-        return put_hex(out, at + 2, 2, c as u64);
+        return put_hex(out, at + 2, 2, u64::from(c));
     }
     if marked(c) {
         out[at] = b'\\';

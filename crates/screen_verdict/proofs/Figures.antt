@@ -1,6 +1,7 @@
 -- Lines of a few verdicts, each computed from the definitions, as `ctf` prints them.
+use Rattle.std.specs.Prelude.{Ok, Err}
+use Rattle.rules.specs.Verdict.{table_fault}
 use mathlib.Core.Path.{◌≡◌, refl}
-use Rattle.rules.specs.declared.Checked.TheVariants.{Accepted, Refused}
 use Rattle.screen_number.specs.Number.{bytes, decimal, decimal_of}
 use Rattle.screen_verdict.specs.Sentences.{faults, fault, plain_reasons, plain_reason, reason}
 use Rattle.screen_verdict.specs.Sentences.{table_refused, bound_crossed, no_stream_class, no_event_class}
@@ -37,10 +38,10 @@ table-shown : verdict (record { number = 20; entries = 0; place = 34; first = 7;
 unfolding bytes decimal decimal_of verdict refused_line refused_at unit listed reason table_refused fault faults
 table-shown = refl
 
-checked-shown : checked_line (Accepted (record { 0 = 40 })) ≡ bytes "accepted: 40 bytes\n"
+checked-shown : checked_line (Ok (record { 0 = 40 })) ≡ bytes "accepted: 40 bytes\n"
 unfolding bytes decimal decimal_of checked_line accepted_table
 checked-shown = refl
 
-fault-shown : checked_line (Refused 14 (record { 0 = 55 })) ≡ bytes "refused 14 at byte 55: this class stands at depth 9\n"
+fault-shown : checked_line (Err (table_fault 14 (record { 0 = 55 }))) ≡ bytes "refused 14 at byte 55: this class stands at depth 9\n"
 unfolding bytes decimal decimal_of checked_line refused_table refused_at fault faults
 fault-shown = refl

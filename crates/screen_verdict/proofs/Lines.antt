@@ -8,7 +8,7 @@ use borrow.Author.Tests.{eq-eqb, ne_eqb, lt-ltb, le-ltb}
 use lib.ListN.{length, length-append}
 use lib.Seq.{sets}
 use lib.Dec.{eqb}
-use Rattle.rules.specs.declared.Result.{Result}
+use Rattle.rules.specs.declared.Report.{Report}
 use Rattle.screen_number.specs.Number.{bytes, decimal}
 use Rattle.screen_number.proofs.Decimal.{decimal-length}
 use Rattle.screen_verdict.specs.Verdict.{unit, refused_at, accepted_line, refused_line, verdict, status, laid_line, laid_length}
@@ -45,20 +45,20 @@ refused-length n p = omega (
 )
 
 -- a reading's line, accepted or refused
-pub verdict-accepted : (r : Result) → r.number ≡ 0 → accepted_line r.entries r.place ≡ verdict r
+pub verdict-accepted : (r : Report) → r.number ≡ 0 → accepted_line r.entries r.place ≡ verdict r
 unfolding verdict
 verdict-accepted r e = simp (verdict, eq-eqb r.number 0 e)
 
-pub verdict-refused : (r : Result) → (r.number ≡ 0 → ⊥) → refused_line r.number r.entries r.place r.first r.second ≡ verdict
+pub verdict-refused : (r : Report) → (r.number ≡ 0 → ⊥) → refused_line r.number r.entries r.place r.first r.second ≡ verdict
     r
 unfolding verdict
 verdict-refused r h = simp (verdict, ne_eqb r.number 0 h)
 
-pub status-accepted : (r : Result) → r.number ≡ 0 → 0 ≡ status r
+pub status-accepted : (r : Report) → r.number ≡ 0 → 0 ≡ status r
 unfolding status
 status-accepted r e = simp (status, eq-eqb r.number 0 e)
 
-pub status-refused : (r : Result) → (r.number ≡ 0 → ⊥) → 1 ≡ status r
+pub status-refused : (r : Report) → (r.number ≡ 0 → ⊥) → 1 ≡ status r
 unfolding status
 status-refused r h = simp (status, ne_eqb r.number 0 h)
 

@@ -1,7 +1,7 @@
 -- Laws of the sentences: which numbers have none, how long a sentence is at most, and a reason by its cases.
-use mathlib.Core.Path.{◌≡◌, refl, sym, ap, ◌∙◌}
+use mathlib.Core.Path.{◌≡◌, refl, sym}
 use mathlib.Core.Logic.{◌⊎◌, inl, inr, ⊎_elim}
-use mathlib.Core.List.{List, ◌++◌}
+use mathlib.Core.List.{List, [], ◌∷◌, ◌++◌}
 use mathlib.Core.Bool.{Bool, true, false}
 use Prim.Native.Nat.{ℕ, ◌+◌, ◌-◌, ◌<◌, ◌≤◌}
 use native.Mathlib.Omega.{arith}
@@ -12,6 +12,7 @@ use Rattle.facts.proofs.Numbers.{lt-or-ge}
 use Rattle.facts.proofs.Cases.{Each, below, ◌▷◌}
 use Rattle.screen_number.specs.Number.{bytes, decimal}
 use Rattle.screen_number.proofs.Decimal.{decimal-length}
+use Rattle.screen_number.proofs.Apart.{Among, Apart, not-among}
 use Rattle.screen_verdict.specs.Sentences.{no_words, faults, fault, plain_reasons, plain_reason, reason}
 use Rattle.screen_verdict.specs.Sentences.{table_refused, bound_crossed, no_stream_class, no_event_class}
 
@@ -23,28 +24,56 @@ pub is-or : (n k : ℕ) → (n ≡ k) ⊎ (n ≡ k → ⊥)
 is-or n k = by-test n k (eqb n k) refl
 
 -- Numbers that have no sentence
-fault-none : no_words ≡ fault 0
-unfolding fault faults
-fault-none = refl
-
-pub fault-first : (n : ℕ) → n < 1 → no_words ≡ fault n
-fault-first n h = let e : 0 ≡ n = omega arith in fault-none ∙ ap fault e
-
 pub fault-behind : (n : ℕ) → 16 ≤ n → no_words ≡ fault n
 unfolding fault faults
 fault-behind n h = sym (get_or-eq_default faults no_words h)
 
-plain-none : no_words ≡ get_or plain_reasons 0 no_words
-unfolding plain_reasons
-plain-none = refl
+abbrev told_faults : List ℕ
+told_faults = 1 ∷ 2 ∷ 3 ∷ 4 ∷ 5 ∷ 6 ∷ 7 ∷ 8 ∷ 9 ∷ 10 ∷ 11 ∷ 12 ∷ 13 ∷ 14 ∷ 15 ∷ []
 
-pub plain-first : (n : ℕ) → n < 21 → no_words ≡ plain_reason n
-unfolding plain_reason
-plain-first n h = let e : 0 ≡ n - 20 = omega arith in plain-none ∙ ap (λ k. get_or plain_reasons k no_words) e
+abbrev Faultless : ℕ → Type 0
+Faultless n = (Among n told_faults → ⊥) → no_words ≡ fault n
+
+faultless_each : Each Faultless 0 16
+unfolding fault faults
+faultless_each =
+    (λ n. refl) ▷ (λ n. absurd (n tt)) ▷ (λ n. absurd (n tt)) ▷ (λ n. absurd (n tt)) ▷ (λ n. absurd (n tt)) ▷ (λ n. absurd (n tt))
+    ▷ (λ n. absurd (n tt)) ▷ (λ n. absurd (n tt)) ▷ (λ n. absurd (n tt)) ▷ (λ n. absurd (n tt)) ▷ (λ n. absurd (n tt))
+    ▷ (λ n. absurd (n tt)) ▷ (λ n. absurd (n tt)) ▷ (λ n. absurd (n tt)) ▷ (λ n. absurd (n tt)) ▷ (λ n. absurd (n tt)) ▷ tt
+
+pub faultless : (n : ℕ) → Apart n told_faults → no_words ≡ fault n
+faultless n a = ⊎_elim
+    (λ (l : n < 16). below Faultless 16 faultless_each n l (not-among n told_faults a))
+    (λ (l : 16 ≤ n). fault-behind n l)
+    (lt-or-ge n 16)
 
 pub plain-behind : (n : ℕ) → 42 ≤ n → no_words ≡ plain_reason n
 unfolding plain_reason plain_reasons
 plain-behind n h = let l : 22 ≤ n - 20 = omega arith in sym (get_or-eq_default plain_reasons no_words l)
+
+abbrev told_reasons : List ℕ
+told_reasons =
+    21 ∷ 23 ∷ 24 ∷ 25 ∷ 26 ∷ 27 ∷ 28 ∷ 29 ∷ 30 ∷ 31 ∷ 32 ∷ 34 ∷ 35 ∷ 36 ∷ 38 ∷ 39 ∷ 40 ∷ 41 ∷ []
+
+abbrev Reasonless : ℕ → Type 0
+Reasonless n = (Among n told_reasons → ⊥) → no_words ≡ plain_reason n
+
+reasonless_each : Each Reasonless 0 42
+unfolding plain_reason plain_reasons
+reasonless_each =
+    (λ n. refl) ▷ (λ n. refl) ▷ (λ n. refl) ▷ (λ n. refl) ▷ (λ n. refl) ▷ (λ n. refl) ▷ (λ n. refl) ▷ (λ n. refl) ▷ (λ n. refl)
+    ▷ (λ n. refl) ▷ (λ n. refl) ▷ (λ n. refl) ▷ (λ n. refl) ▷ (λ n. refl) ▷ (λ n. refl) ▷ (λ n. refl) ▷ (λ n. refl) ▷ (λ n. refl)
+    ▷ (λ n. refl) ▷ (λ n. refl) ▷ (λ n. refl) ▷ (λ n. absurd (n tt)) ▷ (λ n. refl) ▷ (λ n. absurd (n tt)) ▷ (λ n. absurd (n tt))
+    ▷ (λ n. absurd (n tt)) ▷ (λ n. absurd (n tt)) ▷ (λ n. absurd (n tt)) ▷ (λ n. absurd (n tt)) ▷ (λ n. absurd (n tt))
+    ▷ (λ n. absurd (n tt)) ▷ (λ n. absurd (n tt)) ▷ (λ n. absurd (n tt)) ▷ (λ n. refl) ▷ (λ n. absurd (n tt)) ▷ (λ n. absurd (n tt))
+    ▷ (λ n. absurd (n tt)) ▷ (λ n. refl) ▷ (λ n. absurd (n tt)) ▷ (λ n. absurd (n tt)) ▷ (λ n. absurd (n tt)) ▷ (λ n. absurd (n tt))
+    ▷ tt
+
+pub reasonless : (n : ℕ) → Apart n told_reasons → no_words ≡ plain_reason n
+reasonless n a = ⊎_elim
+    (λ (l : n < 42). below Reasonless 42 reasonless_each n l (not-among n told_reasons a))
+    (λ (l : 42 ≤ n). plain-behind n l)
+    (lt-or-ge n 42)
 
 -- A sentence has 96 bytes at most
 abbrev ShortFault : ℕ → Type 0

@@ -1,11 +1,12 @@
 -- The exit status is told by the first word of the verdict's line: both words are whole before the first number.
+use Rattle.std.specs.Prelude.{Err, Ok, Result}
+use Rattle.rules.specs.declared.TableFault.{TableFault}
+use Rattle.rules.specs.declared.ByteLength.{ByteLength}
 use mathlib.Core.Path.{◌≡◌, refl, sym, ap, ◌∙◌}
 use mathlib.Core.Logic.{⊎_elim}
 use mathlib.Core.List.{List, ◌++◌, append_assoc}
 use Prim.Native.Nat.{ℕ}
-use Rattle.rules.specs.declared.Result.{Result}
-use Rattle.rules.specs.declared.Checked.{Checked}
-use Rattle.rules.specs.declared.Checked.TheVariants.{Accepted, Refused}
+use Rattle.rules.specs.declared.Report.{Report}
 use Rattle.screen_number.specs.Number.{bytes, decimal}
 use Rattle.screen_number.specs.Back.{is_end, token, same}
 use Rattle.screen_verdict.specs.Sentences.{fault, reason}
@@ -42,7 +43,7 @@ refused-at n u p x =
 refused-behind : (n : ℕ) (u : List ℕ) (p : ℕ) (x y : List ℕ) → status_in (refused_at n u p ++ x ++ y) ≡ 1
 refused-behind n u p x y = ap status_in (append_assoc (refused_at n u p) x y) ∙ refused-at n u p (x ++ y)
 
-reading-told : (r : Result) → status_in (verdict r) ≡ status r
+reading-told : (r : Report) → status_in (verdict r) ≡ status r
 unfolding refused_line
 reading-told r = ⊎_elim
     (λ (z : r.number ≡ 0).
@@ -53,10 +54,10 @@ reading-told r = ⊎_elim
     ∙ status-refused r z)
     (is-or r.number 0)
 
-table-told : (c : Checked) → status_in (checked_line c) ≡ checked_status c
+table-told : (c : Result ByteLength TableFault) → status_in (checked_line c) ≡ checked_status c
 unfolding checked_line checked_status refused_table
-table-told (Accepted n) = accepted-table n.0
-table-told (Refused n b) = refused-behind n (bytes " at byte ") b.0 (fault n) (bytes "\n")
+table-told (Ok n) = accepted-table n.0
+table-told (Err v) = refused-behind v.number (bytes " at byte ") v.byte.0 (fault v.number) (bytes "\n")
 
 cut-told : (n b : ℕ) → status_in (cut_refused n b) ≡ 1
 unfolding cut_refused

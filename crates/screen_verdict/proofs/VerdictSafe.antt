@@ -1,5 +1,8 @@
 -- A verdict's line is of printable ASCII, and ends where the line ends: its sentences by computing all of them, its numbers by their
 -- digits.
+use Rattle.std.specs.Prelude.{Err, Ok, Result}
+use Rattle.rules.specs.declared.TableFault.{TableFault}
+use Rattle.rules.specs.declared.ByteLength.{ByteLength}
 use mathlib.Core.Path.{◌≡◌, refl, sym, ap, ◌∙◌}
 use mathlib.Core.Logic.{⊎_elim}
 use mathlib.Core.List.{List, [], ◌∷◌, ◌++◌, append_assoc}
@@ -9,9 +12,7 @@ use lib.ListN.{get_or}
 use lib.Dec.{T, eqb}
 use Rattle.facts.proofs.Numbers.{lt-or-ge}
 use Rattle.facts.proofs.Cases.{Each, below, ◌▷◌}
-use Rattle.rules.specs.declared.Result.{Result}
-use Rattle.rules.specs.declared.Checked.{Checked}
-use Rattle.rules.specs.declared.Checked.TheVariants.{Accepted, Refused}
+use Rattle.rules.specs.declared.Report.{Report}
 use Rattle.screen_number.specs.Number.{bytes, decimal, line_end}
 use Rattle.screen_number.specs.Safe.{SafeLine}
 use Rattle.screen_number.proofs.Printed.{Printed, printed-append, printed-3, printed-4, printed-5, printed-either, decimal-printed}
@@ -163,17 +164,17 @@ unlisted-safe : (n : ℕ) (u : List ℕ) (p : ℕ) (x : List ℕ) → Printed u 
 unlisted-safe n u p x q r =
     ends-behind (refused_at n u p ++ x) [] (bytes "\n") (printed-append (refused_at n u p) x (refused-printed n u p q) r) tt line-end
 
-reading-safe : (r : Result) → SafeLine (verdict r)
+reading-safe : (r : Report) → SafeLine (verdict r)
 reading-safe r = ⊎_elim
     (λ (z : r.number ≡ 0). rw (← (verdict-accepted r z)) (accepted-safe r.entries r.place))
     (λ (z : r.number ≡ 0 → ⊥).
     rw (← (verdict-refused r z)) (refused-safe r.number r.entries r.place r.first r.second))
     (is-or r.number 0)
 
-table-safe : (c : Checked) → SafeLine (checked_line c)
+table-safe : (c : Result ByteLength TableFault) → SafeLine (checked_line c)
 unfolding checked_line refused_table bytes all_printed
-table-safe (Accepted n) = accepted-table-safe n.0
-table-safe (Refused n b) = unlisted-safe n (bytes " at byte ") b.0 (fault n) (given-printed " at byte " tt) (fault-printed n)
+table-safe (Ok n) = accepted-table-safe n.0
+table-safe (Err v) = unlisted-safe v.number (bytes " at byte ") v.byte.0 (fault v.number) (given-printed " at byte " tt) (fault-printed v.number)
 
 cut-safe : (n b : ℕ) → SafeLine (cut_refused n b)
 unfolding cut_refused

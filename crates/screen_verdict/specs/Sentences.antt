@@ -59,6 +59,11 @@ plain_reasons =
 unfoldable pub plain_reason : ℕ → List ℕ
 plain_reason n = get_or plain_reasons (n - 20) no_words
 
+-- One name for these, to compute with them: `unfolding sentences` opens them all
+unfoldable pub sentences : ℕ
+unfolding bytes no_words faults fault plain_reasons plain_reason
+sentences = 0
+
 -- those that name numbers: the table's fault; the bound; ids
 unfoldable pub table_refused : ℕ → List ℕ
 table_refused i = bytes "the table is refused by " ++ decimal i ++ bytes ": " ++ fault i

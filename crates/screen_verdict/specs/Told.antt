@@ -1,8 +1,9 @@
 -- From the verdict's line back to the exit status and to the result's five numbers (number, entries, place, two ids), and what is promised
 -- of it. Its words stand at fixed places of the line.
-use Rattle.std.specs.Prelude.{ℕ, ◌^◌, ◌<◌, ◌≡◌, List, [], ◌∷◌, true, false, eqb}
-use Rattle.rules.specs.declared.Result.{Result}
-use Rattle.rules.specs.declared.Checked.{Checked}
+use Rattle.rules.specs.declared.TableFault.{TableFault}
+use Rattle.rules.specs.declared.ByteLength.{ByteLength}
+use Rattle.std.specs.Prelude.{ℕ, ◌^◌, ◌<◌, ◌≡◌, List, [], ◌∷◌, true, false, eqb, Result}
+use Rattle.rules.specs.declared.Report.{Report}
 use Rattle.screen_number.specs.Number.{bytes}
 use Rattle.screen_number.specs.Back.{token, skip, same, number_in, number_at}
 use Rattle.screen_number.specs.Safe.{SafeLine}
@@ -43,7 +44,7 @@ told_result x =
     ]
 
 -- "number (0 accepted), entries, place, two ids", "Ids are 0 elsewhere." (Refusing a stream): what every reading answers
-pub record OfAReading (r : Result) : Type 0 where
+pub record OfAReading (r : Report) : Type 0 where
   pub number : r.number < 2 ^ 64
   pub entries : r.entries < 2 ^ 64
   pub place : r.place < 2 ^ 64
@@ -52,20 +53,20 @@ pub record OfAReading (r : Result) : Type 0 where
   pub no-first : (r.number ≡ 20 → ⊥) → (r.number ≡ 33 → ⊥) → (r.number ≡ 37 → ⊥) → r.first ≡ 0
   pub no_second : (r.number ≡ 37 → ⊥) → r.second ≡ 0
 
-abbrev pub numbers_of : Result → List ℕ
+abbrev pub numbers_of : Report → List ℕ
 numbers_of r = r.number ∷ r.entries ∷ r.place ∷ r.first ∷ r.second ∷ []
 
 abbrev pub ResultTold : Type 0
-ResultTold = (r : Result) → OfAReading r → told_result (verdict r) ≡ numbers_of r
+ResultTold = (r : Report) → OfAReading r → told_result (verdict r) ≡ numbers_of r
 
 -- the status is told by the line's first word: of a reading, of a table's check, and of `ctf cut`, whose line is a refusal's
 pub record StatusTold : Type 0 where
-  pub reading : (r : Result) → status_in (verdict r) ≡ status r
-  pub table : (c : Checked) → status_in (checked_line c) ≡ checked_status c
+  pub reading : (r : Report) → status_in (verdict r) ≡ status r
+  pub table : (c : Result ByteLength TableFault) → status_in (checked_line c) ≡ checked_status c
   pub cut : (n b : ℕ) → status_in (cut_refused n b) ≡ 1
 
 -- each of these is one line of printable bytes, whatever the numbers are
 pub record VerdictSafe : Type 0 where
-  pub reading : (r : Result) → SafeLine (verdict r)
-  pub table : (c : Checked) → SafeLine (checked_line c)
+  pub reading : (r : Report) → SafeLine (verdict r)
+  pub table : (c : Result ByteLength TableFault) → SafeLine (checked_line c)
   pub cut : (n b : ℕ) → SafeLine (cut_refused n b)

@@ -1,9 +1,9 @@
 -- The verdict's line, the last one, and the only one that begins as it does; and the exit status.
-use Rattle.std.specs.Prelude.{ℕ, List, ◌++◌, true, false, length, eqb, ltb}
+use Rattle.rules.specs.declared.TableFault.{TableFault}
+use Rattle.rules.specs.declared.ByteLength.{ByteLength}
+use Rattle.std.specs.Prelude.{ℕ, List, ◌++◌, true, false, length, eqb, ltb, Err, Ok, Result}
 use Rattle.std.proofs.lemmas.List.Edits.{sets}
-use Rattle.rules.specs.declared.Result.{Result}
-use Rattle.rules.specs.declared.Checked.{Checked}
-use Rattle.rules.specs.declared.Checked.TheVariants.{Accepted, Refused}
+use Rattle.rules.specs.declared.Report.{Report}
 use Rattle.screen_number.specs.Number.{bytes, decimal}
 use Rattle.screen_verdict.specs.Sentences.{fault, reason}
 
@@ -24,7 +24,7 @@ unfoldable pub refused_line : ℕ → ℕ → ℕ → ℕ → ℕ → List ℕ
 refused_line n e p i j = refused_at n (unit n) p ++ reason n p i j ++ listed e
 
 -- a reading's
-unfoldable pub verdict : Result → List ℕ
+unfoldable pub verdict : Report → List ℕ
 verdict r =
     elim (eqb r.number 0) [
       | true ↦ accepted_line r.entries r.place
@@ -38,21 +38,21 @@ accepted_table n = bytes "accepted: " ++ decimal n ++ bytes " bytes\n"
 unfoldable pub refused_table : ℕ → ℕ → List ℕ
 refused_table n b = refused_at n (bytes " at byte ") b ++ fault n ++ bytes "\n"
 
-unfoldable pub checked_line : Checked → List ℕ
-checked_line (Accepted n) = accepted_table n.0
-checked_line (Refused n b) = refused_table n b.0
+unfoldable pub checked_line : Result ByteLength TableFault → List ℕ
+checked_line (Ok n) = accepted_table n.0
+checked_line (Err v) = refused_table v.number v.byte.0
 
 -- of `ctf cut`, which has no list
 unfoldable pub cut_refused : ℕ → ℕ → List ℕ
 cut_refused n b = refused_at 20 (unit 20) b ++ reason 20 b n 0 ++ bytes "\n"
 
 -- the exit status: 0 accepted, 1 refused
-unfoldable pub status : Result → ℕ
+unfoldable pub status : Report → ℕ
 status r = elim (eqb r.number 0) [ true ↦ 0 | false ↦ 1 ]
 
-unfoldable pub checked_status : Checked → ℕ
-checked_status (Accepted n) = 0
-checked_status (Refused n b) = 1
+unfoldable pub checked_status : Result ByteLength TableFault → ℕ
+checked_status (Ok n) = 0
+checked_status (Err v) = 1
 
 -- Room: every such line has less than 256 bytes. In less room than that nothing is written
 unfoldable pub laid_line : List ℕ → List ℕ → List ℕ

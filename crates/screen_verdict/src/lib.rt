@@ -10,10 +10,10 @@ ghost use Rattle.screen_verdict.specs.Verdict.{verdict, checked_line, cut_refuse
 ghost use Rattle.screen_verdict.specs.Verdict.{accepted_line, refused_line, refused_at, listed, accepted_table, refused_table};
 ghost use Rattle.screen_verdict.specs.Verdict.{unit, status as Verdict·status, checked_status};
 
-use faults::put_fault;
+use faults::fault;
 use numbers::faults::TABLE_REFUSED;
 use reasons::put_reason;
-use rules::{ByteLength, Checked, Result};
+use rules::{ByteLength, Report, TableFault};
 use screen_number::{put_bytes, put_decimal};
 
 mod faults;
@@ -28,7 +28,7 @@ const REFUSED: u8 = 1;
 const LINE_ROOM: usize = 256;
 
 // How a reading ended. Answers how many bytes were written.
-pub fn put_verdict(out: &mut [u8], r: Result) -> usize
+pub fn put_verdict(out: &mut [u8], r: Report) -> usize
     ensures value { result ≡ laid_length out.old (verdict r) }
     ensures out_after { out.new ≡ laid_line out.old (verdict r) }
 {
@@ -38,11 +38,11 @@ pub fn put_verdict(out: &mut [u8], r: Result) -> usize
     if r.number == 0 {
         return put_accepted(out, r.entries, r.place);
     }
-    put_refused(out, r.number, r.entries, r.place, r.first, r.second)
+    put_refused(out, r)
 }
 
 // How the check of a table ended.
-pub fn put_checked(out: &mut [u8], checked: Checked) -> usize
+pub fn put_checked(out: &mut [u8], checked: Result<ByteLength, TableFault>) -> usize
     ensures value { result ≡ laid_length out.old (checked_line checked) }
     ensures out_after { out.new ≡ laid_line out.old (checked_line checked) }
 {
@@ -50,8 +50,8 @@ pub fn put_checked(out: &mut [u8], checked: Checked) -> usize
         return 0;
     }
     match checked {
-        Checked::Accepted(bytes) => put_accepted_table(out, bytes),
-        Checked::Refused(number, byte) => put_refused_table(out, number, byte),
+        Ok(bytes) => put_accepted_table(out, bytes),
+        Err(fault) => put_refused_table(out, fault.number, fault.byte),
     }
 }
 
@@ -67,7 +67,7 @@ pub fn put_cut_refused(out: &mut [u8], number: u8, byte: ByteLength) -> usize
 }
 
 // The exit status: 0 accepted, 1 refused.
-pub fn status(r: Result) -> u8
+pub fn status(r: Report) -> u8
     ensures { result ≡ Verdict·status r }
 {
     let number = r.number;
@@ -77,12 +77,12 @@ pub fn status(r: Result) -> u8
     REFUSED
 }
 
-pub fn checked_status(checked: Checked) -> u8
+pub fn checked_status(checked: Result<ByteLength, TableFault>) -> u8
     ensures { result ≡ checked_status checked }
 {
     match checked {
-        Checked::Accepted(_) => ACCEPTED,
-        Checked::Refused(_, _) => REFUSED,
+        Ok(_) => ACCEPTED,
+        Err(_) => REFUSED,
     }
 }
 
@@ -98,21 +98,14 @@ fn put_accepted(out: &mut [u8], entries: usize, place: u64) -> usize
     put_bytes(out, d, b" bits\n")
 }
 
-fn put_refused(
-    out: &mut [u8],
-    number: u8,
-    entries: usize,
-    place: u64,
-    first: u64,
-    second: u64,
-) -> usize
+fn put_refused(out: &mut [u8], r: Report) -> usize
     requires { 256 ≤ length out.old }
-    ensures value { result ≡ 0 + length (refused_line number entries place first second) }
-    ensures out_after { out.new ≡ sets out.old 0 (refused_line number entries place first second) }
+    ensures value { result ≡ 0 + length (refused_line r.number r.entries r.place r.first r.second) }
+    ensures out_after { out.new ≡ sets out.old 0 (refused_line r.number r.entries r.place r.first r.second) }
 {
-    let a = put_refused_at(out, number, place);
-    let b = put_reason(out, a, number, place, first, second);
-    put_listed(out, b, entries)
+    let a = put_refused_at(out, r.number, r.place);
+    let b = put_reason(out, a, r);
+    put_listed(out, b, r.entries)
 }
 
 fn put_refused_at(out: &mut [u8], number: u8, place: u64) -> usize
@@ -155,7 +148,14 @@ fn put_cut_line(out: &mut [u8], number: u64, byte: u64) -> usize
     ensures out_after { out.new ≡ sets out.old 0 (cut_refused number byte) }
 {
     let a = put_refused_at(out, TABLE_REFUSED, byte);
-    let b = put_reason(out, a, TABLE_REFUSED, byte, number, 0);
+    let r = Report {
+        number: TABLE_REFUSED,
+        entries: 0,
+        place: byte,
+        first: number,
+        second: 0,
+    };
+    let b = put_reason(out, a, r);
     put_bytes(out, b, b"\n")
 }
 
@@ -179,6 +179,6 @@ fn put_refused_table(out: &mut [u8], number: u8, byte: ByteLength) -> usize
     let c = put_bytes(out, b, b" at byte ");
     let d = put_decimal(out, c, byte.0 as u64);
     let e = put_bytes(out, d, b": ");
-    let f = put_fault(out, e, number as u64);
+    let f = put_bytes(out, e, fault(number as u64));
     put_bytes(out, f, b"\n")
 }

@@ -1,4 +1,5 @@
 -- The sign of a range, by its byte; and how a number is asked of it.
+use Rattle.std.specs.Prelude.{Ok, Err}
 use mathlib.Core.Path.{◌≡◌, refl}
 use Prim.Native.Nat.{ℕ, zero, suc}
 use native.Mathlib.Omega.{arith}
@@ -6,7 +7,6 @@ use Rattle.rules.specs.declared.Content.TheVariants.{Unsigned, Signed}
 use Rattle.rules.specs.declared.Refusal.TheVariants.{SlotOfWrongSort}
 use Rattle.rules.specs.Class.{plain, signed}
 use Rattle.rules.specs.Faults.{sign_of}
-use Rattle.slots.specs.declared.Number.TheVariants.{Of, NotOf}
 use Rattle.slots.specs.Taken.{number_of}
 
 pub sign-plain : (b : ℕ) → b ≡ 0 → sign_of b ≡ plain
@@ -20,18 +20,18 @@ sign-signed zero h = absurd (h refl)
 sign-signed (suc b) h = refl
 
 module _ (b n : ℕ) where
-  pub unsigned-of-plain : b ≡ 0 → Of n ≡ number_of (sign_of b) (Unsigned n)
+  pub unsigned-of-plain : b ≡ 0 → Ok n ≡ number_of (sign_of b) (Unsigned n)
   unfolding number_of
   unsigned-of-plain h = rw (sign-plain b h) refl
 
-  pub unsigned-of-signed : (b ≡ 0 → ⊥) → NotOf SlotOfWrongSort ≡ number_of (sign_of b) (Unsigned n)
+  pub unsigned-of-signed : (b ≡ 0 → ⊥) → Err SlotOfWrongSort ≡ number_of (sign_of b) (Unsigned n)
   unfolding number_of
   unsigned-of-signed h = rw (sign-signed b h) refl
 
-  pub signed-of-plain : b ≡ 0 → NotOf SlotOfWrongSort ≡ number_of (sign_of b) (Signed n)
+  pub signed-of-plain : b ≡ 0 → Err SlotOfWrongSort ≡ number_of (sign_of b) (Signed n)
   unfolding number_of
   signed-of-plain h = rw (sign-plain b h) refl
 
-  pub signed-of-signed : (b ≡ 0 → ⊥) → Of n ≡ number_of (sign_of b) (Signed n)
+  pub signed-of-signed : (b ≡ 0 → ⊥) → Ok n ≡ number_of (sign_of b) (Signed n)
   unfolding number_of
   signed-of-signed h = rw (sign-signed b h) refl

@@ -26,8 +26,9 @@ two t at h =
     omega (arith, a, number-next t at 1 0 (omega arith), number-none (drop (at + 2) t))
 
 pub eight : (t : List ℕ) (at : ℕ) → at + 8 ≤ length t
-    → get_or t at 0 + get_or t (at + 1) 0 * 256 + get_or t (at + 2) 0 * 65536 + get_or t (at + 3) 0 * 16777216 + get_or t (at + 4) 0 * 4294967296
-    + get_or t (at + 5) 0 * 1099511627776 + get_or t (at + 6) 0 * 281474976710656 + get_or t (at + 7) 0 * 72057594037927936 ≡ u64 t at
+    → get_or t at 0 + get_or t (at + 1) 0 * 256 + get_or t (at + 2) 0 * 65536 + get_or t (at + 3) 0 * 16777216
+    + get_or t (at + 4) 0 * 4294967296 + get_or t (at + 5) 0 * 1099511627776 + get_or t (at + 6) 0 * 281474976710656
+    + get_or t (at + 7) 0 * 72057594037927936 ≡ u64 t at
 unfolding u64
 eight t at h =
     let z : at + 0 ≡ at = omega arith in

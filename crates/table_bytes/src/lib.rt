@@ -3,7 +3,8 @@
 // byte, wide_byte, two, number, noted_size   a byte past the end reads as 0, so that no reading wants a proof that its bytes are there:
 //                                            a checker asks once, of a record's head, whether it is whole
 // count_at, u16_at, u64_at, size_at          for those who know that what they read is there
-// wide, wide32, wide64, within               small numbers as larger ones, and whether one lies between two
+// wide, wide32, wide64, within               small numbers as larger ones, with their bounds, which `From` does not say; and whether one
+//                                            lies between two
 #![tactic(auto)]
 
 ghost use Rattle.std.specs.Prelude.{◌≡◌, ◌+◌, ◌≤◌, ◌<◌, ◌^◌, length, get_or};
@@ -13,14 +14,14 @@ ghost use Rattle.table_offsets.specs.Check.{number_at, u16, inside};
 pub fn byte(table: &[u8], i: usize) -> u8
     ensures { result ≡ get_or table.now i 0 }
 {
-    if i < table.len() { table[i] } else { 0 }
+    table.get(i).copied().unwrap_or(0)
 }
 
 // The same as a count.
 pub fn wide_byte(table: &[u8], i: usize) -> usize
     ensures { (result ≡ get_or table.now i 0) × (result < 256) }
 {
-    wide(byte(table, i))
+    usize::from(byte(table, i))
 }
 
 // The number of n bytes, "little-endian".
@@ -28,11 +29,9 @@ pub fn number(table: &[u8], at: usize, n: usize) -> u64
     requires { (n ≤ 8) × (at < 2 ^ 63) }
     ensures { (result ≡ number_at table.now at n) × (result < 256 ^ n) }
 {
-    let mut i = n;
     let mut v: u64 = 0;
-    while 0 < i {
-        i = i - 1;
-        v = v * 256 + wide64(byte(table, at + i));
+    for i in (0..n).rev() {
+        v = v * 256 + u64::from(byte(table, at + i));
     }
     v
 }
@@ -42,7 +41,7 @@ pub fn two(table: &[u8], at: usize) -> usize
     requires { at < 2 ^ 63 }
     ensures { (result ≡ u16 table.now at) × (result < 2 ^ 16) }
 {
-    wide(byte(table, at)) + 256 * wide(byte(table, at + 1))
+    usize::from(u16::from_le_bytes([byte(table, at), byte(table, at + 1)]))
 }
 
 // A byte that is there, as a count.
@@ -50,7 +49,7 @@ pub fn count_at(table: &[u8], i: usize) -> usize
     requires { i < length table.now }
     ensures { (result ≡ u8 table.now i) × (result < 2 ^ 8) }
 {
-    wide(table[i])
+    usize::from(table[i])
 }
 
 // The number of two bytes that are there: one load.
@@ -58,7 +57,7 @@ pub fn u16_at(table: &[u8], at: usize) -> usize
     requires { at + 2 ≤ length table.now }
     ensures { (result ≡ wholeU16 table.now at) × (result < 2 ^ 16) }
 {
-    wide(table[at]) + wide(table[at + 1]) * 0x100
+    usize::from(u16::from_le_bytes([table[at], table[at + 1]]))
 }
 
 // The number of eight bytes that are there: one load.
@@ -66,14 +65,16 @@ pub fn u64_at(table: &[u8], at: usize) -> u64
     requires { at + 8 ≤ length table.now }
     ensures { result ≡ u64 table.now at }
 {
-    wide64(table[at])
-        + wide64(table[at + 1]) * 0x100
-        + wide64(table[at + 2]) * 0x1_0000
-        + wide64(table[at + 3]) * 0x100_0000
-        + wide64(table[at + 4]) * 0x1_0000_0000
-        + wide64(table[at + 5]) * 0x100_0000_0000
-        + wide64(table[at + 6]) * 0x1_0000_0000_0000
-        + wide64(table[at + 7]) * 0x100_0000_0000_0000
+    u64::from_le_bytes([
+        table[at],
+        table[at + 1],
+        table[at + 2],
+        table[at + 3],
+        table[at + 4],
+        table[at + 5],
+        table[at + 6],
+        table[at + 7],
+    ])
 }
 
 // The noted size of what stands at a byte.
@@ -81,38 +82,26 @@ pub fn size_at(sizes: &[u16], at: usize) -> usize
     requires { at < length sizes.now }
     ensures { (result ≡ get_or sizes.now at 0) × (result < 65536) }
 {
-    wide16(sizes[at])
+    usize::from(sizes[at])
 }
 
 // The same; 0 past the end.
 pub fn noted_size(sizes: &[u16], at: usize) -> usize
     ensures { (result ≡ get_or sizes.now at 0) × (result < 65536) }
 {
-    if at < sizes.len() {
-        return wide16(sizes[at]);
-    }
-    0
+    usize::from(sizes.get(at).copied().unwrap_or(0))
 }
 
 pub fn within(x: u8, low: u8, high: u8) -> bool
     ensures { result ≡ inside x low high }
 {
-    if x < low {
-        return false;
-    }
-    x <= high
+    (low..=high).contains(&x)
 }
 
 pub fn wide(x: u8) -> usize
     ensures { (result ≡ x) × (result < 2 ^ 8) }
 {
-    x as usize
-}
-
-fn wide16(size: u16) -> usize
-    ensures { (result ≡ size) × (result < 65536) }
-{
-    size as usize
+    usize::from(x)
 }
 
 // A place in a table, as the arrays of places hold it.
@@ -125,5 +114,5 @@ pub fn wide32(place: u32) -> usize
 pub fn wide64(x: u8) -> u64
     ensures { (result ≡ x) × (result < 2 ^ 8) }
 {
-    x as u64
+    u64::from(x)
 }

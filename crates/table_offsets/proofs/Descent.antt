@@ -8,7 +8,7 @@ use lib.ListN.{get_or}
 use Rattle.table_offsets.specs.Bodies.{body_mark}
 use Rattle.table_offsets.specs.Check.{pick_w, ranges_at, members_at, options_at, then, class_at, class_fault, kind_at}
 use Rattle.table_offsets.specs.declared.Under.{Under}
-use Rattle.table_offsets.specs.declared.Walk.TheVariants.{Fine, Bad}
+use Rattle.table_offsets.specs.Walks.{Fine, Bad}
 use Rattle.table_offsets.proofs.Picked.{else-zero, else-some}
 use Rattle.table_offsets.proofs.Sound.{sound}
 
@@ -27,7 +27,8 @@ class-on u zero t at e = absurd (omega (arith, (sound u 0 t at e).level))
 class-on u (suc d) t at e = rw (less d) (else-zero _ at _ e)
 
 module _ (u : Under) (left : ℕ) (t : List ℕ) (at : ℕ) (fine : class_fault u left t at ≡ 0) where
-  pub on-members : (n : ℕ) → get_or t at 0 ≡ 28 → n ≡ get_or t (at + 1) 0 → class_at u left t at ≡ members_at (class_at u (left - 1) t) (at + 3) n
+  pub on-members : (n : ℕ) → get_or t at 0 ≡ 28 → n ≡ get_or t (at + 1) 0
+      → class_at u left t at ≡ members_at (class_at u (left - 1) t) (at + 3) n
   unfolding kind_at pick_w
   on-members n k e = class-on u left t at fine ∙ rw (k, e)
 

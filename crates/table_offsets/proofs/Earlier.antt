@@ -7,6 +7,9 @@
 -- earlier-before, -behind         it is before the byte of the answer, or behind it
 -- earlier-lower, -higher          both stand at one byte: 11 is the lower number, or not
 -- earlier-first                   at the table's first byte no lower number gives way
+use Rattle.std.specs.Prelude.{Err, Ok, Result}
+use Rattle.rules.specs.Verdict.{table_fault}
+use Rattle.rules.specs.declared.TableFault.{TableFault}
 use mathlib.Core.Path.{◌≡◌, refl, sym, ap, ◌∙◌}
 use Prim.Native.Nat.{ℕ, ◌-◌, ◌≤◌, ◌<◌}
 use native.Mathlib.Omega.{arith}
@@ -20,8 +23,6 @@ use Rattle.facts.specs.Bytes.{Bytes}
 use Rattle.facts.proofs.Truth.{and_none}
 use Rattle.facts.proofs.Rests.{table-short, walk-short}
 use Rattle.rules.specs.declared.ByteLength.{ByteLength}
-use Rattle.rules.specs.declared.Checked.{Checked}
-use Rattle.rules.specs.declared.Checked.TheVariants.{Accepted, Refused}
 use Rattle.rules.specs.Place.{byte_length}
 use Rattle.rules.specs.Faults.{slot_not_allowed}
 use Rattle.rules.specs.Table.{Table}
@@ -81,7 +82,7 @@ or-earlier t (bad n x) (fault y) h k =
     choice b = elim b [ true ↦ bad slot_not_allowed y | false ↦ bad n x ]
 
     by : (b : Bool) → checked_of t (choice b)
-        ≡ elim b [ true ↦ Refused slot_not_allowed (byte_length (length t - length y)) | false ↦ Refused n (byte_length (length t - length x)) ]
+        ≡ elim b [ true ↦ Err (table_fault slot_not_allowed (byte_length (length t - length y))) | false ↦ Err (table_fault n (byte_length (length t - length x))) ]
     by true = refl
     by false = refl
 
@@ -95,37 +96,37 @@ check-earlier t b = checked-earlier t ∙ ap (λ c. earlier (length t) c (fault_
 -- The earlier one, case by case
 
 module _ (l p : ℕ) where
-  pub earlier-none : l ≤ p → (c : Checked) → earlier l c p ≡ c
+  pub earlier-none : l ≤ p → (c : Result ByteLength TableFault) → earlier l c p ≡ c
   unfolding earlier
-  earlier-none h (Accepted n) = rw (le-ltb p l h, earlier) refl
-  earlier-none h (Refused n b) = rw (le-ltb p l h, earlier) refl
+  earlier-none h (Ok n) = rw (le-ltb p l h, earlier) refl
+  earlier-none h (Err v) = rw (le-ltb p l h, earlier) refl
 
   module _ (h : p < l) where
-    pub earlier-found : (n : ByteLength) → earlier l (Accepted n) p ≡ Refused slot_not_allowed (byte_length p)
+    pub earlier-found : (n : ByteLength) → earlier l (Ok n) p ≡ Err (table_fault slot_not_allowed (byte_length p))
     unfolding earlier
     earlier-found n = rw (lt-ltb p l h, earlier) refl
 
-    pub earlier-before : (n : ℕ) (b : ByteLength) → p < b.0 → earlier l (Refused n b) p ≡ Refused slot_not_allowed (byte_length p)
+    pub earlier-before : (n : ℕ) (b : ByteLength) → p < b.0 → earlier l (Err (table_fault n b)) p ≡ Err (table_fault slot_not_allowed (byte_length p))
     unfolding earlier
     earlier-before n b k = rw (lt-ltb p l h, lt-ltb p b.0 k, earlier) refl
 
     pub earlier-lower : (n : ℕ) (b : ByteLength) → p ≡ b.0 → slot_not_allowed < n
-        → earlier l (Refused n b) p ≡ Refused slot_not_allowed (byte_length p)
+        → earlier l (Err (table_fault n b)) p ≡ Err (table_fault slot_not_allowed (byte_length p))
     unfolding earlier
     earlier-lower n b k m =
         let j : b.0 ≤ p = omega arith in
         rw (lt-ltb p l h, le-ltb p b.0 j, eq-eqb p b.0 k, lt-ltb slot_not_allowed n m, earlier) refl
 
-  pub earlier-behind : (n : ℕ) (b : ByteLength) → b.0 < p → earlier l (Refused n b) p ≡ Refused n b
+  pub earlier-behind : (n : ℕ) (b : ByteLength) → b.0 < p → earlier l (Err (table_fault n b)) p ≡ Err (table_fault n b)
   unfolding earlier
   earlier-behind n b k =
       let j : b.0 ≤ p = omega arith in
       rw (le-ltb p b.0 j, ne_eqb p b.0 (λ e. omega arith), and_none (ltb p l), earlier) refl
 
-  pub earlier-higher : (n : ℕ) (b : ByteLength) → b.0 ≤ p → n ≤ slot_not_allowed → earlier l (Refused n b) p ≡ Refused n b
+  pub earlier-higher : (n : ℕ) (b : ByteLength) → b.0 ≤ p → n ≤ slot_not_allowed → earlier l (Err (table_fault n b)) p ≡ Err (table_fault n b)
   unfolding earlier
   earlier-higher n b k m =
       rw (le-ltb p b.0 k, le-ltb slot_not_allowed n m, and_none (eqb p b.0), and_none (ltb p l), earlier) refl
 
-  pub earlier-first : (n : ℕ) → n ≤ slot_not_allowed → earlier l (Refused n (byte_length 0)) p ≡ Refused n (byte_length 0)
+  pub earlier-first : (n : ℕ) → n ≤ slot_not_allowed → earlier l (Err (table_fault n (byte_length 0))) p ≡ Err (table_fault n (byte_length 0))
   earlier-first n m = earlier-higher n (byte_length 0) (omega arith) m

@@ -12,8 +12,7 @@ use Rattle.table_offsets.specs.Bodies.{body_mark}
 use Rattle.table_offsets.specs.Check.{pick_w, head_fault, stray, ranges_at, range_fault, members_at, options_at, option_fault}
 use Rattle.table_offsets.specs.Check.{or_else, then, class_at, class_fault, kind_at, root_here, root_at, under, roots_at}
 use Rattle.table_offsets.specs.declared.Under.{Under}
-use Rattle.table_offsets.specs.declared.Walk.{Walk}
-use Rattle.table_offsets.specs.declared.Walk.TheVariants.{Fine, Bad}
+use Rattle.table_offsets.specs.Walks.{Walk, Fine, Bad}
 use Rattle.table_offsets.proofs.Rows.{rows, room}
 use Rattle.table_offsets.proofs.Sound.{head-fine, range-fine, option-fine, sound}
 use Rattle.table_offsets.proofs.Walked.{root-there, root-not}

@@ -9,7 +9,7 @@ use lib.Dec.{ltb, eqb}
 use lib.ListN.{length, get_or, set}
 use Rattle.table_offsets.specs.Bodies.{body_mark}
 use Rattle.table_offsets.specs.Check.{pick_n, pick_w, latest, roots_at, roots_of, open_fault, fragment_fault, seen_with, counted}
-use Rattle.table_offsets.specs.declared.Walk.TheVariants.{Fine}
+use Rattle.table_offsets.specs.Walks.{Fine}
 use Rattle.table_offsets.proofs.Ends.{roots-end}
 use Rattle.table_offsets.proofs.Picked.{first_fine}
 use Rattle.table_offsets.proofs.Places.{latest-other, latest-set}

@@ -7,6 +7,7 @@ pub mod Ordered
 pub mod Walked
 pub mod Descent
 pub mod Ends
+pub mod Told
 pub mod FragmentOpens
 pub mod Rounds
 pub mod Begun

@@ -7,8 +7,7 @@ use borrow.Author.Tests.{leb-true, eqb-true, eqb-false}
 use lib.Dec.{leb, eqb}
 use Rattle.facts.proofs.Truth.{and_left, and_right}
 use Rattle.table_offsets.specs.Check.{first, pick_n, inside, or_else}
-use Rattle.table_offsets.specs.declared.Walk.{Walk}
-use Rattle.table_offsets.specs.declared.Walk.TheVariants.{Bad}
+use Rattle.table_offsets.specs.Walks.{Walk, Bad}
 
 pub first-zero : (n : ℕ) → n ≡ 0 → (m : ℕ) → first n m ≡ m
 unfolding first

@@ -1,4 +1,8 @@
 -- The walk over fragments: one round; that as many rounds as bytes are enough; a turn of the code's loop.
+use Rattle.std.specs.Prelude.{Ok, Err, Result}
+use Rattle.rules.specs.Verdict.{table_fault}
+use Rattle.rules.specs.declared.TableFault.{TableFault}
+use Rattle.rules.specs.declared.ByteLength.{ByteLength}
 use mathlib.Core.Path.{◌≡◌, refl, sym, ◌∙◌}
 use mathlib.Core.Bool.{Bool, true, false}
 use mathlib.Core.List.{List}
@@ -8,12 +12,9 @@ use borrow.Author.Tests.{lt-ltb, le-ltb, ltb-true, ltb-false}
 use lib.Dec.{ltb}
 use lib.ListN.{length, get_or, set}
 use Rattle.rules.specs.Place.{byte_length}
-use Rattle.rules.specs.declared.Checked.{Checked}
-use Rattle.rules.specs.declared.Checked.TheVariants.{Accepted, Refused}
 use Rattle.table_offsets.specs.Check.{or_refused, fragments_at, lowest, latest, roots_of, fragment_fault}
 use Rattle.table_offsets.specs.Check.{seen_with, traced, counted, then_checked}
-use Rattle.table_offsets.specs.declared.Walk.{Walk}
-use Rattle.table_offsets.specs.declared.Walk.TheVariants.{Fine, Bad}
+use Rattle.table_offsets.specs.Walks.{Walk, Fine, Bad}
 use Rattle.table_offsets.proofs.Descent.{less}
 use Rattle.table_offsets.proofs.FragmentOpens.{FragmentOpens, opens, fragment-end, seen_more, seen-length}
 use Rattle.table_offsets.proofs.Places.{latest-length}
@@ -22,21 +23,21 @@ module _ (t : List ℕ) (trace : Bool) (seen : List ℕ) (at : ℕ) (more : at <
   fragments-on : (left : ℕ) → 0 < left → fragments_at left t trace seen at
       ≡ or_refused (fragment_fault t trace seen (length seen) at) at
       (then_checked (roots_of t at (get_or t at 0))
-      (λ m p. Refused (lowest t (traced trace (get_or t at 0)) (seen_with at (get_or t at 0) seen) m p) (byte_length p))
+      (λ m p. Err (table_fault (lowest t (traced trace (get_or t at 0)) (seen_with at (get_or t at 0) seen) m p) (byte_length p)))
       (λ e. fragments_at (left - 1) t (traced trace (get_or t at 0)) (seen_with at (get_or t at 0) seen) e))
   unfolding fragments_at
   fragments-on zero h = absurd (omega arith)
   fragments-on (suc left) h = let e : suc left - 1 ≡ left = omega arith in simp (lt-ltb _ _ more, e, fragments_at)
 
   fragments-stop : (left n : ℕ) → 0 < left → n ≡ fragment_fault t trace seen (length seen) at → (n ≡ 0 → ⊥)
-      → fragments_at left t trace seen at ≡ Refused n (byte_length at)
+      → fragments_at left t trace seen at ≡ Err (table_fault n (byte_length at))
   unfolding or_refused
   fragments-stop left zero h e z = absurd (z refl)
   fragments-stop left (suc n) h e z = fragments-on left h ∙ rw (← e)
 
   fragments-bad : (left m p : ℕ) → 0 < left → fragment_fault t trace seen (length seen) at ≡ 0 → roots_of t at (get_or t at 0) ≡ Bad m p
       → fragments_at left t trace seen at
-      ≡ Refused (lowest t (traced trace (get_or t at 0)) (seen_with at (get_or t at 0) seen) m p) (byte_length p)
+      ≡ Err (table_fault (lowest t (traced trace (get_or t at 0)) (seen_with at (get_or t at 0) seen) m p) (byte_length p))
   unfolding or_refused then_checked
   fragments-bad left m p h e w = fragments-on left h ∙ rw (e, w)
 
@@ -46,14 +47,14 @@ module _ (t : List ℕ) (trace : Bool) (seen : List ℕ) (at : ℕ) (more : at <
   fragments-fine left e h z w = fragments-on left h ∙ rw (z, w)
 
 fragments-none : (left : ℕ) (t : List ℕ) (trace : Bool) (seen : List ℕ) (at : ℕ) → length t ≤ at
-    → fragments_at left t trace seen at ≡ Accepted (byte_length (length t))
+    → fragments_at left t trace seen at ≡ Ok (byte_length (length t))
 unfolding fragments_at
 fragments-none zero t trace seen at h = refl
 fragments-none (suc left) t trace seen at h = simp (le-ltb _ _ h, fragments_at)
 
 -- two numbers of rounds, both enough
 
-agree : (n at : ℕ) (w : Walk) (g : ℕ → ℕ → Checked) (f f' : ℕ → Checked) → (n ≡ 0 → (e : ℕ) → w ≡ Fine e → f e ≡ f' e)
+agree : (n at : ℕ) (w : Walk) (g : ℕ → ℕ → Result ByteLength TableFault) (f f' : ℕ → Result ByteLength TableFault) → (n ≡ 0 → (e : ℕ) → w ≡ Fine e → f e ≡ f' e)
     → or_refused n at (then_checked w g f) ≡ or_refused n at (then_checked w g f')
 unfolding or_refused then_checked
 agree zero at (Fine e) g f f' h = h refl e refl
@@ -93,13 +94,13 @@ rounds (suc m) (suc k) t trace seen at s h l =
 
 -- a turn of the code's loop: w is the whole check, and the first n places of xs are the fragments so far
 
-module _ (w : Checked) (t : List ℕ) (trace : Bool) (xs : List ℕ) (n at : ℕ)
+module _ (w : Result ByteLength TableFault) (t : List ℕ) (trace : Bool) (xs : List ℕ) (n at : ℕ)
     (so_far : w ≡ fragments_at (length t - at) t trace (latest xs n) at) where
-  pub turn-none : length t ≤ at → Accepted (byte_length (length t)) ≡ w
+  pub turn-none : length t ≤ at → Ok (byte_length (length t)) ≡ w
   turn-none h = sym (so_far ∙ fragments-none (length t - at) t trace (latest xs n) at h)
 
   module _ (more : at < length t) (f : ℕ) (asked : f ≡ fragment_fault t trace (latest xs n) n at) where
-    pub turn-stop : (f ≡ 0 → ⊥) → Refused f (byte_length at) ≡ w
+    pub turn-stop : (f ≡ 0 → ⊥) → Err (table_fault f (byte_length at)) ≡ w
     turn-stop z =
         sym (so_far ∙ fragments-stop t trace (latest xs n) at more (length t - at) f (omega arith) (rw (latest-length xs n) asked) z)
 
@@ -111,7 +112,7 @@ module _ (w : Checked) (t : List ℕ) (trace : Bool) (xs : List ℕ) (n at : ℕ
       now-seen : latest (set xs n at) (n + c) ≡ seen_with at (get_or t at 0) (latest xs n)
       now-seen = rw same_count (seen_more xs n at (get_or t at 0) (omega arith))
 
-      pub turn-bad : (m p l : ℕ) → r ≡ Bad m p → l ≡ lowest t tr (latest (set xs n at) (n + c)) m p → Refused l (byte_length p) ≡ w
+      pub turn-bad : (m p l : ℕ) → r ≡ Bad m p → l ≡ lowest t tr (latest (set xs n at) (n + c)) m p → Err (table_fault l (byte_length p)) ≡ w
       turn-bad m p l b e =
           sym
           (so_far

@@ -1,5 +1,6 @@
 -- What the constant table of body lengths says, proved at all of its places by one test that antt computes. The list here is made of the
 -- rules' rows; that it is the code's constant, antt computes where the code is proved.
+use Rattle.std.specs.Prelude.{Some, None, Option}
 use mathlib.Core.Path.{◌≡◌, refl, ap, ◌∙◌}
 use mathlib.Core.Bool.{Bool, true, false}
 use mathlib.Core.List.{List, map}
@@ -13,28 +14,26 @@ use Rattle.facts.proofs.Every.{at, both, both_left, both_right}
 use Rattle.facts.proofs.Numbers.{lt-or-ge}
 use Rattle.rules.specs.Record.{no, bits_layout, layouts}
 use Rattle.table_offsets.specs.Bodies.{known, body_in, body_of, no_kind, mark, body_mark}
-use Rattle.table_offsets.specs.declared.Body.{Body}
-use Rattle.table_offsets.specs.declared.Body.TheVariants.{Bytes, Unknown}
 
 -- what stands in the constant, and what it says
 unfoldable pub marks : List ℕ
 marks = map mark layouts
 
-said : ℕ → Body
-said n = elim (eqb n no_kind) [ true ↦ Unknown | false ↦ Bytes n ]
+said : ℕ → Option ℕ
+said n = elim (eqb n no_kind) [ true ↦ None | false ↦ Some n ]
 
-same : Body → Body → Bool
-same (Bytes m) (Bytes n) = eqb m n
-same (Bytes m) Unknown = false
-same Unknown (Bytes n) = false
-same Unknown Unknown = true
+same : Option ℕ → Option ℕ → Bool
+same (Some m) (Some n) = eqb m n
+same (Some m) None = false
+same None (Some n) = false
+same None None = true
 
-same-eq : (a b : Body) → T (same a b) → a ≡ b
+same-eq : (a b : Option ℕ) → T (same a b) → a ≡ b
 unfolding same
-same-eq (Bytes m) (Bytes n) t = ap Bytes (eqb→eq m n t)
-same-eq (Bytes m) Unknown t = absurd t
-same-eq Unknown (Bytes n) t = absurd t
-same-eq Unknown Unknown t = refl
+same-eq (Some m) (Some n) t = ap Some (eqb→eq m n t)
+same-eq (Some m) None t = absurd t
+same-eq None (Some n) t = absurd t
+same-eq None None t = refl
 
 right : ℕ → ℕ → Bool
 right kind n = both (eqb n (body_mark kind)) (same (said n) (body_of kind))
@@ -52,7 +51,7 @@ module _ (kind : ℕ) where
   unfolding body_mark mark known no layouts
   mark-above h = rw (get_or-eq_default layouts no {n = kind} h)
 
-  above-unknown : 35 ≤ kind → Unknown ≡ body_of kind
+  above-unknown : 35 ≤ kind → None ≡ body_of kind
   unfolding body_of body_in known no layouts
   above-unknown h = rw (get_or-eq_default layouts no {n = kind} h)
 
@@ -64,11 +63,11 @@ module _ (kind : ℕ) where
       by (inl h) = rw (← mark-at h) (same-eq _ _ (both_right (eqb (get_or marks kind 0) (body_mark kind)) _ (passed h)))
       by (inr h) = rw (← mark-above h) (above-unknown h)
 
-  pub mark-unknown : body_mark kind ≡ no_kind → Unknown ≡ body_of kind
+  pub mark-unknown : body_mark kind ≡ no_kind → None ≡ body_of kind
   unfolding said
   mark-unknown e = rw (← mark-says, e)
 
-  pub mark-known : (body_mark kind ≡ no_kind → ⊥) → Bytes (body_mark kind) ≡ body_of kind
+  pub mark-known : (body_mark kind ≡ no_kind → ⊥) → Some (body_mark kind) ≡ body_of kind
   unfolding said
   mark-known e = rw (← mark-says, ne_eqb (body_mark kind) no_kind e, said)
 

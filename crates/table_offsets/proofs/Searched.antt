@@ -14,7 +14,8 @@ use Rattle.table_offsets.proofs.Places.{latest-step, latest-none}
 
 -- the bytes of an id, from the last
 
-same_step : (t : List ℕ) (a b i : ℕ) → 0 < i → same t a b i ≡ (eqb (get_or t (a + (i - 1)) 0) (get_or t (b + (i - 1)) 0) && same t a b (i - 1))
+same_step : (t : List ℕ) (a b i : ℕ) → 0 < i
+    → same t a b i ≡ (eqb (get_or t (a + (i - 1)) 0) (get_or t (b + (i - 1)) 0) && same t a b (i - 1))
 unfolding same
 same_step t a b zero h = absurd (omega arith)
 same_step t a b (suc i) h = let e : suc i - 1 ≡ i = omega arith in rw e

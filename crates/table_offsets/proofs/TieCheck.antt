@@ -1,5 +1,9 @@
 -- The check by offsets is the rules' answer, but for the homes of slots, for every list of bytes; and there is one answer alone. In order:
 -- the first record; a root behind it; the whole table. The parts stand in the files Tie..., from the bytes of a record up to the fragments.
+use Rattle.std.specs.Prelude.{Err, Result}
+use Rattle.rules.specs.Verdict.{table_fault}
+use Rattle.rules.specs.declared.TableFault.{TableFault}
+use Rattle.rules.specs.declared.ByteLength.{ByteLength}
 use mathlib.Core.Path.{◌≡◌, refl, sym, ap, ◌∙◌}
 use mathlib.Core.Bool.{Bool, true, false, ◌||◌}
 use mathlib.Core.List.{List, [], ◌∷◌}
@@ -10,15 +14,13 @@ use lib.Dec.{ltb, leb, eqb, eqb-suc-zero}
 use borrow.Author.Tests.{eqb-true, ne_eqb}
 use Rattle.facts.specs.Bytes.{Bytes}
 use Rattle.facts.proofs.Truth.{clash, or-false}
-use Rattle.rules.specs.declared.Checked.{Checked}
-use Rattle.rules.specs.declared.Checked.TheVariants.{Refused}
 use Rattle.rules.specs.Place.{byte_length}
 use Rattle.rules.specs.Table.{Table}
 use Rattle.rules.specs.Record.{preamble, trace_class, clock_class, stream_class, event_class, Record, unknown, fragment, root, class, range}
 use Rattle.rules.specs.Record.{option, record_of, behind, size}
 use Rattle.rules.specs.Faults.{pick, no_ids, first_fault as rules_fault}
 use Rattle.rules.specs.Parse.{Parser, bad, then, sound, missing, parse_roots, parse_fragments, parse_table, byte_of, checked_of, checked}
-use Rattle.table_offsets.specs.declared.Walk.TheVariants.{Fine}
+use Rattle.table_offsets.specs.Walks.{Fine}
 use Rattle.table_offsets.specs.Bodies.{known, no_kind}
 use Rattle.table_offsets.specs.Check.{pick_n, first, or_else, byte_at, head_fault, order_fault}
 use Rattle.table_offsets.specs.Check.{lowest, stray, or_refused, then_checked, fragments_at}
@@ -109,13 +111,13 @@ lowest-root t trace os m at e = rw e (by (ltb m 4))
     by true = refl
     by false = refl
 
-stray-refused : (t : List ℕ) (trace : Bool) (os : List ℕ) (at : ℕ) (C : ℕ → Checked)
+stray-refused : (t : List ℕ) (trace : Bool) (os : List ℕ) (at : ℕ) (C : ℕ → Result ByteLength TableFault)
     → or_refused (stray t at) at (C at)
-    ≡ then_checked (or_else (stray t at) at (Fine at)) (λ m p. Refused (lowest t trace os m p) (byte_length p)) C
+    ≡ then_checked (or_else (stray t at) at (Fine at)) (λ m p. Err (table_fault (lowest t trace os m p) (byte_length p))) C
 stray-refused t trace os at C = by (stray t at) (stray-root t at)
   where
     by : (n : ℕ) → ((c : ℕ) → n ≡ suc c → byte_at t at ≡ 6)
-        → or_refused n at (C at) ≡ then_checked (or_else n at (Fine at)) (λ m p. Refused (lowest t trace os m p) (byte_length p)) C
+        → or_refused n at (C at) ≡ then_checked (or_else n at (Fine at)) (λ m p. Err (table_fault (lowest t trace os m p) (byte_length p))) C
     by zero h = unfold or_refused then_checked or_else in refl
     by (suc n) h = unfold or_refused then_checked or_else in rw (lowest-root t trace os (suc n) at (h n refl))
 
@@ -155,14 +157,14 @@ check-tie t b = rw (missing-all t, parse_table) (by (eqb (length t) 0 || ltb 655
   where
     by : (c : Bool) → (eqb (length t) 0 || ltb 65536 (length t)) ≡ c
         → elim c [
-          | true ↦ Refused 1 (byte_length 0)
+          | true ↦ Err (table_fault 1 (byte_length 0))
           | false ↦ or_refused (first_fault t) 0
               (or_refused (stray t 2) 2 (fragments_at (length t - 2) t false [] 2))
         ]
         ≡ checked_of t (elim c [ true ↦ bad 1 t | false ↦ sound (rules_fault (ltb (length t) (size t)) (record_of t)) t rest ])
-    by true e = unfold checked_of byte_of in ap (λ n. Refused 1 (byte_length n)) (omega arith)
+    by true e = unfold checked_of byte_of in ap (λ n. Err (table_fault 1 (byte_length n))) (omega arith)
     by false e = first-checked t b (missing-all t ∙ (or-false (eqb (length t) 0) (ltb 65536 (length t)) e).0)
 
 -- one answer alone
-pub check-once : (t : List ℕ) (r s : Checked) → r ≡ checked t → s ≡ checked t → r ≡ s
+pub check-once : (t : List ℕ) (r s : Result ByteLength TableFault) → r ≡ checked t → s ≡ checked t → r ≡ s
 check-once t r s p q = p ∙ sym q

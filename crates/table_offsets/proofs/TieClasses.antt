@@ -1,8 +1,8 @@
 -- The walk over a class and all that it holds is the rules' parse of it, at every depth.
+use Rattle.std.specs.Prelude.{None}
 use mathlib.Core.Path.{◌≡◌, refl, ap}
 use mathlib.Core.Bool.{Bool, true, false}
 use mathlib.Core.List.{List, []}
-use mathlib.Core.Option.{none}
 use Prim.Native.Nat.{ℕ, zero, suc, ◌+◌, ◌<◌, ◌≤◌}
 use native.Mathlib.Omega.{arith}
 use native.Mathlib.Nat.{le_trans}
@@ -13,8 +13,7 @@ use Rattle.rules.specs.Class.{Class, structure, static_array, dynamic_array, var
 use Rattle.rules.specs.Record.{Shape, Says as Said, Record, behind}
 use Rattle.rules.specs.Faults.{Ids, Spot, top, leading, inside as within, member_spot, meets, class_fault as rules_fault}
 use Rattle.rules.specs.Parse.{Parser, selected, the_sign, parse_shape, parse_body, parse_class}
-use Rattle.table_offsets.specs.declared.Walk.{Walk}
-use Rattle.table_offsets.specs.declared.Walk.TheVariants.{Fine}
+use Rattle.table_offsets.specs.Walks.{Walk, Fine}
 use Rattle.table_offsets.specs.declared.Under.{Under}
 use Rattle.table_offsets.specs.declared.Says.{Says}
 use Rattle.table_offsets.specs.Bodies.{no_kind, body_mark}
@@ -118,8 +117,8 @@ module _ (t : List ℕ) (b : Bytes t) (q : Ids) (trace : Bool) (seen : List ℕ)
         let c : y.count ≡ byte_at t (at + 2) = ap (λ (v : Says). v.count) e in
         let p : u.start + 3 < at + 3 = omega (arith, past-root z 31 u.start at s d (λ e. omega arith)) in
         rw c (then_tie t trace seen
-        (ranges-tie t q trace seen known (at + 3) [] [] (no-earlier t) (byte_at t (at + 2)) (at + 3) x none r refl) _ _
-        (λ rs e v (k : Read t (at + 3) (at + 3) (byte_at t (at + 2)) none rs e) r'.
+        (ranges-tie t q trace seen known (at + 3) [] [] (no-earlier t) (byte_at t (at + 2)) (at + 3) x None r refl) _ _
+        (λ rs e v (k : Read t (at + 3) (at + 3) (byte_at t (at + 2)) None rs e) r'.
         let past : u.start + 3 < e = omega (arith, k.on) in
         made-tie t trace seen (h within e v r' past) (selected y.reads rs) (λ c e' (l : e < e'). le_trans (omega (arith, k.on)) l)))
     shape-tie k n w variant y e m d x r =
@@ -127,7 +126,7 @@ module _ (t : List ℕ) (b : Bytes t) (q : Ids) (trace : Bool) (seen : List ℕ)
         let p : u.start + 3 ≤ at + 3 = omega (arith, past-root z 32 u.start at s d (λ e. omega arith)) in
         let first_range : at + 3 + 2 ≡ at + 5 = omega arith in
         rw c (made-tie t trace seen
-        (options-tie t q trace seen known u.start f F h (at + 5) (byte_at t (at + 2)) (at + 3) x (none, []) [] r first_range
+        (options-tie t q trace seen known u.start f F h (at + 5) (byte_at t (at + 2)) (at + 3) x (None, []) [] r first_range
         (no-earlier t) p)
         (λ os. a_variant y.reads (the_sign os.0) os.1) (λ os e (k : at + 3 ≤ e). le_trans (omega arith) k))
 

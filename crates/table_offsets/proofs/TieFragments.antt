@@ -1,24 +1,26 @@
 -- The walk over fragments is the rules' parse of them: the same answer, after as many rounds.
+use Rattle.rules.specs.Verdict.{table_fault}
+use Rattle.rules.specs.declared.TableFault.{TableFault}
+use Rattle.rules.specs.declared.ByteLength.{ByteLength}
+use Rattle.std.specs.Prelude.{Option, Ok, Err, Result}
 use mathlib.Core.Path.{◌≡◌, refl, ap, ◌∙◌}
 use mathlib.Core.Bool.{Bool, true, false, not, ◌||◌}
 use mathlib.Core.List.{List, ◌∷◌}
-use mathlib.Core.Option.{Option}
 use Prim.Native.Nat.{ℕ, zero, suc, ◌+◌}
 use native.Mathlib.Omega.{arith}
 use lib.ListN.{length}
 use lib.Dec.{ltb, eqb}
 use borrow.Author.Tests.{ne_eqb}
 use Rattle.facts.specs.Bytes.{Bytes}
-use Rattle.rules.specs.declared.Checked.{Checked}
-use Rattle.rules.specs.declared.Checked.TheVariants.{Accepted, Refused}
 use Rattle.rules.specs.Place.{byte_length}
 use Rattle.rules.specs.Class.{Class}
 use Rattle.rules.specs.Table.{Table}
 use Rattle.rules.specs.Record.{trace_class, clock_class, stream_class, event_class, Record, record_of, behind, size}
 use Rattle.rules.specs.Faults.{pick, Ids, seen, many, record_fault, open_fault as rules_fault}
-use Rattle.rules.specs.Parse.{Parsed, Parser, bad, good, then, sound, missing, one, is_timed, has_uuid, root_numbers, add, no_table, parse_roots}
+use Rattle.rules.specs.Parse.{Parsed, Parser, bad, good, then, sound, missing, one, is_timed, has_uuid, root_numbers, add, no_table}
+use Rattle.rules.specs.Parse.{parse_roots}
 use Rattle.rules.specs.Parse.{parse_fragment, parse_opened, parse_fragments, byte_of, checked_of}
-use Rattle.table_offsets.specs.declared.Walk.{Walk}
+use Rattle.table_offsets.specs.Walks.{Walk}
 use Rattle.table_offsets.specs.Bodies.{no_kind}
 use Rattle.table_offsets.specs.Check.{pick_n, pick_b, pick_w, first, byte_at, u64, head_fault}
 use Rattle.table_offsets.specs.Check.{order_fault, open_fault, fragment_fault, lowest}
@@ -85,7 +87,7 @@ unfolding byte_of
 byte-of t at x r = ap byte_length (omega (arith, rest-length t at x r, r.within))
 
 -- a number of a record, or else what is behind it
-pub sound-checked : (t : List ℕ) (at : ℕ) (x : List ℕ) → Rest t at x → (n m : ℕ) → n ≡ m → (f : Parser Table) (c : Checked)
+pub sound-checked : (t : List ℕ) (at : ℕ) (x : List ℕ) → Rest t at x → (n m : ℕ) → n ≡ m → (f : Parser Table) (c : Result ByteLength TableFault)
     → (m ≡ 0 → c ≡ checked_of t (f (behind x)))
     → or_refused m at c ≡ checked_of t (sound n x f)
 unfolding or_refused sound checked_of
@@ -96,8 +98,8 @@ sound-checked t at x r (suc n) (suc m) e f c k = rw (byte-of t at x r, e)
 
 pub then-checked : (t : List ℕ) (trace : Bool) (os : List ℕ) {A : Type 0} {P : A → ℕ → Type 0} {o : Parsed A} {w : Walk}
     → Tied t trace os P o w
-    → (F : A → Parser Table) (C : ℕ → Checked) → ((a : A) (e : ℕ) (x : List ℕ) → Rest t e x → C e ≡ checked_of t (F a x))
-    → then_checked w (λ m p. Refused (lowest t trace os m p) (byte_length p)) C ≡ checked_of t (then o F)
+    → (F : A → Parser Table) (C : ℕ → Result ByteLength TableFault) → ((a : A) (e : ℕ) (x : List ℕ) → Rest t e x → C e ≡ checked_of t (F a x))
+    → then_checked w (λ m p. Err (table_fault (lowest t trace os m p) (byte_length p))) C ≡ checked_of t (then o F)
 unfolding then_checked checked_of then
 then-checked t trace os (both-bad {p = p} {x = x} e r) F C h = rw (e, byte-of t p x r)
 then-checked t trace os (both-good {a = a} {e = e} {x = x} k r) F C h = h a e x r
@@ -116,7 +118,7 @@ module _ (t : List ℕ) (b : Bytes t) (left : ℕ)
   -- a fragment's roots, and then the fragments behind them
   roots-checked : (q : Ids) (trace : Bool) (os : List ℕ) → Sees t q trace os → (timed uuid : Bool) (n m at : ℕ) (x : List ℕ) → Rest t at x
       → (f : List (Option Class) → Table → Table)
-      → then_checked (roots_at t timed uuid m at n) (λ m p. Refused (lowest t trace os m p) (byte_length p))
+      → then_checked (roots_at t timed uuid m at n) (λ m p. Err (table_fault (lowest t trace os m p) (byte_length p)))
       (λ e. fragments_at left t trace os e)
       ≡ checked_of t (then (parse_roots q timed uuid (numbers m n) x) λ cs x. then (parse_fragments left q x) λ a x. good (f cs a) x)
   roots-checked q trace os s timed uuid n m at x r f =
@@ -126,7 +128,7 @@ module _ (t : List ℕ) (b : Bytes t) (left : ℕ)
   opened-checked : (q : Ids) (trace : Bool) (os : List ℕ) → Sees t q trace os → (at k n : ℕ) (r : Record) → Stands t at k n r
       → (n ≡ no_kind → ⊥) → byte_at t at ≡ k
       → open_fault t (length os) at k ≡ 0 → (x : List ℕ) → Rest t (at + (1 + n)) x
-      → then_checked (roots_of t at k) (λ m p. Refused (lowest t (traced trace k) (seen_with at k os) m p) (byte_length p))
+      → then_checked (roots_of t at k) (λ m p. Err (table_fault (lowest t (traced trace k) (seen_with at k os) m p) (byte_length p)))
       (λ e. fragments_at left t (traced trace k) (seen_with at k os) e)
       ≡ checked_of t (parse_opened q (parse_fragments left) r x)
   unfolding open_fault pick_n roots_of pick_w traced pick_b seen_with parse_opened parse_fragment root_numbers is_timed has_uuid
@@ -160,10 +162,10 @@ module _ (t : List ℕ) (b : Bytes t) (left : ℕ)
 
   module _ (q : Ids) (trace : Bool) (os : List ℕ) (s : Sees t q trace os) (at : ℕ) (x : List ℕ) (r : Rest t at x) where
     -- the answer where there are bytes left
-    abbrev here : Checked
+    abbrev here : Result ByteLength TableFault
     here = or_refused (fragment_fault t trace os (length os) at) at
         (then_checked (roots_of t at (byte_at t at))
-        (λ m p. Refused (lowest t (traced trace (byte_at t at)) (seen_with at (byte_at t at) os) m p) (byte_length p))
+        (λ m p. Err (table_fault (lowest t (traced trace (byte_at t at)) (seen_with at (byte_at t at) os) m p) (byte_length p)))
         (λ e. fragments_at left t (traced trace (byte_at t at)) (seen_with at (byte_at t at) os) e))
 
     fragment-checked : here ≡ checked_of t (one q (rules_fault q) (λ r x. parse_opened q (parse_fragments left) r x) x)
@@ -179,7 +181,7 @@ module _ (t : List ℕ) (b : Bytes t) (left : ℕ)
     unfolding fragments_at parse_fragments
     round = rw (rest-missing t at x r, fragments_at, parse_fragments) (by (ltb at (length t)))
       where
-        by : (c : Bool) → elim c [ true ↦ here | false ↦ Accepted (byte_length (length t)) ]
+        by : (c : Bool) → elim c [ true ↦ here | false ↦ Ok (byte_length (length t)) ]
             ≡ checked_of t (elim (not c) [
               | true ↦ good no_table x
               | false ↦ one q (rules_fault q)

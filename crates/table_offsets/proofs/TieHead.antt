@@ -70,9 +70,11 @@ pub record Whole (t : List ℕ) (at : ℕ) : Type 0 where
 
 pub head-whole : (t : List ℕ) (at : ℕ) → head_fault t at ≡ 0 → Whole t at
 unfolding head_fault
-head-whole t at = by (leb (length t) at) (eqb (body_mark (byte_at t at)) no_kind) (leb (length t - at) (body_mark (byte_at t at))) refl refl refl
+head-whole t at =
+    by (leb (length t) at) (eqb (body_mark (byte_at t at)) no_kind) (leb (length t - at) (body_mark (byte_at t at))) refl refl refl
   where
-    by : (a b c : Bool) → leb (length t) at ≡ a → eqb (body_mark (byte_at t at)) no_kind ≡ b → leb (length t - at) (body_mark (byte_at t at)) ≡ c
+    by : (a b c : Bool) → leb (length t) at ≡ a → eqb (body_mark (byte_at t at)) no_kind ≡ b
+        → leb (length t - at) (body_mark (byte_at t at)) ≡ c
         → pick_n a 3 (pick_n b 2 (pick_n c 3 0)) ≡ 0 → Whole t at
     by true b c p q r e = absurd (unfold pick_n in omega arith)
     by false true c p q r e = absurd (unfold pick_n in omega arith)
@@ -111,7 +113,8 @@ module _ (t : List ℕ) (at : ℕ) (x : List ℕ) (h : Rest t at x) where
   whole-at k = rw (known-size t at x h k, rest-length t at x h) (by (eqb (head_fault t at) 0) refl)
     where
       by : (b : Bool) → eqb (head_fault t at) 0 ≡ b → leb (1 + body_mark (byte_at t at)) (length t - at) ≡ b
-      by true e = le-leb (1 + body_mark (byte_at t at)) (length t - at) (omega (arith, (head-whole t at (eqb-true (head_fault t at) 0 e)).fits))
+      by true e =
+          le-leb (1 + body_mark (byte_at t at)) (length t - at) (omega (arith, (head-whole t at (eqb-true (head_fault t at) 0 e)).fits))
       by false e = ⊎_elim
           (λ (l : length t - at < 1 + body_mark (byte_at t at)). lt-leb (1 + body_mark (byte_at t at)) (length t - at) l)
           (λ (l : 1 + body_mark (byte_at t at) ≤ length t - at). absurd (eqb-false (head_fault t at) 0 e

@@ -12,7 +12,7 @@ use Rattle.rules.specs.Class.{Class, member, option as an_option'}
 use Rattle.rules.specs.Record.{Record, unknown, fragment, root, class, range, option, behind}
 use Rattle.rules.specs.Faults.{pick, out, Ids, Spot, inside as within, option_fault as rules_fault}
 use Rattle.rules.specs.Parse.{Parser, Ranges, count_of, parse_members, parse_options}
-use Rattle.table_offsets.specs.declared.Walk.{Walk}
+use Rattle.table_offsets.specs.Walks.{Walk}
 use Rattle.table_offsets.specs.Bodies.{no_kind}
 use Rattle.table_offsets.specs.Check.{pick_n, inside, byte_at, option_fault, members_at, options_at}
 use Rattle.table_offsets.proofs.TieBytes.{Rest}

@@ -88,7 +88,8 @@ late-order t trace os at k n r more l nothing h e = absurd (h refl)
 late-order t trace os at k n r more l (a_preamble) h e = absurd (omega (arith, l.fragments (preamble (byte_at t (at + 1)))))
 late-order t trace os at k n r more l (a_trace {l = u}) h e = absurd (omega (arith, l.fragments (trace_class (byte_at t (at + 1)) u)))
 late-order t trace os at k n r more l a_clock h e = absurd (omega (arith, l.fragments (clock_class (byte_at t (at + 1)) (u64 t (at + 2)))))
-late-order t trace os at k n r more l a_stream h e = absurd (omega (arith, l.fragments (stream_class (u64 t (at + 1)) (byte_at t (at + 9)))))
+late-order t trace os at k n r more l a_stream h e =
+    absurd (omega (arith, l.fragments (stream_class (u64 t (at + 1)) (byte_at t (at + 9)))))
 late-order t trace os at k n r more l an_event h e = absurd (omega (arith, l.fragments (event_class (u64 t (at + 1)) (u64 t (at + 9)))))
 late-order t trace os at k n r more l a_root h e = refl
 late-order t trace os at k n r more l (a_class a u b c d f) h e = class-order t trace os at k a
@@ -114,7 +115,8 @@ number-tie t q trace os s at x h more l =
     record-fault t at x h (λ short r. record_fault short q r (more (record_of x))) (record-tested q (more (record_of x)))
     ∙ by (head_fault t at) refl
   where
-    late : (m : ℕ) → more (record_of x) ≡ m → head_fault t at ≡ 0 → first (order_fault t trace os at (byte_at t at)) m ≡ lowest t trace os m at
+    late : (m : ℕ) → more (record_of x) ≡ m → head_fault t at ≡ 0
+        → first (order_fault t trace os at (byte_at t at)) m ≡ lowest t trace os m at
     late m p e = ⊎_elim
         (λ (g : m < 4).
         let y = l.high (record_of x) (omega arith) in

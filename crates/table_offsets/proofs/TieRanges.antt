@@ -1,10 +1,10 @@
 -- Number 13 and the walk over ranges. The rules carry the sign so far and the ranges of earlier options; the walk looks the sign up at the
 -- first range, and the ranges at the options' places.
+use Rattle.std.specs.Prelude.{Option, None, Some}
 use mathlib.Core.Path.{◌≡◌, refl, sym, ap}
 use mathlib.Core.Logic.{◌⊎◌, inr, ⊎_elim}
 use mathlib.Core.Bool.{Bool, true, false, not, ◌&&◌, ◌||◌}
 use mathlib.Core.List.{List, [], ◌∷◌, ◌++◌}
-use mathlib.Core.Option.{Option, none, some}
 use Prim.Native.Nat.{ℕ, zero, suc, ◌+◌, ◌<◌, ◌≤◌}
 use native.Mathlib.Omega.{arith}
 use lib.Dec.{ltb, leb, eqb}
@@ -14,7 +14,8 @@ use Rattle.rules.specs.Record.{Record, unknown, fragment, root, class, range, op
 use Rattle.rules.specs.Faults.{pick, Ids, sign_of, other_sign, meets, range_fault as rules_fault}
 use Rattle.rules.specs.Parse.{good, then, Ranges, range_of, parse_ranges}
 use Rattle.table_offsets.specs.Bodies.{no_kind}
-use Rattle.table_offsets.specs.Check.{pick_n, byte_at, u64, key, low_at, high_at, meets_here, meets_one, meets_option, meets_any, bounds_fault}
+use Rattle.table_offsets.specs.Check.{pick_n, byte_at, u64, key, low_at, high_at, meets_here, meets_one, meets_option, meets_any}
+use Rattle.table_offsets.specs.Check.{bounds_fault}
 use Rattle.table_offsets.specs.Check.{range_fault, ranges_at}
 use Rattle.table_offsets.proofs.TieBytes.{Rest}
 use Rattle.table_offsets.proofs.TieKinds.{Stands, nothing, a_preamble, a_trace, a_clock, a_stream}
@@ -34,7 +35,7 @@ key-agrees zero x h = refl
 key-agrees (suc zero) x h = refl
 key-agrees (suc (suc g)) x h = absurd (omega arith)
 
-signs-agree : (b g : ℕ) → b ≤ 1 → g ≤ 1 → eqb b g ≡ not (other_sign (sign_of g) (some (sign_of b)))
+signs-agree : (b g : ℕ) → b ≤ 1 → g ≤ 1 → eqb b g ≡ not (other_sign (sign_of g) (Some (sign_of b)))
 unfolding sign_of other_sign
 signs-agree zero zero h k = refl
 signs-agree zero (suc zero) h k = refl
@@ -46,14 +47,14 @@ signs-agree (suc (suc b)) g h k = absurd (omega arith)
 
 -- the sign so far, where the next range stands at `at` and the first at `head`
 abbrev pub Signed : List ℕ → ℕ → Option Sign → ℕ → Type 0
-Signed t head none at = at ≡ head
-Signed t head (some g) at = (g ≡ sign_of (byte_at t (head + 1))) × (byte_at t (head + 1) ≤ 1)
+Signed t head None at = at ≡ head
+Signed t head (Some g) at = (g ≡ sign_of (byte_at t (head + 1))) × (byte_at t (head + 1) ≤ 1)
 
 sign-agrees : (t : List ℕ) (head at : ℕ) (o : Option Sign) → Signed t head o at → byte_at t (at + 1) ≤ 1
     → eqb (byte_at t (head + 1)) (byte_at t (at + 1)) ≡ not (other_sign (sign_of (byte_at t (at + 1))) o)
 unfolding other_sign
-sign-agrees t head at none h l = rw (← h) (eq-eqb (byte_at t (at + 1)) (byte_at t (at + 1)) refl)
-sign-agrees t head at (some g) h l = rw h.0 (signs-agree (byte_at t (head + 1)) (byte_at t (at + 1)) h.1 l)
+sign-agrees t head at None h l = rw (← h) (eq-eqb (byte_at t (at + 1)) (byte_at t (at + 1)) refl)
+sign-agrees t head at (Some g) h l = rw h.0 (signs-agree (byte_at t (head + 1)) (byte_at t (at + 1)) h.1 l)
 
 -- Ranges of earlier options
 
@@ -155,7 +156,8 @@ unfolding later_fault bounds_fault
 sound-range t head os at =
     by (eqb (byte_at t at) 33) (ltb 1 (byte_at t (at + 1))) _ (eqb (byte_at t (head + 1)) (byte_at t (at + 1))) _ refl refl refl
   where
-    by : (a b c d e : Bool) → eqb (byte_at t at) 33 ≡ a → ltb 1 (byte_at t (at + 1)) ≡ b → eqb (byte_at t (head + 1)) (byte_at t (at + 1)) ≡ d
+    by : (a b c d e : Bool) → eqb (byte_at t at) 33 ≡ a → ltb 1 (byte_at t (at + 1)) ≡ b
+        → eqb (byte_at t (head + 1)) (byte_at t (at + 1)) ≡ d
         → pick_n a (pick_n b 10 (pick_n c 13 (pick_n d (pick_n e 13 0) 13))) 9 ≡ 0 → Sound t head at
     by false b c d e p q r h = unfold pick_n in absurd (omega arith)
     by true true c d e p q r h = unfold pick_n in absurd (omega arith)
@@ -186,7 +188,7 @@ unfolding meets meets_one
 read_none t head at o = record { on = omega arith; ranges = λ g l h k. refl; sign = ⊎_elim (λ l. absurd (omega arith)) (λ k. k) }
 
 read_more : (t : List ℕ) (head at n e : ℕ) (o : Option Sign) (p : Ranges) → Sound t head at
-    → Read t head (at + 18) n (some (sign_of (byte_at t (at + 1)))) p e
+    → Read t head (at + 18) n (Some (sign_of (byte_at t (at + 1)))) p e
     → Read t head at (suc n) o (p.0, record { low = u64 t (at + 2); high = u64 t (at + 10) } ∷ p.1) e
 read_more t head at n e o p s k = record {
   on = omega (arith, k.on);
@@ -197,8 +199,8 @@ read_more t head at n e o p s k = record {
 module _ (t : List ℕ) (q : Ids) (trace : Bool) (seen : List ℕ) (known : Sees t q trace seen) (head : ℕ) (os : List ℕ) (rs : List Range)
     (d : Told t os rs) where
   behind-range : (n at : ℕ) (x : List ℕ) (o : Option Sign) → Rest t at x → Whole t at → Sound t head at
-      → ((y : List ℕ) → Rest t (at + 18) y → Tied t trace seen (Read t head (at + 18) n (some (sign_of (byte_at t (at + 1)))))
-      (parse_ranges q rs n (some (sign_of (byte_at t (at + 1)))) y) (ranges_at t head os (at + 18) n))
+      → ((y : List ℕ) → Rest t (at + 18) y → Tied t trace seen (Read t head (at + 18) n (Some (sign_of (byte_at t (at + 1)))))
+      (parse_ranges q rs n (Some (sign_of (byte_at t (at + 1)))) y) (ranges_at t head os (at + 18) n))
       → Tied t trace seen (Read t head at (suc n) o)
       (then (parse_ranges q rs n (range_of (record_of x)).0 (behind x)) λ p x'. good (p.0, (range_of (record_of x)).1 ++ p.1) x')
       (ranges_at t head os (at + 18) n)
@@ -218,4 +220,4 @@ module _ (t : List ℕ) (q : Ids) (trace : Bool) (seen : List ℕ) (known : Sees
       (λ w. range-agrees t head at o os rs s d _ _ _ (stands t at x h) w.known) _ _ (λ w e.
       let g = sound-range t head os at e in
       behind-range n at x o h w g
-      (λ y r. ranges-tie n (at + 18) y (some (sign_of (byte_at t (at + 1)))) r (ap sign_of (sym g.same), rw g.same g.sign)))
+      (λ y r. ranges-tie n (at + 18) y (Some (sign_of (byte_at t (at + 1)))) r (ap sign_of (sym g.same), rw g.same g.sign)))

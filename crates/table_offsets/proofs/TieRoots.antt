@@ -1,9 +1,9 @@
 -- The walk over a fragment's roots is the rules' parse of them: each there or not, in rising number, and no other behind them.
+use Rattle.std.specs.Prelude.{Option, None, Some}
 use mathlib.Core.Path.{◌≡◌, refl, sym}
 use mathlib.Core.Logic.{⊎_elim}
 use mathlib.Core.Bool.{Bool, true, false, not, ◌&&◌}
 use mathlib.Core.List.{List, [], ◌∷◌}
-use mathlib.Core.Option.{Option, none, some}
 use Prim.Native.Nat.{ℕ, zero, suc, ◌+◌, ◌<◌}
 use native.Mathlib.Omega.{arith}
 use lib.ListN.{length}
@@ -15,7 +15,7 @@ use Rattle.rules.specs.Class.{Class}
 use Rattle.rules.specs.Record.{Record, unknown, fragment, root, class, range, option, record_of, behind, size, layouts}
 use Rattle.rules.specs.Faults.{Ids, top, root_fault}
 use Rattle.rules.specs.Parse.{bad, good, then as rules_then, one, is_root, any_root, parse_class, parse_roots}
-use Rattle.table_offsets.specs.declared.Walk.TheVariants.{Fine}
+use Rattle.table_offsets.specs.Walks.{Fine}
 use Rattle.table_offsets.specs.Bodies.{known, mark, no_kind, body_mark}
 use Rattle.table_offsets.specs.Check.{pick_n, pick_w, first, or_else, then, byte_at, head_fault}
 use Rattle.table_offsets.specs.Check.{root_here, stray, under, root_at, roots_at, class_at}
@@ -134,8 +134,8 @@ module _ (t : List ℕ) (b : Bytes t) (q : Ids) (trace : Bool) (seen : List ℕ)
           → Tied t trace seen {A = List (Option Class)} Any
           (elim c [
             | true ↦ rules_then (parse_class q (record { root = m; timed = timed; uuid = uuid }) 8 top (behind x)) λ c x.
-                rules_then (parse_roots q timed uuid (numbers (m + 1) n) x) λ cs x. good (some c ∷ cs) x
-            | false ↦ rules_then (parse_roots q timed uuid (numbers (m + 1) n) x) λ cs x. good (none ∷ cs) x
+                rules_then (parse_roots q timed uuid (numbers (m + 1) n) x) λ cs x. good (Some c ∷ cs) x
+            | false ↦ rules_then (parse_roots q timed uuid (numbers (m + 1) n) x) λ cs x. good (None ∷ cs) x
           ])
           (then (pick_w c (class_at (under timed uuid m (at + 2)) 8 t (at + 2)) (Fine at)) λ e. roots_at t timed uuid (m + 1) e n)
       by true h rec = unfold pick_w root_here ruled under in
@@ -143,5 +143,5 @@ module _ (t : List ℕ) (b : Bytes t) (q : Ids) (trace : Bool) (seen : List ℕ)
           let k = eqb-true (byte_at t at) 6 (and_left (eqb (byte_at t at) 6) _ (and_right (eqb (head_fault t at) 0) _ h)) in
           let g = rest-behind t at x r w 1 (a-root t at _ _ (stands-as t at x r 6 k) w.known).1 in
           then_tie t trace seen (class-tie t b q trace seen known (under timed uuid m (at + 2)) 8 top (at + 2) (behind x) g refl) _ _
-          (λ c e y k g. made-tie t trace seen (rec e y g) (λ cs. some c ∷ cs) (λ cs e k. tt))
-      by false h rec = unfold pick_w then in made-tie t trace seen (rec at x r) (λ cs. none ∷ cs) (λ cs e k. tt)
+          (λ c e y k g. made-tie t trace seen (rec e y g) (λ cs. Some c ∷ cs) (λ cs e k. tt))
+      by false h rec = unfold pick_w then in made-tie t trace seen (rec at x r) (λ cs. None ∷ cs) (λ cs e k. tt)

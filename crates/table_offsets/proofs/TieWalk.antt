@@ -9,8 +9,7 @@ use lib.Dec.{ltb}
 use Rattle.rules.specs.Record.{Record, record_of, behind}
 use Rattle.rules.specs.Faults.{Ids}
 use Rattle.rules.specs.Parse.{Parsed, bad, good, Parser, then as rules_then, sound, one}
-use Rattle.table_offsets.specs.declared.Walk.{Walk}
-use Rattle.table_offsets.specs.declared.Walk.TheVariants.{Fine, Bad}
+use Rattle.table_offsets.specs.Walks.{Walk, Fine, Bad}
 use Rattle.table_offsets.specs.Check.{pick_n, first, or_else, then, byte_at, head_fault, order_fault, lowest}
 use Rattle.table_offsets.proofs.Picked.{first_fine}
 use Rattle.table_offsets.proofs.TieBytes.{Rest}

@@ -9,14 +9,14 @@ use lib.ListN.{length, get_or, set}
 use Rattle.table_offsets.specs.Check.{pick_n, pick_w, head_fault, number_at, stray, high_at, low_at, ranges_at, range_fault}
 use Rattle.table_offsets.specs.Check.{bounds_fault, key, u64, members_at, options_at, option_fault}
 use Rattle.table_offsets.specs.Check.{latest, or_else, then, class_at, root_here, root_at, under, roots_at}
-use Rattle.table_offsets.specs.declared.Walk.{Walk}
-use Rattle.table_offsets.specs.declared.Walk.TheVariants.{Fine, Bad}
+use Rattle.table_offsets.specs.Walks.{Walk, Fine, Bad}
 use Rattle.table_offsets.proofs.Picked.{first-zero, else-zero, else-some}
 use Rattle.table_offsets.proofs.Places.{latest-set}
 
 -- ranges
 
-pub range-on : (t : List ℕ) (h : ℕ) (done : List ℕ) (at s l m : ℕ) → head_fault t at ≡ 0 → get_or t at 0 ≡ 33 → s ≡ get_or t (at + 1) 0 → s ≤ 1
+pub range-on : (t : List ℕ) (h : ℕ) (done : List ℕ) (at s l m : ℕ) → head_fault t at ≡ 0 → get_or t at 0 ≡ 33
+    → s ≡ get_or t (at + 1) 0 → s ≤ 1
     → l ≡ key s (number_at t (at + 2) 8) → m ≡ key s (number_at t (at + 10) 8) → range_fault t h done at ≡ bounds_fault t h done s l m
 unfolding range_fault low_at high_at u64 pick_n
 range-on t h done at s l m e k a b p q = rw (first-zero _ e, eq-eqb _ _ k, ← a, le-ltb _ _ b, ← p, ← q)

@@ -1,9 +1,7 @@
 -- The body of a kind, as the rules' rows have it.
-use Rattle.std.specs.Prelude.{ℕ, Bool, true, false, [], get_or}
+use Rattle.std.specs.Prelude.{ℕ, Bool, true, false, [], get_or, Some, None, Option}
 use Rattle.rules.specs.Faults.{unknown_kind}
 use Rattle.rules.specs.Record.{Record, unknown, fragment, root, class, range, option, Layout, no, layouts}
-use Rattle.table_offsets.specs.declared.Body.{Body}
-use Rattle.table_offsets.specs.declared.Body.TheVariants.{Bytes, Unknown}
 
 -- whether there is such a kind: a row says nothing of any bytes where there is not
 unfoldable pub known : Record → Bool
@@ -14,10 +12,10 @@ known (class s) = true
 known (range g l h) = true
 known (option n) = true
 
-unfoldable pub body_in : Layout → Body
-body_in row = elim (known (row.1 [])) [ true ↦ Bytes row.0 | false ↦ Unknown ]
+unfoldable pub body_in : Layout → Option ℕ
+body_in row = elim (known (row.1 [])) [ true ↦ Some row.0 | false ↦ None ]
 
-unfoldable pub body_of : ℕ → Body
+unfoldable pub body_of : ℕ → Option ℕ
 body_of kind = body_in (get_or layouts kind no)
 
 -- the same as a number: the body's bytes, or a mark where there is no such kind
@@ -31,6 +29,6 @@ unfoldable pub body_mark : ℕ → ℕ
 body_mark kind = mark (get_or layouts kind no)
 
 -- "unknown kind" (2)
-unfoldable pub body_number : Body → ℕ
-body_number (Bytes n) = 0
-body_number Unknown = unknown_kind
+unfoldable pub body_number : Option ℕ → ℕ
+body_number (Some n) = 0
+body_number None = unknown_kind

@@ -1,10 +1,11 @@
 -- The check by offsets, as the code walks: the number and the byte of the first record with a fault, or the byte behind what was walked.
 -- It is the rules' own answer (proofs/TieCheck).
-use Rattle.std.specs.Prelude.{ℕ, zero, suc, ◌+◌, ◌-◌, ◌*◌, ◌^◌, ◌%◌, List, [], ◌∷◌, Bool, true, false, not, ◌&&◌, ◌||◌, length, get_or, ltb, leb, eqb}
-use Rattle.table_offsets.specs.declared.Walk.{Walk}
-use Rattle.table_offsets.specs.declared.Walk.TheVariants.{Fine, Bad}
-use Rattle.rules.specs.declared.Checked.{Checked}
-use Rattle.rules.specs.declared.Checked.TheVariants.{Accepted, Refused}
+use Rattle.rules.specs.Verdict.{table_fault}
+use Rattle.rules.specs.declared.TableFault.{TableFault}
+use Rattle.rules.specs.declared.ByteLength.{ByteLength}
+use Rattle.std.specs.Prelude.{ℕ, zero, suc, ◌+◌, ◌-◌, ◌*◌, ◌^◌, ◌%◌, List, [], ◌∷◌, Bool, true, false, not, ◌&&◌, ◌||◌, length, get_or, Ok, Err, Result}
+use Rattle.std.specs.Prelude.{ltb, leb, eqb}
+use Rattle.table_offsets.specs.Walks.{Walk, Fine, Bad}
 use Rattle.rules.specs.Place.{byte_length}
 use Rattle.table_offsets.specs.declared.Under.{Under}
 use Rattle.table_offsets.specs.declared.Says.{Says}
@@ -63,7 +64,16 @@ u64 t at = number_at t at 8
 
 unfoldable pub bits_say : List ℕ → ℕ → ℕ → ℕ → ℕ → Says
 bits_say t at k i r =
-    record { kind = k; length = byte_at t (at + 1); order = byte_at t (at + 2); align = byte_at t (at + 3); sets = i; reads = 0; role = r; count = 1 }
+    record {
+      kind = k;
+      length = byte_at t (at + 1);
+      order = byte_at t (at + 2);
+      align = byte_at t (at + 3);
+      sets = i;
+      reads = 0;
+      role = r;
+      count = 1;
+    }
 
 unfoldable pub say : ℕ → ℕ → ℕ → ℕ → ℕ → ℕ → Says
 say k i j r n a = record { kind = k; length = 1; order = 0; align = a; sets = i; reads = j; role = r; count = n }
@@ -194,7 +204,8 @@ unfoldable pub meets_any : List ℕ → ℕ → ℕ → ℕ → List ℕ → Boo
 meets_any t sign low high [] = false
 meets_any t sign low high (o ∷ os) = pick_b (meets_option t sign low high o) true (meets_any t sign low high os)
 
--- number 13 of a range from low to high, where the first range of the optional or variant stands at `head`, and the earlier options at `done`
+-- number 13 of a range from low to high, where the first range of the optional or variant stands at `head`, and the earlier options at
+-- `done`
 unfoldable pub bounds_fault : List ℕ → ℕ → List ℕ → ℕ → ℕ → ℕ → ℕ
 bounds_fault t head done sign low high =
     pick_n (ltb high low) 13 (pick_n (eqb (byte_at t (head + 1)) sign) (pick_n (meets_any t sign low high done) 13 0) 13)
@@ -329,33 +340,33 @@ counted k = pick_n (eqb k 2) 0 1
 unfoldable pub traced : Bool → ℕ → Bool
 traced trace k = pick_b (eqb k 2) true trace
 
-unfoldable pub or_refused : ℕ → ℕ → Checked → Checked
+unfoldable pub or_refused : ℕ → ℕ → Result ByteLength TableFault → Result ByteLength TableFault
 or_refused zero at c = c
-or_refused (suc n) at c = Refused (suc n) (byte_length at)
+or_refused (suc n) at c = Err (table_fault (suc n) (byte_length at))
 
-unfoldable pub then_checked : Walk → (ℕ → ℕ → Checked) → (ℕ → Checked) → Checked
+unfoldable pub then_checked : Walk → (ℕ → ℕ → Result ByteLength TableFault) → (ℕ → Result ByteLength TableFault) → Result ByteLength TableFault
 then_checked (Fine e) g f = f e
 then_checked (Bad n p) g f = g n p
 
 -- fragments to the end; each takes bytes, so that as many rounds as there are bytes left are enough
-unfoldable pub fragments_at : ℕ → List ℕ → Bool → List ℕ → ℕ → Checked
-fragments_at zero t trace seen at = Accepted (byte_length (length t))
+unfoldable pub fragments_at : ℕ → List ℕ → Bool → List ℕ → ℕ → Result ByteLength TableFault
+fragments_at zero t trace seen at = Ok (byte_length (length t))
 fragments_at (suc left) t trace seen at =
     elim (ltb at (length t)) [
       | true ↦ or_refused (fragment_fault t trace seen (length seen) at) at
           (then_checked (roots_of t at (byte_at t at))
-          (λ m p. Refused (lowest t (traced trace (byte_at t at)) (seen_with at (byte_at t at) seen) m p) (byte_length p))
+          (λ m p. Err (table_fault (lowest t (traced trace (byte_at t at)) (seen_with at (byte_at t at) seen) m p) (byte_length p)))
           (λ e. fragments_at left t (traced trace (byte_at t at)) (seen_with at (byte_at t at) seen) e))
-      | false ↦ Accepted (byte_length (length t))
+      | false ↦ Ok (byte_length (length t))
     ]
 
 unfoldable pub first_fault : List ℕ → ℕ
 first_fault t = first (head_fault t 0) (pick_n (eqb (byte_at t 0) 1) (pick_n (eqb (byte_at t 1) 2) 0 5) 4)
 
 -- the whole check
-unfoldable pub checked_at : List ℕ → Checked
+unfoldable pub checked_at : List ℕ → Result ByteLength TableFault
 checked_at t =
     elim (eqb (length t) 0 || ltb 65536 (length t)) [
-      | true ↦ Refused 1 (byte_length 0)
+      | true ↦ Err (table_fault 1 (byte_length 0))
       | false ↦ or_refused (first_fault t) 0 (or_refused (stray t 2) 2 (fragments_at (length t - 2) t false [] 2))
     ]

@@ -1,3 +1,5 @@
 pub mod Bodies
 pub mod Check
 pub mod Earlier
+pub mod Faults
+pub mod Walks

@@ -3,19 +3,9 @@
 // definition shares with the code.
 #![tactic(auto)]
 
-// A kind's body: so many bytes; or there is no such kind.
-#[derive(Clone, Copy)]
-pub enum Body {
-    Bytes(usize),
-    Unknown,
-}
+pub use faults::{Fault, FaultAt};
 
-// What a walk over a part of a table finds: the byte behind it, or the number and the byte of the first record with a fault.
-#[derive(Clone, Copy)]
-pub enum Walk {
-    Fine(usize),
-    Bad(u8, usize),
-}
+pub mod faults;
 
 // Under what a class stands: its root, whether its stream class has a clock and its trace class a UUID, and the root structure's byte.
 #[derive(Clone, Copy)]

@@ -5,9 +5,8 @@ ghost use Rattle.table_offsets.specs.Bodies.{body_mark, body_of};
 
 use numbers::kinds;
 use numbers::kinds::LAST_KIND;
-use table_offsets::Body;
 
-// Stands in the table where there is no such kind.
+// Stands in the table where there is no such kind: a row is a byte, and the definition (`body_mark`) has this mark.
 pub const NO_KIND: u8 = 255;
 
 // By kind, 0 to 34.
@@ -87,12 +86,12 @@ pub fn mark_of(kind: u8) -> u8
     BODY_LENGTHS[place]
 }
 
-pub fn body_of(kind: u8) -> Body
+pub fn body_of(kind: u8) -> Option<usize>
     ensures { result ≡ body_of kind }
 {
     let length = mark_of(kind);
     if length == NO_KIND {
-        return Body::Unknown;
+        return None;
     }
-    Body::Bytes(length as usize)
+    Some(length as usize)
 }

@@ -8,30 +8,31 @@
 
 ghost use Rattle.std.specs.Prelude.{◌≡◌, ◌≤◌, ◌<◌, ◌+◌, ◌^◌, get_or};
 ghost use Rattle.table_offsets.specs.Check.{head_fault, bits_say, say, says_at};
+ghost use Rattle.table_offsets.specs.Faults.{fault_number};
 ghost use Rattle.table_records.specs.Named.{slot_place, named_at};
 
 use bodies::{NO_KIND, mark_of};
-use numbers::{faults, kinds, limits, roles};
+use numbers::{kinds, limits, roles};
 use table_bytes::{byte, two, wide};
-use table_offsets::Says;
+use table_offsets::{Fault, Says};
 
 pub mod bodies;
 
-// Numbers 2 and 3 of the record at `at`, or 0.
-pub fn head_fault(table: &[u8], at: usize) -> u8
-    ensures { result ≡ head_fault table.now at }
+// Whether the record at `at` is one and all there: numbers 2 and 3.
+pub fn head_fault(table: &[u8], at: usize) -> Result<(), Fault>
+    ensures { fault_number result ≡ head_fault table.now at }
 {
     if table.len() <= at {
-        return faults::CUT_SHORT;
+        return Err(Fault::CutShort);
     }
     let b = mark_of(table[at]);
     if b == NO_KIND {
-        return faults::UNKNOWN_KIND;
+        return Err(Fault::UnknownKind);
     }
     if table.len() - at <= wide(b) {
-        return faults::CUT_SHORT;
+        return Err(Fault::CutShort);
     }
-    faults::NO_FAULT
+    Ok(())
 }
 
 // What the class record at `at` says. The body's bytes are read before its kind is looked at; a kind uses those that it has.
@@ -163,7 +164,8 @@ fn plain(kind: u8, sets: u8, reads: u8, role: u8, count: usize, align: u8) -> Sa
     }
 }
 
-// Where a record names the slot to set, from its first byte: behind "length, order, align"; first in its body (The class table); or not.
+// Where a record names the slot to set, from its first byte: behind "length, order, align"; first in its body (The class table); or not,
+// which is 0 as in the definition (`slot_place`).
 const BEHIND_ALIGN: usize = 4;
 
 const FIRST_IN_BODY: usize = 1;

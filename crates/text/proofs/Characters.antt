@@ -1,22 +1,23 @@
 -- What is due of a character: that it is as the rows say, and that the bytes behind are well-formed as `utf8_from` says of what is due.
 -- In order: behind a first byte, by its row; behind a next byte; what is due, over the rest of the bytes; the loop over them.
+use Rattle.std.specs.Prelude.{Option, None, Some}
 use mathlib.Core.Path.{◌≡◌, refl, sym, ap, ◌∙◌}
 use mathlib.Core.Logic.{⊎_elim}
 use mathlib.Core.List.{List, [], ◌∷◌}
 use mathlib.Core.Bool.{Bool, true, false, ◌&&◌}
-use mathlib.Core.Option.{Option, none, some}
 use Prim.Native.Nat.{ℕ, zero, suc, ◌+◌, ◌-◌, ◌<◌, ◌≤◌}
 use native.Mathlib.Omega.{arith}
 use borrow.Author.Tests.{leb-true, le-leb, lt-leb, ne_eqb}
 use lib.Dec.{leb, eqb}
-use lib.ListN.{length, get_or, take, drop}
+use native.Mathlib.Numerals.{add-one}
+use lib.ListN.{length, get_or, take, drop, drop_of_length-le}
+use lib.Seq.{drop-cons}
 use Rattle.facts.proofs.Numbers.{lt-or-ge}
 use Rattle.facts.proofs.Truth.{and_left, and_right, and_none}
 use Rattle.rules.specs.Text.{Row, rows, row_of, utf8_from, utf8}
 use Rattle.text.specs.declared.Due.{Due}
 use Rattle.text.specs.Reading.{bytes_due, none_due, row_due, first_due, due_behind}
 use Rattle.text.proofs.Rows.{row_at, Behind, row-at}
-use Rattle.text.proofs.Laws.{part, left-next, left-none}
 
 -- Behind a first byte, by its row
 
@@ -30,12 +31,12 @@ abbrev NoneOf : List Row → ℕ → Type 0
 NoneOf [] b = Unit {0}
 NoneOf (r ∷ rs) b = (r.first ≤ b → b ≤ r.last → ⊥) × NoneOf rs b
 
-row-none : (rs : List Row) (b : ℕ) → NoneOf rs b → row_of rs b ≡ none
+row-none : (rs : List Row) (b : ℕ) → NoneOf rs b → row_of rs b ≡ None
 unfolding row_of
 row-none [] b h = refl
 row-none (r ∷ rs) b h = by (row-none rs b h.1) (leb r.first b && leb b r.last) refl
   where
-    by : row_of rs b ≡ none → (test : Bool) → (leb r.first b && leb b r.last) ≡ test → row_of (r ∷ rs) b ≡ none
+    by : row_of rs b ≡ None → (test : Bool) → (leb r.first b && leb b r.last) ≡ test → row_of (r ∷ rs) b ≡ None
     by later true i = absurd (h.0 (leb-true r.first b (and_left _ _ i)) (leb-true b r.last (and_right (leb r.first b) _ i)))
     by later false i = simp (i, row_of) later
 
@@ -132,10 +133,10 @@ none-goes (zero ∷ bs) = refl
 none-goes (suc b ∷ bs) = simp (lt-leb (suc b) 0 (omega arith), and_none)
 
 row_goes : (o : Option Row) (bs : List ℕ)
-    → ◌≡◌ {A = Bool} (elim o [ none ↦ false | some r ↦ utf8_from r.more r.low r.high bs ]) (goes_on (row_due o) bs)
+    → ◌≡◌ {A = Bool} (elim o [ None ↦ false | Some r ↦ utf8_from r.more r.low r.high bs ]) (goes_on (row_due o) bs)
 unfolding bytes_due row_due
-row_goes none bs = none-goes bs
-row_goes (some r) bs = refl
+row_goes None bs = none-goes bs
+row_goes (Some r) bs = refl
 
 byte-goes : (n l h b : ℕ) (bs : List ℕ) → utf8_from n l h (b ∷ bs) ≡ goes_on (due_behind (bytes_due n l h) b) bs
 unfolding utf8_from bytes_due first_due due_behind
@@ -161,22 +162,19 @@ due-ends d = by d.more
     by zero = refl
     by (suc n) = ne_eqb (suc n) 0 (λ e. absurd (omega arith))
 
--- The loop over the part of a stream
+-- The loop over them
 
-module _ (stream : List ℕ) (from bytes : ℕ) where
+module _ (bs : List ℕ) where
   -- so many bytes are passed; what is due goes on over what is left
   abbrev pub Goes : ℕ → Due → Type 0
-  Goes i d = utf8 (part stream from bytes) ≡ goes_on d (drop i (part stream from bytes))
+  Goes i d = utf8 bs ≡ goes_on d (drop i bs)
 
   pub goes_first : Goes 0 (bytes_due 0 0 0)
   unfolding utf8 bytes_due
   goes_first = refl
 
-  pub goes-next : from + bytes ≤ length stream → (i : ℕ) → i < bytes → (d : Due) → Goes i d
-      → Goes (i + 1) (due_behind d (get_or stream (from + i) 0))
-  goes-next h i l d g = g ∙ rw (left-next stream from bytes h i l) (due-goes d _ _)
+  pub goes-next : (i : ℕ) → i < length bs → (d : Due) → Goes i d → Goes (i + 1) (due_behind d (get_or bs i 0))
+  goes-next i l d g = g ∙ rw (drop-cons bs i 0 l, add-one i) (due-goes d _ _)
 
-  pub goes_last : (i : ℕ) → i ≡ bytes → (d : Due) → Goes i d → eqb d.more 0 ≡ utf8 (part stream from bytes)
-  goes_last i e d g =
-      let end = ap (λ k. drop k (part stream from bytes)) e ∙ left-none stream from bytes in
-      due-ends d ∙ sym (g ∙ ap (goes_on d) end)
+  pub goes_last : (i : ℕ) → length bs ≤ i → (d : Due) → Goes i d → eqb d.more 0 ≡ utf8 bs
+  goes_last i e d g = due-ends d ∙ sym (g ∙ ap (goes_on d) (drop_of_length-le bs e))

@@ -1,10 +1,10 @@
 -- `utf8` holds of scalar values encoded and of nothing else: the ranges of its nine rows are the scalar values. And what is encoded can be
 -- decoded, so no two lists are encoded as one. In order: what is encoded is text; all text is; in one way.
+use Rattle.std.specs.Prelude.{Option, None, Some}
 use mathlib.Core.Path.{◌≡◌, refl, sym, ap, ◌∙◌}
 use mathlib.Core.Logic.{⊎_elim}
 use mathlib.Core.List.{List, [], ◌∷◌, ◌++◌}
 use mathlib.Core.Bool.{Bool, true, false, ◌&&◌, cond}
-use mathlib.Core.Option.{Option, none, some}
 use Prim.Native.Nat.{ℕ, zero, suc, ◌+◌, ◌-◌, ◌*◌, ◌<◌, ◌≤◌, zero-le}
 use native.Mathlib.Nat.{add-sub_cancel_left}
 use native.Mathlib.Omega.{arith}
@@ -85,12 +85,12 @@ all_give =
     ▷ tt
 
 row_gives : (rs : List Row) → All rs → (b : ℕ) (r : Row) (bs : List ℕ)
-    → row_of rs b ≡ some r → Tail r.more r.low r.high bs → Encodes (b ∷ bs)
+    → row_of rs b ≡ Some r → Tail r.more r.low r.high bs → Encodes (b ∷ bs)
 unfolding row_of
 row_gives [] g b r bs h t = let z : ◌≡◌ {A = ℕ} 0 1 = cc in absurd (omega arith)
 row_gives (q ∷ rs) g b r bs h t = by (row_gives rs g.1 b r bs) (leb q.first b && leb b q.last) refl
   where
-    by : (row_of rs b ≡ some r → Tail r.more r.low r.high bs → Encodes (b ∷ bs))
+    by : (row_of rs b ≡ Some r → Tail r.more r.low r.high bs → Encodes (b ∷ bs))
         → (test : Bool) → (leb q.first b && leb b q.last) ≡ test → Encodes (b ∷ bs)
     by later true i =
         let a = leb-true q.first b (and_left _ _ i) in
@@ -99,7 +99,7 @@ row_gives (q ∷ rs) g b r bs h t = by (row_gives rs g.1 b r bs) (leb q.first b 
         g.0 b bs a z (rw same t)
     by later false i = later (simp (i, row_of) at h) t
 
-no_row : (b : ℕ) (bs : List ℕ) → row_of rows b ≡ none → utf8 (b ∷ bs) ≡ false
+no_row : (b : ℕ) (bs : List ℕ) → row_of rows b ≡ None → utf8 (b ∷ bs) ≡ false
 unfolding utf8_from utf8
 no_row b bs h = simp (h, utf8, utf8_from)
 
@@ -108,8 +108,8 @@ lead-given : (b : ℕ) (bs : List ℕ) → utf8 (b ∷ bs) ≡ true
 lead-given b bs e more = by (row_of rows b) refl
   where
     by : (r : Option Row) → row_of rows b ≡ r → Encodes (b ∷ bs)
-    by none i = absurd (clash (sym (no_row b bs i) ∙ e))
-    by (some r) i = row_gives rows all_give b r bs i (more _ _ _ (sym (lead-taken b r bs i) ∙ e))
+    by None i = absurd (clash (sym (no_row b bs i) ∙ e))
+    by (Some r) i = row_gives rows all_give b r bs i (more _ _ _ (sym (lead-taken b r bs i) ∙ e))
 
 next-given : (n l h b : ℕ) (bs : List ℕ) → utf8_from (suc n) l h (b ∷ bs) ≡ true
     → (utf8_from n 0x80 0xBF bs ≡ true → Tail n 0x80 0xBF bs) → Tail (suc n) l h (b ∷ bs)

@@ -1,23 +1,26 @@
 -- Plain bytes in front of a text: they change neither whether it is one, nor what behind them counts.
--- In order: how many there are, byte by byte; the text behind them; the loops that pass them, one byte and eight at a time; the reading;
--- the same in one number.
-use mathlib.Core.Path.{◌≡◌, refl, sym, ap, ◌∙◌}
+-- In order: how many there are, byte by byte; the text behind them; the loop that passes eight at a time; the reading; the same of bytes
+-- that are lent.
+use mathlib.Core.Path.{◌≡◌, refl, sym, ◌∙◌}
 use mathlib.Core.Logic.{⊎_elim}
 use mathlib.Core.List.{List, [], ◌∷◌}
 use mathlib.Core.Bool.{Bool, true, false}
-use Prim.Native.Nat.{ℕ, zero, suc, ◌+◌, ◌-◌, ◌*◌, ◌/◌, ◌%◌, ◌<◌, ◌≤◌, min}
+use Prim.Native.Nat.{ℕ, zero, suc, ◌+◌, ◌-◌, ◌*◌, ◌/◌, ◌<◌, ◌≤◌, min}
 use native.Mathlib.Numerals.{add-one}
 use native.Mathlib.Omega.{arith}
-use borrow.Author.Tests.{ltb-true, leb-true, leb-false, lt-ltb, le-ltb}
-use lib.Dec.{ltb, leb}
-use lib.ListN.{length, get_or, take, drop}
-use lib.Seq.{take-take}
+use borrow.Author.Tests.{ltb-true, leb-true, leb-false, lt-ltb, le-ltb, ne_eqb}
+use lib.Dec.{eqb, ltb, leb}
+use lib.ListN.{length, get_or, take, drop, drop_of_length-le, length-take, length-drop}
+use lib.Seq.{drop-cons, take_all}
+use Rattle.std.specs.Prelude.{cond}
+use Rattle.std.specs.List.{prefix_len}
 use Rattle.facts.proofs.Numbers.{lt-or-ge}
 use Rattle.rules.specs.Place.{byte_length}
 use Rattle.rules.specs.Text.{text_length, rows, utf8_from, utf8, is_text}
-use Rattle.text.specs.Reading.{text_of, told_of, text_told, plain_length}
+use Rattle.text.specs.declared.Text.{Text}
+use Rattle.text.specs.Reading.{text_of, plain_length, is_some, is_plain}
+use Rattle.text.proofs.Laws.{text-le, text-prefix}
 use Rattle.text.proofs.Rows.{row_here, lead-taken, all-taken}
-use Rattle.text.proofs.Laws.{text-fits, part, part-le, left-next, left-none, left-part}
 
 -- How many there are, byte by byte
 
@@ -46,7 +49,7 @@ plain-some (suc b) bs h = ⊎_elim
 abbrev one_more : Bool → ℕ → ℕ
 one_more test n = elim test [ true ↦ n + 1 | false ↦ 0 ]
 
-plain-le : (bs : List ℕ) → plain_length bs ≤ length bs
+pub plain-le : (bs : List ℕ) → plain_length bs ≤ length bs
 unfolding plain_length
 plain-le [] = omega arith
 plain-le (zero ∷ bs) = omega arith
@@ -80,8 +83,29 @@ plain-drop (suc n) (suc b ∷ bs) l = by (plain-drop n bs) (ltb (suc b) 128) l
     by h true l = omega (arith, h (omega arith))
     by h false l = absurd (omega arith)
 
-pub plain_fits : (stream : List ℕ) (from bytes n : ℕ) → n ≡ plain_length (part stream from bytes) → n ≤ bytes
-plain_fits stream from bytes n e = omega (arith, plain-le (part stream from bytes), part-le stream from bytes)
+-- they go on as long as no byte is another one
+plain-prefix : (bs : List ℕ) → plain_length bs ≡ prefix_len is_plain bs
+unfolding plain_length
+plain-prefix [] = refl
+plain-prefix (zero ∷ bs) = refl
+plain-prefix (suc b ∷ bs) =
+    let some : eqb (suc b) 0 ≡ false = ne_eqb (suc b) 0 (λ e. absurd (omega arith)) in
+    simp some (by (plain-prefix bs) (ltb (suc b) 128))
+  where
+    by : plain_length bs ≡ prefix_len is_plain bs → (test : Bool)
+        → one_more test (plain_length bs) ≡ cond test (1 + prefix_len is_plain bs) 0
+    by h true = omega arith
+    by h false = refl
+
+-- what is lent of bytes from one on is all that is behind it
+rest-all : (k : ℕ) (bs : List ℕ) → take (length bs - k) (drop k bs) ≡ drop k bs
+rest-all k bs = take_all (length bs - k) (drop k bs) (omega (arith, length-drop k bs))
+
+-- as many as are whole eights, and behind them so many more
+plain-told : (bs : List ℕ) (k n : ℕ) → k ≡ plain_length bs / 8 * 8 → n ≡ prefix_len is_plain (take (length bs - k) (drop k bs))
+    → k + n ≡ plain_length bs
+plain-told bs k n e f =
+    let more = rw (rest-all k bs) at f in omega (arith, e, more, plain-drop k bs (omega (arith, e)), plain-prefix (drop k bs))
 
 -- The text behind them
 
@@ -113,56 +137,20 @@ plain-behind (suc b ∷ bs) = by (plain-behind bs) (ltb (suc b) 128) refl
     by h true i = behind_more b bs _ (ltb-true (suc b) 128 i) h
     by h false i = behind-none (suc b ∷ bs)
 
--- The loops that pass them
+-- The loop that passes them, eight at a time
 
-module _ (stream : List ℕ) (from bytes : ℕ) where
-  -- so many are passed; what is left goes on
-  abbrev pub Passed : ℕ → Type 0
-  Passed i = plain_length (part stream from bytes) ≡ i + plain_length (drop i (part stream from bytes))
+module _ (bs : List ℕ) (i : ℕ) (h : 8 * i ≤ plain_length bs) where
+  abbrev ahead : ℕ
+  ahead = plain_length (drop (8 * i) bs)
 
-  pub passed-some : (i : ℕ) → i ≤ plain_length (part stream from bytes) → Passed i
-  passed-some i l = plain-drop i (part stream from bytes) l
+  pub eight-more : leb 8 ahead ≡ true → 8 * (i + 1) ≤ plain_length bs
+  eight-more e = omega (arith, plain-drop (8 * i) bs h, leb-true 8 ahead e)
 
-  module _ (h : from + bytes ≤ length stream) (i : ℕ) (l : i < bytes) (p : Passed i) where
-    abbrev byte : ℕ
-    byte = get_or stream (from + i) 0
+  pub eights-few : leb 8 ahead ≡ false → 8 * i ≡ plain_length bs / 8 * 8
+  eights-few e = omega (arith, plain-drop (8 * i) bs h, leb-false 8 ahead e)
 
-    abbrev rest : List ℕ
-    rest = drop (i + 1) (part stream from bytes)
-
-    next : plain_length (drop i (part stream from bytes)) ≡ plain_length (byte ∷ rest)
-    next = ap plain_length (left-next stream from bytes h i l)
-
-    pub passed-more : (byte ≡ 0 → ⊥) → byte < 128 → Passed (i + 1)
-    passed-more there z = omega (arith, p, next, plain-next byte rest there z)
-
-    pub passed-zero : byte ≡ 0 → i ≡ plain_length (part stream from bytes)
-    passed-zero e = omega (arith, p, next, plain-zero byte rest e)
-
-    pub passed-high : 128 ≤ byte → i ≡ plain_length (part stream from bytes)
-    passed-high a = omega (arith, p, next, plain-high byte rest a)
-
-  pub passed-all : (i : ℕ) → i ≡ bytes → Passed i → i ≡ plain_length (part stream from bytes)
-  unfolding plain_length
-  passed-all i e p = omega (arith, p, ap plain_length (ap (λ k. drop k (part stream from bytes)) e ∙ left-none stream from bytes))
-
-  -- eight at a time, as long as eight are left
-
-  module _ (i : ℕ) (p : Passed i) where
-    abbrev ahead : ℕ
-    ahead = plain_length (drop (from + i) stream)
-
-    left-ahead : plain_length (drop i (part stream from bytes)) ≡ min (bytes - i) ahead
-    left-ahead = ap plain_length (left-part stream from bytes i) ∙ plain-take (bytes - i) (drop (from + i) stream)
-
-    pub eight-more : 8 ≤ bytes - i → leb 8 ahead ≡ true → Passed (i + 8)
-    eight-more l e = passed-some (i + 8) (omega (arith, p, left-ahead, leb-true 8 ahead e))
-
-    pub eights-few : i % 8 ≡ 0 → 8 ≤ bytes - i → leb 8 ahead ≡ false → i ≡ plain_length (part stream from bytes) / 8 * 8
-    eights-few z l e = omega (arith, p, left-ahead, leb-false 8 ahead e)
-
-    pub eights-end : i % 8 ≡ 0 → bytes - i < 8 → i ≡ plain_length (part stream from bytes) / 8 * 8
-    eights-end z l = omega (arith, p, left-ahead)
+  pub eights-end : i ≡ length bs / 8 → length bs / 8 * 8 ≡ plain_length bs / 8 * 8
+  eights-end e = omega (arith, h, plain-le bs)
 
 -- The reading
 
@@ -175,65 +163,64 @@ zero-next : (b : ℕ) (bs : List ℕ) → b ≡ 0 → (text_length (b ∷ bs) �
 unfolding text_length utf8_from utf8 is_text
 zero-next b bs e = rw e (refl, refl)
 
-module _ (stream : List ℕ) (from bytes n : ℕ) (e : n ≡ plain_length (part stream from bytes)) where
+module _ (bs : List ℕ) (n : ℕ) (e : n ≡ plain_length bs) where
   -- no byte is left behind them
-  pub all_plain_lem : n ≡ bytes → record { count = byte_length bytes; formed = true } ≡ text_of (part stream from bytes)
+  all_plain_lem : n ≡ length bs → record { count = byte_length n; formed = true } ≡ text_of bs
   unfolding text_length utf8_from utf8 is_text
   all_plain_lem same =
-      let end = ap (λ k. drop k (part stream from bytes)) same ∙ left-none stream from bytes in
-      text-behind _ n bytes true e (rw end (omega arith)) (rw end)
+      let end = drop_of_length-le bs {i = n} (omega arith) in text-behind bs n n true e (rw end (omega arith)) (rw end)
 
-  module _ (h : from + bytes ≤ length stream) where
-    -- a zero byte stands behind them
-    pub plain-ended : n < bytes → get_or stream (from + n) 0 ≡ 0
-        → record { count = byte_length n; formed = true } ≡ text_of (part stream from bytes)
-    plain-ended l z =
-        let next = left-next stream from bytes h n l in
-        let ends = zero-next _ (drop (n + 1) (part stream from bytes)) z in
-        text-behind _ n n true e (rw next (omega (arith, ends.0))) (rw next (sym ends.1))
+  -- a zero byte stands behind them
+  plain-ended : n < length bs → get_or bs n 0 ≡ 0 → record { count = byte_length n; formed = true } ≡ text_of bs
+  plain-ended l z =
+      let next = drop-cons bs n 0 l in
+      let ends = zero-next _ (drop (suc n) bs) z in
+      text-behind bs n n true e (rw next (omega (arith, ends.0))) (rw next (sym ends.1))
 
   -- others do
-  pub plain-before : (rest : ℕ) (t : Bool) → rest ≡ text_length (part stream (from + n) (bytes - n))
-      → t ≡ utf8 (take rest (drop (from + n) stream))
-      → record { count = byte_length (n + rest); formed = t } ≡ text_of (part stream from bytes)
-  unfolding is_text
-  plain-before rest t f g =
-      let left = left-part stream from bytes n in
-      let room : rest ≤ bytes - n = text-fits stream (from + n) (bytes - n) rest f in
-      text-behind _ n (n + rest) t e (rw (left, ← f)) (rw (left, ← f, take-take rest (bytes - n) (drop (from + n) stream) room) g)
+  module _ (rest : ℕ) (f : rest ≡ prefix_len is_some (take (length bs - n) (drop n bs))) where
+    rest-is : rest ≡ text_length (drop n bs)
+    rest-is = rw (rest-all n bs) at f ∙ sym (text-prefix (drop n bs))
 
--- The reading in one number, and back
+    rest-le : n + rest ≤ length bs
+    rest-le = omega (arith, rest-is, text-le (drop n bs), length-drop n bs, e, plain-le bs)
 
-module _ (n c : ℕ) (bs : List ℕ) where
-  by-formed : (t : Bool) → is_text bs ≡ t → told_of n bs ≡ elim t [ true ↦ text_length bs | false ↦ n + 1 + text_length bs ]
-  unfolding told_of
-  by-formed t e = ap (λ u. elim u [ true ↦ text_length bs | false ↦ n + 1 + text_length bs ]) e
+    plain-before : (t : Bool) → t ≡ utf8 (take rest (take (length bs - n) (drop n bs)))
+        → record { count = byte_length (n + rest); formed = t } ≡ text_of bs
+    unfolding is_text
+    plain-before t g = text-behind bs n (n + rest) t e (rw rest-is) (rw (← rest-is) (rw (rest-all n bs) at g))
 
-  module _ (t : Bool) (e : record { count = byte_length c; formed = t } ≡ text_of bs) where
-    pub text-counted : t ≡ true → c ≡ told_of n bs
-    unfolding text_of
-    text-counted is = omega (arith, ap (λ x. x.count.0) e, by-formed true (sym (ap (λ x. x.formed) e) ∙ is))
+-- The same of bytes that are lent of a stream
 
-    pub no-text-counted : t ≡ false → n + 1 + c ≡ told_of n bs
-    unfolding text_of
-    no-text-counted is = omega (arith, ap (λ x. x.count.0) e, by-formed false (sym (ap (λ x. x.formed) e) ∙ is))
+module _ (s : List ℕ) (at n : ℕ) (h : at + n ≤ length s) where
+  abbrev lent : List ℕ
+  lent = take (at + n - at) (drop at s)
 
-module _ (n v : ℕ) where
-  pub above-told : n < v → record { count = byte_length (v - n - 1); formed = false } ≡ text_told n v
-  unfolding text_told
-  above-told h = rw (lt-ltb n v h, text_told)
+  lent-length : length lent ≡ n
+  lent-length = simp (length-take, length-drop) (omega arith)
 
-  pub within-told : v ≤ n → record { count = byte_length v; formed = true } ≡ text_told n v
-  unfolding text_told
-  within-told h = rw (le-ltb n v h, text_told)
+  lent-text : {x : Text} → x ≡ text_of lent → x ≡ text_of (take n (drop at s))
+  lent-text e = let all : at + n - at ≡ n = omega arith in rw all at e
 
-pub told_back : (n : ℕ) (bs : List ℕ) → text_length bs ≤ n → text_told n (told_of n bs) ≡ text_of bs
-unfolding text_of
-told_back n bs few = by (is_text bs) refl
-  where
-    by : (t : Bool) → is_text bs ≡ t → text_told n (told_of n bs) ≡ text_of bs
-    by true e = rw (by-formed n 0 bs true e, e) (sym (within-told n (text_length bs) few))
-    by false e =
-        let v = n + 1 + text_length bs in
-        let same : v - n - 1 ≡ text_length bs = omega arith in
-        rw (by-formed n 0 bs false e, e) (sym (above-told n v (omega arith)) ∙ ap (λ k. record { count = byte_length k; formed = false }) same)
+  -- k plain bytes as whole eights, and m more
+  module _ {k m : ℕ} (e : k ≡ plain_length lent / 8 * 8) (f : m ≡ prefix_len is_plain (take (length lent - k) (drop k lent))) where
+    pub lent-few : k + m ≤ n
+    lent-few = omega (arith, plain-told lent k m e f, plain-le lent, lent-length)
+
+    pub lent-plain : k + m ≡ n → record { count = byte_length n; formed = true } ≡ text_of (take n (drop at s))
+    lent-plain all = lent-text (rw all at (all_plain_lem lent (k + m) (plain-told lent k m e f) (all ∙ sym lent-length)))
+
+    pub lent-ended : k + m < n → get_or lent (k + m) 0 ≡ 0
+        → record { count = byte_length (k + m); formed = true } ≡ text_of (take n (drop at s))
+    lent-ended l z = lent-text (plain-ended lent (k + m) (plain-told lent k m e f) (omega (arith, lent-length)) z)
+
+    module _ {rest : ℕ} (g : rest ≡ prefix_len is_some (take (length lent - (k + m)) (drop (k + m) lent))) where
+      pub lent-fits : k + m + rest ≤ n
+      lent-fits = omega (arith, rest-le lent (k + m) (plain-told lent k m e f) rest g, lent-length)
+
+      pub lent-cut : rest ≡ length (take rest (take (length lent - (k + m)) (drop (k + m) lent)))
+      lent-cut = simp (length-take, length-drop) (omega (arith, lent-fits, lent-length))
+
+      pub lent-before : {t : Bool} → t ≡ utf8 (take rest (take (length lent - (k + m)) (drop (k + m) lent)))
+          → record { count = byte_length (k + m + rest); formed = t } ≡ text_of (take n (drop at s))
+      lent-before {t} u = lent-text (plain-before lent (k + m) (plain-told lent k m e f) rest g t u)

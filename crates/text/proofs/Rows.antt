@@ -1,8 +1,8 @@
 -- What the nine rows of `utf8` take: each the encodings of a range of numbers.
 -- In order: an encoding by its range; the row of a byte; a character's bytes; those of two bytes and more, by their bits; the nine rows.
+use Rattle.std.specs.Prelude.{Some}
 use mathlib.Core.Path.{◌≡◌, refl, ◌∙◌}
 use mathlib.Core.List.{List, [], ◌∷◌, ◌++◌}
-use mathlib.Core.Option.{some}
 use Prim.Native.Nat.{ℕ, zero, suc, ◌+◌, ◌-◌, ◌*◌, ◌/◌, ◌%◌, ◌^◌, ◌<◌, ◌≤◌}
 use native.Mathlib.Omega.{arith}
 use borrow.Author.Tests.{le-leb, lt-leb}
@@ -31,7 +31,7 @@ encode-four c a = simp (lt-leb c 0x7F (omega arith), lt-leb c 0x7FF (omega arith
 
 -- The row of a byte
 
-pub row_here : (r : Row) (rs : List Row) (b : ℕ) → r.first ≤ b → b ≤ r.last → row_of (r ∷ rs) b ≡ some r
+pub row_here : (r : Row) (rs : List Row) (b : ℕ) → r.first ≤ b → b ≤ r.last → row_of (r ∷ rs) b ≡ Some r
 unfolding row_of
 row_here r rs b a z = simp (le-leb r.first b a, le-leb b r.last z, row_of)
 
@@ -52,14 +52,14 @@ Behind [] b = Unit {0}
 Behind (r ∷ rs) b = (r.last < b) × Behind rs b
 
 pub row-at : (rs : List Row) (k b : ℕ) → Behind (take k rs) b → (get_or rs k no_row).first ≤ b → b ≤ (get_or rs k no_row).last
-    → row_of rs b ≡ some (get_or rs k no_row)
+    → row_of rs b ≡ Some (get_or rs k no_row)
 row-at [] k b h a z = absurd (omega arith)
 row-at (r ∷ rs) zero b h a z = row_here r rs b a z
 row-at (r ∷ rs) (suc k) b h a z = row-later r rs b h.0 ∙ row-at rs k b h.1 a z
 
 -- A character's bytes
 
-pub lead-taken : (b : ℕ) (r : Row) (bs : List ℕ) → row_of rows b ≡ some r → utf8 (b ∷ bs) ≡ utf8_from r.more r.low r.high bs
+pub lead-taken : (b : ℕ) (r : Row) (bs : List ℕ) → row_of rows b ≡ Some r → utf8 (b ∷ bs) ≡ utf8_from r.more r.low r.high bs
 unfolding utf8_from utf8
 lead-taken b r bs h = simp (h, utf8, utf8_from)
 

@@ -1,7 +1,6 @@
 -- The papers' numbers for a string: by what its bytes are, and by where a zero byte ends it.
-use Rattle.std.specs.Prelude.{ℕ, Bool, true, false}
-use Rattle.rules.specs.declared.Ended.{Ended}
-use Rattle.rules.specs.declared.Ended.TheVariants.{After, Never}
+use Rattle.rules.specs.declared.ByteLength.{ByteLength}
+use Rattle.std.specs.Prelude.{ℕ, Bool, true, false, Some, None, Option}
 use Rattle.rules.specs.declared.Refusal.TheVariants.{NoZeroByte, NotText}
 use Rattle.rules.specs.Verdict.{refusal_number}
 
@@ -11,6 +10,6 @@ text_number true = 0
 text_number false = refusal_number NotText
 
 -- "no zero byte before the bound" (25), whatever the bytes are
-unfoldable pub ended_number : Bool → Ended → ℕ
-ended_number formed (After n) = text_number formed
-ended_number formed Never = refusal_number NoZeroByte
+unfoldable pub ended_number : Bool → Option ByteLength → ℕ
+ended_number formed (Some n) = text_number formed
+ended_number formed None = refusal_number NoZeroByte

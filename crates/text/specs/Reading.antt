@@ -1,6 +1,5 @@
 -- What bytes say as text, as the code passes over them.
-use Rattle.std.specs.Prelude.{ℕ, zero, suc, ◌+◌, ◌-◌, List, [], ◌∷◌, true, false, ◌&&◌, ltb, leb}
-use Rattle.std.proofs.Math.Option.{Option, none, some}
+use Rattle.std.specs.Prelude.{ℕ, zero, suc, ◌+◌, List, [], ◌∷◌, Bool, not, nat_eq, nat_lt, true, false, ◌&&◌, ltb, leb, Option, None, Some}
 use Rattle.rules.specs.Place.{byte_length}
 use Rattle.rules.specs.Text.{text_length, Row, rows, row_of, is_text}
 use Rattle.text.specs.declared.Text.{Text}
@@ -10,16 +9,12 @@ use Rattle.text.specs.declared.Due.{Due}
 unfoldable pub text_of : List ℕ → Text
 text_of b = record { count = byte_length (text_length b); formed = is_text b }
 
--- the same of n bytes in one number: the count; and where what is counted is no text, all n, one, and the count
-unfoldable pub told_of : ℕ → List ℕ → ℕ
-told_of n b = elim (is_text b) [ true ↦ text_length b | false ↦ n + 1 + text_length b ]
+-- a byte that is not zero; one that is plain ASCII besides
+abbrev pub is_some : ℕ → Bool
+is_some b = not (nat_eq b 0)
 
-unfoldable pub text_told : ℕ → ℕ → Text
-text_told n v =
-    elim (ltb n v) [
-      | true ↦ record { count = byte_length (v - n - 1); formed = false }
-      | false ↦ record { count = byte_length v; formed = true }
-    ]
+abbrev pub is_plain : ℕ → Bool
+is_plain b = not (nat_eq b 0) && nat_lt b 128
 
 -- the bytes in front that are plain ASCII and not zero
 unfoldable pub plain_length : List ℕ → ℕ
@@ -37,8 +32,8 @@ unfoldable pub none_due : Due
 none_due = bytes_due 1 1 0
 
 unfoldable pub row_due : Option Row → Due
-row_due none = none_due
-row_due (some r) = bytes_due r.more r.low r.high
+row_due None = none_due
+row_due (Some r) = bytes_due r.more r.low r.high
 
 -- behind a character's first byte, by its row
 unfoldable pub first_due : ℕ → Due

@@ -3,8 +3,9 @@
 #![tactic(auto)]
 
 ghost use Rattle.std.specs.Prelude.{◌≡◌, ◌+◌, ◌-◌, ◌*◌, ◌/◌, ◌<◌, ◌≤◌, leb, length, take, drop};
-ghost use Rattle.rules.specs.Text.{text_length, utf8};
-ghost use Rattle.text.specs.Reading.{text_of, told_of, text_told, plain_length, bytes_due, none_due, first_due, due_behind};
+ghost use Rattle.std.specs.List.{prefix_len};
+ghost use Rattle.rules.specs.Text.{utf8};
+ghost use Rattle.text.specs.Reading.{text_of, plain_length, is_some, is_plain, bytes_due, none_due, first_due, due_behind};
 
 use rules::{ByteLength, Order};
 
@@ -32,7 +33,7 @@ pub fn read(stream: &[u8], at: ByteLength, bytes: ByteLength) -> Text
     requires { at.0 + bytes.0 ≤ length stream.now }
     ensures { result ≡ text_of (take bytes.0 (drop at.0 stream.now)) }
 {
-    text_told(told(stream, at.0, bytes.0), bytes.0)
+    told(stream, at.0, bytes.0)
 }
 
 // The bytes from one on, before another, as text.
@@ -40,80 +41,62 @@ pub fn read_before(stream: &[u8], at: ByteLength, end: ByteLength) -> Text
     requires { (at.0 ≤ end.0) × (end.0 ≤ length stream.now) }
     ensures { result ≡ text_of (take (end.0 - at.0) (drop at.0 stream.now)) }
 {
-    let bytes = end.0 - at.0;
-    text_told(told(stream, at.0, bytes), bytes)
+    told(stream, at.0, end.0 - at.0)
 }
 
-// A text that is told in one number. `told` has two callers and gives a number alone, so that LLVM leaves its loops out of the leaves' own.
-fn text_told(told: usize, bytes: usize) -> Text
-    ensures { result ≡ text_told bytes told }
+// Never inlined, so that LLVM leaves its loops out of the leaves' own.
+#[inline(never)]
+fn told(stream: &[u8], at: usize, count: usize) -> Text
+    requires { at + count ≤ length stream.now }
+    ensures { result ≡ text_of (take count (drop at stream.now)) }
 {
-    if bytes < told {
+    let bytes = &stream[at..at + count];
+    let eights = plain_eights(bytes);
+    let plain = eights + plain_from(&bytes[eights..]);
+    if plain == count {
         return Text {
-            count: ByteLength(told - bytes - 1),
-            formed: false,
+            count: ByteLength(count),
+            formed: true,
         };
     }
-    Text {
-        count: ByteLength(told),
-        formed: true,
-    }
-}
-
-// The count; and where what is counted is no text, all bytes, one, and the count.
-fn told(stream: &[u8], at: usize, bytes: usize) -> usize
-    requires { at + bytes ≤ length stream.now }
-    ensures { result ≡ told_of bytes (take bytes (drop at stream.now)) }
-{
-    let plain = plain_from(stream, at, bytes);
-    if plain == bytes {
-        return bytes;
-    }
-    let from = at + plain;
-    let is_zero = stream[from] == 0;
+    let is_zero = bytes[plain] == 0;
     if is_zero {
-        return plain;
+        return Text {
+            count: ByteLength(plain),
+            formed: true,
+        };
     }
-    let left = bytes - plain;
-    let rest = text_from(stream, from, left);
-    let count = plain + rest;
-    if formed(stream, from, rest) {
-        return count;
+    let behind = &bytes[plain..];
+    let rest = text_from(behind);
+    let counted = plain + rest;
+    let is_formed = formed(&behind[..rest]);
+    Text {
+        count: ByteLength(counted),
+        formed: is_formed,
     }
-    bytes + 1 + count
 }
 
 // The bytes in front that are plain ASCII and not zero.
-fn plain_from(stream: &[u8], from: usize, bytes: usize) -> usize
-    requires { from + bytes ≤ length stream.now }
-    ensures { result ≡ plain_length (take bytes (drop from stream.now)) }
+fn plain_from(bytes: &[u8]) -> usize
+    ensures { result ≡ prefix_len is_plain bytes.now }
 {
-    let mut passed = plain_eights(stream, from, bytes);
-    while passed < bytes {
-        if stream[from + passed] == 0 {
-            return passed;
-        }
-        if 128 <= stream[from + passed] {
-            return passed;
-        }
-        passed += 1;
-    }
-    passed
+    bytes
+        .iter()
+        .take_while(|byte| **byte != 0 && **byte < 128)
+        .count()
 }
 
 // As many of them as are whole eights.
-fn plain_eights(stream: &[u8], from: usize, bytes: usize) -> usize
-    requires { from + bytes ≤ length stream.now }
-    ensures { result ≡ plain_length (take bytes (drop from stream.now)) / 8 * 8 }
+fn plain_eights(bytes: &[u8]) -> usize
+    ensures { (result ≡ plain_length bytes.now / 8 * 8) × (result ≤ length bytes.now) }
 {
-    let mut passed: usize = 0;
-    while 8 <= bytes - passed {
-        if eight_plain(stream, from + passed) {} else {
-            return passed;
+    for i in 0..bytes.len() / 8 {
+        let at = 8 * i;
+        if !eight_plain(bytes, at) {
+            return at;
         }
-        passed += 8;
     }
-    passed
+    bytes.len() / 8 * 8
 }
 
 // Whether eight such bytes stand from a byte on: none has its high bit; and then 0x80 less each, which borrows from no other byte, has it
@@ -123,37 +106,23 @@ fn eight_plain(stream: &[u8], at: usize) -> bool
     ensures { result ≡ leb 8 (plain_length (drop at stream.now)) }
 {
     let number = bits::eight(stream, at, Order::Little);
-    if number & HIGH == 0 {
-        return (HIGH - number) & HIGH == 0;
-    }
-    false
+    number & HIGH == 0 && (HIGH - number) & HIGH == 0
 }
 
-fn text_from(stream: &[u8], from: usize, bytes: usize) -> usize
-    requires { from + bytes ≤ length stream.now }
-    ensures { result ≡ text_length (take bytes (drop from stream.now)) }
+// The bytes in front that are not zero.
+fn text_from(bytes: &[u8]) -> usize
+    ensures { result ≡ prefix_len is_some bytes.now }
 {
-    let mut counted: usize = 0;
-    while counted < bytes {
-        let is_zero = stream[from + counted] == 0;
-        if is_zero {
-            return counted;
-        }
-        counted += 1;
-    }
-    counted
+    bytes.iter().take_while(|byte| **byte != 0).count()
 }
 
-// Whether so many bytes are characters, one behind the other, the last one whole.
-fn formed(stream: &[u8], from: usize, bytes: usize) -> bool
-    requires { from + bytes ≤ length stream.now }
-    ensures { result ≡ utf8 (take bytes (drop from stream.now)) }
+// Whether bytes are characters, one behind the other, the last one whole.
+fn formed(bytes: &[u8]) -> bool
+    ensures { result ≡ utf8 bytes.now }
 {
     let mut due = bytes_due(0, 0, 0);
-    let mut passed: usize = 0;
-    while passed < bytes {
-        due = behind(due, stream[from + passed]);
-        passed += 1;
+    for byte in bytes {
+        due = behind(due, *byte);
     }
     due.more == 0
 }

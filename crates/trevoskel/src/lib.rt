@@ -2,7 +2,7 @@
 // own answer. Nothing is kept between calls. What a caller lends, and what it must see to, is in include/trevoskel.h.
 #![tactic(auto)]
 
-ghost use Rattle.std.specs.Prelude.{◌≡◌, [], ◌∷◌, length};
+ghost use Rattle.std.specs.Prelude.{◌≡◌, ◌^◌, ◌<◌, length, slice_index};
 ghost use Rattle.rules.specs.Parse.{checked, checked_number};
 ghost use Rattle.rules.specs.Read.{read_all, result_of, list_after};
 ghost use Rattle.rules.specs.Bundle.{bundle_of, bundle_readings, bundle_answer, buffer_after, lists_after, bundled_number};
@@ -13,7 +13,7 @@ use bundle::bundle;
 use check_table::check;
 use numbers::faults;
 use reader::read;
-use rules::{Bundled, ByteLength, Checked};
+use rules::{NoBundle, TableFault};
 use trevoskel_words::write;
 
 // Whether a class table is sound: 0 accepted, or the number that refuses it. The result gets the number and a byte: the table's length, or
@@ -25,8 +25,8 @@ pub extern "C" fn trevoskel_check(table: &[u8], res: &mut [u64]) -> u32
     ensures res { res.new ≡ written (checked_words (checked table.now)) res.old }
 {
     match check(table) {
-        Checked::Accepted(length) => answer_check(0, length, res),
-        Checked::Refused(number, byte) => answer_check(number, byte, res),
+        Ok(length) => answer([0, length.0 as u64], res),
+        Err(TableFault { number, byte }) => answer([number as u64, byte.0 as u64], res),
     }
 }
 
@@ -53,8 +53,7 @@ pub extern "C" fn trevoskel_read(
         r.first,
         r.second,
     ];
-    write(&words, res);
-    r.number as u32
+    answer(words, res)
 }
 
 // Cuts a table to what some streams need: 0 written, or the number that refuses it. The streams stand one behind another, as long as
@@ -91,32 +90,28 @@ pub extern "C" fn trevoskel_bundle(
         res.old }
 {
     match bundle(table, streams, lengths, rooms, list, out) {
-        Bundled::Written(length) => answer_bundle(0, length, 0, res),
-        Bundled::TableRefused(number, byte) => answer_bundle(
-            faults::TABLE_REFUSED,
-            byte,
-            number,
+        Ok(length) => answer([0, length.0 as u64, 0], res),
+        Err(NoBundle::Table(TableFault { number, byte })) => {
+            answer(
+                [faults::TABLE_REFUSED as u64, byte.0 as u64, number as u64],
+                res,
+            )
+        }
+        Err(NoBundle::TooManyStreams) => answer([faults::TOO_MANY_STREAMS as u64, 0, 0], res),
+        Err(NoBundle::ShortBuffer(length)) => answer(
+            [faults::SHORT_BUFFER as u64, length.0 as u64, 0],
             res,
         ),
-        Bundled::TooManyStreams => answer_bundle(faults::TOO_MANY_STREAMS, ByteLength(0), 0, res),
-        Bundled::ShortBuffer(length) => answer_bundle(faults::SHORT_BUFFER, length, 0, res),
     }
 }
 
-fn answer_check(number: u8, byte: ByteLength, res: &mut [u64]) -> u32
-    ensures number { result ≡ number }
-    ensures res { res.new ≡ written (number ∷ byte.0 ∷ []) res.old }
+// Words as they come, of which the first is the number.
+fn answer<const N: usize>(words: [u64; N], res: &mut [u64]) -> u32
+    requires some { 0 < N }
+    requires fits { slice_index words 0 < 2 ^ 32 }
+    ensures number { result ≡ slice_index words.entry 0 }
+    ensures res { res.new ≡ written words.entry res.old }
 {
-    let words = [number as u64, byte.0 as u64];
     write(&words, res);
-    number as u32
-}
-
-fn answer_bundle(number: u8, bytes: ByteLength, id: u8, res: &mut [u64]) -> u32
-    ensures number { result ≡ number }
-    ensures res { res.new ≡ written (number ∷ bytes.0 ∷ id ∷ []) res.old }
-{
-    let words = [number as u64, bytes.0 as u64, id as u64];
-    write(&words, res);
-    number as u32
+    words[0] as u32
 }

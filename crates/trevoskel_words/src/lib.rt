@@ -8,9 +8,6 @@ ghost use Rattle.trevoskel_words.specs.Written.{written};
 pub fn write(words: &[u64], res: &mut [u64])
     ensures { res.new ≡ written words.now res.old }
 {
-    let mut i = 0;
-    while i < words.len() && i < res.len() {
-        res[i] = words[i];
-        i += 1;
-    }
+    let room = words.len().min(res.len());
+    res[..room].copy_from_slice(&words[..room]);
 }

@@ -1,186 +1,104 @@
-// Reads a case file on standard input to its end, and prints the answers to each case: the line `NUMBER BYTE` of the table's check, the
+// Reads a case file on standard input to its end, and prints the answers to each: the line `NUMBER BYTE` of the table's check, the
 // line `NUMBER ENTRIES PLACE ID ID` of the reading, a line `KIND PLACE BITS VALUE` an entry, and an empty line. A case is a head of three
 // numbers of 32 bits, little-endian (the table's bytes, the stream's bytes, the list's words), then the table and the stream.
 #![tactic(auto)]
 
-ghost use Rattle.std.specs.Prelude.{◌≡◌, ◌≤◌, length};
-
 use numbers::limits::WORDS_PER_ENTRY;
-use rules::{ByteLength, Checked, Result};
+use rules::{ByteLength, Report, TableFault};
 use std::io::Read;
 
-// Nothing says that the input ends, and a loop has to: so it counts its turns down from a number that no run uses up.
+// One byte more than a table may have.
+const TABLE_ROOM: usize = 65537;
+
+// The longest stream of the shared cases.
+const STREAM_ROOM: usize = 65536;
+
+// The longest list of the shared cases.
+const LIST_ROOM: usize = 8000;
+
+// Why no further case is answered.
+#[derive(Clone, Copy)]
+enum End {
+    OfInput,
+    CutShort,
+    TooLong,
+}
+
+// Nothing says that the input ends, and a loop has to: so it has a bound that no run uses up.
 fn main(rt: HostRuntime) {
-    let mut turns = u64::MAX;
-    while turns > 0 && answer_case(&rt) {
-        turns -= 1;
-    }
-}
-
-// Reads a case and prints its answers; says whether another may follow.
-fn answer_case(rt: &HostRuntime) -> bool {
-    let mut head = [0u8; 12];
-    let got = read_full(rt, &mut head);
-    if got == 0 {
-        return false;
-    }
-    if got < 12 {
-        return cut_short(rt);
-    }
-    let table_length = four(head[0], head[1], head[2], head[3]);
-    let stream_length = four(head[4], head[5], head[6], head[7]);
-    let words = four(head[8], head[9], head[10], head[11]);
-    let mut table = table_room();
-    let mut stream = stream_room();
-    let mut list = list_room();
-    answer(
-        rt,
-        &mut table,
-        table_length,
-        &mut stream,
-        stream_length,
-        &mut list,
-        words,
-    )
-}
-
-// Reads the table and the stream into the room that they have, and prints their answers.
-fn answer(
-    rt: &HostRuntime,
-    table: &mut [u8],
-    table_length: usize,
-    stream: &mut [u8],
-    stream_length: usize,
-    list: &mut [u64],
-    words: usize,
-) -> bool {
-    if !fill(rt, table, table_length) {
-        return false;
-    }
-    if !fill(rt, stream, stream_length) {
-        return false;
-    }
-    if table.len() < table_length || stream.len() < stream_length || list.len() < words {
-        return too_long(rt);
-    }
-    say_checked(rt, check_table::check(&table[..table_length]));
-    let r = reader::read(
-        &table[..table_length],
-        &stream[..stream_length],
-        &mut list[..words],
-    );
-    let entries = r.entries;
-    say_result(rt, r);
-    say_entries(rt, list, entries);
-    say(rt, b"\n");
-    true
-}
-
-fn fill(rt: &HostRuntime, room: &mut [u8], length: usize) -> bool {
-    if room.len() < length {
-        return too_long(rt);
-    }
-    if read_full(rt, &mut room[..length]) < length {
-        return cut_short(rt);
-    }
-    true
-}
-
-// Reads until the room is full, the input ends or a read fails: how many bytes came.
-fn read_full(rt: &HostRuntime, room: &mut [u8]) -> usize
-    ensures { result ≤ length room.new }
-{
-    let mut done = 0;
-    while done < room.len() {
-        let more = rt.stdin().read(&mut room[done..]).unwrap_or(0);
-        if more == 0 {
-            break;
-        }
-        done += more;
-    }
-    done
-}
-
-// Room for a table of one byte more than there may be.
-fn table_room() -> [u8; 65537]
-    ensures { 65537 ≡ length result }
-{
-    [0; 65537]
-}
-
-// Room for the longest stream of the shared cases.
-fn stream_room() -> [u8; 65536]
-    ensures { 65536 ≡ length result }
-{
-    [0; 65536]
-}
-
-// Room for the longest list of the shared cases.
-fn list_room() -> [u64; 8000]
-    ensures { 8000 ≡ length result }
-{
-    [0; 8000]
-}
-
-fn say_checked(rt: &impl Print, checked: Checked) {
-    match checked {
-        Checked::Accepted(length) => say_line(rt, 0, length),
-        Checked::Refused(number, byte) => say_line(rt, number, byte),
-    }
-}
-
-fn say_line(rt: &impl Print, number: u8, byte: ByteLength) {
-    say_number(rt, number as u64, b" ");
-    say_number(rt, byte.0 as u64, b"\n");
-}
-
-fn say_result(rt: &impl Print, r: Result) {
-    say_number(rt, r.number as u64, b" ");
-    say_number(rt, r.entries as u64, b" ");
-    say_number(rt, r.place, b" ");
-    say_number(rt, r.first, b" ");
-    say_number(rt, r.second, b"\n");
-}
-
-// A line for each of the entries that the list begins with.
-fn say_entries(rt: &impl Print, list: &[u64], entries: usize) {
-    let mut left = entries;
-    let mut at = 0;
-    while left > 0 {
-        if list.len() - at < WORDS_PER_ENTRY {
+    for _ in 0..u64::MAX {
+        if let Err(end) = answer_case(&rt) {
+            say_end(&rt, end);
             return;
         }
-        say_number(rt, list[at], b" ");
-        say_number(rt, list[at + 1], b" ");
-        say_number(rt, list[at + 2], b" ");
-        say_number(rt, list[at + 3], b" ");
-        say_number(rt, list[at + 4], b"\n");
-        at += WORDS_PER_ENTRY;
-        left -= 1;
     }
 }
 
-// A number and what stands behind it.
-fn say_number(rt: &impl Print, n: u64, behind: &[u8]) {
-    let _ = rt.print(n);
-    say(rt, behind);
+fn say_end(rt: &impl Print, end: End) {
+    let _ = match end {
+        End::OfInput => Ok(()),
+        End::CutShort => println!(rt; "the case is cut short"),
+        End::TooLong => println!(rt; "the case is too long"),
+    };
 }
 
-fn cut_short(rt: &impl Print) -> bool {
-    say(rt, b"the case is cut short\n");
-    false
+// Reads a case and prints its answers.
+fn answer_case(rt: &HostRuntime) -> Result<(), End> {
+    let mut head = [0u8; 4];
+    if rt.stdin().read(&mut head[..1]).unwrap_or(0) == 0 {
+        return Err(End::OfInput);
+    }
+    read(rt, &mut head[1..])?;
+    let table_bytes = u32::from_le_bytes(head) as usize;
+    let stream_bytes = number(rt)?;
+    let words = number(rt)?;
+    let mut table = [0u8; TABLE_ROOM];
+    let mut stream = [0u8; STREAM_ROOM];
+    let mut list = [0u64; LIST_ROOM];
+    let table = fill(rt, &mut table, table_bytes)?;
+    let stream = fill(rt, &mut stream, stream_bytes)?;
+    let list = list.get_mut(..words).ok_or(End::TooLong)?;
+    say_checked(rt, check_table::check(table));
+    let r = reader::read(table, stream, list);
+    say_reading(rt, r, list);
+    Ok(())
 }
 
-fn too_long(rt: &impl Print) -> bool {
-    say(rt, b"the case is too long\n");
-    false
+// Four bytes, "little-endian".
+fn number(rt: &HostRuntime) -> Result<usize, End> {
+    let mut bytes = [0u8; 4];
+    read(rt, &mut bytes)?;
+    Ok(u32::from_le_bytes(bytes) as usize)
 }
 
-fn say(rt: &impl Print, words: &[u8]) {
-    let _ = rt.write_all(words);
+// So many bytes of the input, in a room that may be too small for them.
+fn fill<'a>(rt: &HostRuntime, room: &'a mut [u8], length: usize) -> Result<&'a [u8], End> {
+    let part = room.get_mut(..length).ok_or(End::TooLong)?;
+    read(rt, part)?;
+    Ok(part)
 }
 
-// Four bytes as a number, "little-endian".
-fn four(a: u8, b: u8, c: u8, d: u8) -> usize {
-    a as usize + 256 * (b as usize) + 65536 * (c as usize) + 16777216 * (d as usize)
+fn read(rt: &HostRuntime, bytes: &mut [u8]) -> Result<(), End> {
+    rt.stdin().read_exact(bytes).map_err(|_| End::CutShort)
+}
+
+fn say_checked(rt: &impl Print, checked: Result<ByteLength, TableFault>) {
+    let (number, byte) = match checked {
+        Ok(length) => (0, length),
+        Err(fault) => (fault.number, fault.byte),
+    };
+    let _ = println!(rt; "{number} {}", byte.0);
+}
+
+// The result, a line for each of the entries that the list begins with, and an empty line.
+fn say_reading(rt: &impl Print, r: Report, list: &[u64]) {
+    let _ = println!(rt;
+        "{} {} {} {} {}",
+        r.number, r.entries, r.place, r.first, r.second
+    );
+    let (entries, _) = list.as_chunks::<WORDS_PER_ENTRY>();
+    for [kind, place, bits, value, number] in entries.iter().take(r.entries) {
+        let _ = println!(rt; "{kind} {place} {bits} {value} {number}");
+    }
+    let _ = println!(rt);
 }

@@ -1,78 +1,83 @@
-// The numbers and bytes of a case, from standard input.
-ghost use Rattle.std.specs.Prelude.{◌≤◌, length};
-
-use crate::lines::{cut_short, too_long};
+// The numbers and bytes of a case, from standard input. `End` and `fill` are those of `vectors`: a crate for both would have functions
+// that read and print, and no contract can say what they do.
 use std::io::Read;
 
-// A number, if the input has one more.
+// Why no further case is answered.
 #[derive(Clone, Copy)]
-pub(crate) enum Next {
-    Number(usize),
-    Nothing,
+pub(crate) enum End {
+    OfInput,
+    CutShort,
+    TooLong,
 }
 
-// Four bytes, "little-endian".
-pub(crate) fn next_number(rt: &HostRuntime) -> Next {
-    let mut bytes = [0u8; 4];
-    if read_full(rt, &mut bytes) < 4 {
-        return Next::Nothing;
+// The numbers that a case begins with.
+#[derive(Clone, Copy)]
+pub(crate) struct Head {
+    pub(crate) table: usize,
+    pub(crate) streams: usize,
+    pub(crate) buffer: usize,
+    pub(crate) whole: Option<Whole>,
+}
+
+// What is said only of a whole case.
+#[derive(Clone, Copy)]
+pub(crate) struct Whole {
+    pub(crate) lists: usize,
+    pub(crate) bytes: usize,
+    pub(crate) words: usize,
+}
+
+pub(crate) fn read_head(rt: &HostRuntime, whole: bool) -> Result<Head, End> {
+    let table = next_number(rt).ok_or(End::OfInput)?;
+    let streams = number(rt);
+    let buffer = number(rt);
+    let whole = if whole { Some(read_whole(rt)) } else { None };
+    Ok(Head {
+        table,
+        streams,
+        buffer,
+        whole,
+    })
+}
+
+fn read_whole(rt: &HostRuntime) -> Whole {
+    let lists = number(rt);
+    let bytes = number(rt);
+    let words = number(rt);
+    Whole {
+        lists,
+        bytes,
+        words,
     }
-    Next::Number(four(bytes[0], bytes[1], bytes[2], bytes[3]))
+}
+
+// Four bytes, "little-endian", if the input has them.
+fn next_number(rt: &HostRuntime) -> Option<usize> {
+    let mut bytes = [0u8; 4];
+    rt.stdin().read_exact(&mut bytes).ok()?;
+    Some(u32::from_le_bytes(bytes) as usize)
 }
 
 // Within a case. One that is not there is 0: what the case lends behind it is not there then, and that is said.
-pub(crate) fn number(rt: &HostRuntime) -> usize {
-    if let Next::Number(n) = next_number(rt) {
-        n
-    } else {
-        0
-    }
-}
-
-fn four(a: u8, b: u8, c: u8, d: u8) -> usize {
-    a as usize + 256 * (b as usize) + 65536 * (c as usize) + 16777216 * (d as usize)
+fn number(rt: &HostRuntime) -> usize {
+    next_number(rt).unwrap_or(0)
 }
 
 // A length and a room, so many times, or until there is no place for more.
 pub(crate) fn read_parts(rt: &HostRuntime, count: usize, lengths: &mut [u64], rooms: &mut [u64]) {
-    let mut i = 0;
-    while i < count {
-        let length = number(rt);
-        let room = number(rt);
-        if lengths.len() <= i {
-            return;
-        }
-        lengths[i] = length as u64;
-        if rooms.len() <= i {
-            return;
-        }
-        rooms[i] = room as u64;
-        i += 1;
+    for (length, room) in lengths.iter_mut().zip(rooms).take(count) {
+        *length = number(rt) as u64;
+        *room = number(rt) as u64;
     }
 }
 
-// Fills a part of a room with bytes.
-pub(crate) fn fill(rt: &HostRuntime, room: &mut [u8], length: usize) -> bool {
-    if room.len() < length {
-        return too_long(rt);
-    }
-    if read_full(rt, &mut room[..length]) < length {
-        return cut_short(rt);
-    }
-    true
-}
-
-// Reads until the room is full, the input ends or a read fails: how many bytes came.
-fn read_full(rt: &HostRuntime, room: &mut [u8]) -> usize
-    ensures { result ≤ length room.new }
-{
-    let mut done = 0;
-    while done < room.len() {
-        let more = rt.stdin().read(&mut room[done..]).unwrap_or(0);
-        if more == 0 {
-            break;
-        }
-        done += more;
-    }
-    done
+// So many bytes of the input, in a room that may be too small for them.
+pub(crate) fn fill<'a>(
+    rt: &HostRuntime,
+    room: &'a mut [u8],
+    length: usize,
+) -> Result<&'a [u8], End> {
+    let part = room.get_mut(..length).ok_or(End::TooLong)?;
+    rt.stdin().read_exact(part).map_err(|_| End::CutShort)?;
+    Ok(part)
 }

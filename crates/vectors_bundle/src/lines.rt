@@ -1,89 +1,45 @@
 // What is printed.
+use crate::input::End;
 use numbers::faults;
-use rules::{Bundled, Result};
+use rules::{ByteLength, NoBundle, Report};
 
-// The answer in numbers; says whether the streams were read.
-pub(crate) fn say_bundled(rt: &impl Print, bundled: Bundled) -> bool {
-    match bundled {
-        Bundled::Written(length) => {
-            say_three(rt, 0, length.0 as u64, 0);
-            true
-        }
-        Bundled::TableRefused(number, byte) => {
-            say_three(rt, faults::TABLE_REFUSED, byte.0 as u64, number as u64);
-            false
-        }
-        Bundled::TooManyStreams => {
-            say_three(rt, faults::TOO_MANY_STREAMS, 0, 0);
-            false
-        }
-        Bundled::ShortBuffer(length) => {
-            say_three(rt, faults::SHORT_BUFFER, length.0 as u64, 0);
-            true
-        }
-    }
+// The answer in numbers.
+pub(crate) fn say_bundled(rt: &impl Print, bundled: Result<ByteLength, NoBundle>) {
+    let (number, length, id) = match bundled {
+        Ok(length) => (0, length.0, 0),
+        Err(NoBundle::Table(fault)) => (faults::TABLE_REFUSED, fault.byte.0, fault.number),
+        Err(NoBundle::TooManyStreams) => (faults::TOO_MANY_STREAMS, 0, 0),
+        Err(NoBundle::ShortBuffer(length)) => (faults::SHORT_BUFFER, length.0, 0),
+    };
+    let _ = println!(rt; "{number} {length} {id}");
 }
 
-fn say_three(rt: &impl Print, number: u8, length: u64, id: u64) {
-    say_number(rt, number as u64, b" ");
-    say_number(rt, length, b" ");
-    say_number(rt, id, b"\n");
-}
-
-pub(crate) fn say_result(rt: &impl Print, r: Result) {
-    say_number(rt, r.number as u64, b" ");
-    say_number(rt, r.entries as u64, b" ");
-    say_number(rt, r.place, b" ");
-    say_number(rt, r.first, b" ");
-    say_number(rt, r.second, b"\n");
+pub(crate) fn say_result(rt: &impl Print, r: Report) {
+    let _ = println!(rt;
+        "{} {} {} {} {}",
+        r.number, r.entries, r.place, r.first, r.second
+    );
 }
 
 pub(crate) fn say_words(rt: &impl Print, words: &[u64]) {
-    let mut i = 0;
-    while i < words.len() {
-        say_number(rt, words[i], b" ");
-        i += 1;
+    for word in words {
+        let _ = print!(rt; "{word} ");
     }
-    say(rt, b"\n");
+    let _ = println!(rt);
 }
 
 // Two digits a byte.
 pub(crate) fn say_bytes(rt: &impl Print, bytes: &[u8]) {
-    let mut i = 0;
-    while i < bytes.len() {
-        let pair = [digit(bytes[i] / 16), digit(bytes[i])];
-        say(rt, &pair);
-        i += 1;
+    for byte in bytes {
+        let _ = print!(rt; "{byte:02x}");
     }
-    say(rt, b"\n");
+    let _ = println!(rt);
 }
 
-// The last of a number's digits.
-fn digit(n: u8) -> u8 {
-    let last = n % 16;
-    if last < 10 {
-        b'0' + last
-    } else {
-        b'a' - 10 + last
-    }
-}
-
-// A number and what stands behind it.
-fn say_number(rt: &impl Print, n: u64, behind: &[u8]) {
-    let _ = rt.print(n);
-    say(rt, behind);
-}
-
-pub(crate) fn cut_short(rt: &impl Print) -> bool {
-    say(rt, b"the case is cut short\n");
-    false
-}
-
-pub(crate) fn too_long(rt: &impl Print) -> bool {
-    say(rt, b"the case is too long\n");
-    false
-}
-
-pub(crate) fn say(rt: &impl Print, words: &[u8]) {
-    let _ = rt.write_all(words);
+pub(crate) fn say_end(rt: &impl Print, end: End) {
+    let _ = match end {
+        End::OfInput => Ok(()),
+        End::CutShort => println!(rt; "the case is cut short"),
+        End::TooLong => println!(rt; "the case is too long"),
+    };
 }

@@ -10,12 +10,10 @@
 // In input: the numbers and bytes of a case. In lines: what is printed.
 #![tactic(auto)]
 
-ghost use Rattle.std.specs.Prelude.{◌≡◌, length};
-
-use input::{Next, fill, next_number, number, read_parts};
-use lines::{say, say_bundled, say_bytes, say_result, say_words, too_long};
+use input::{End, Head, fill, read_head, read_parts};
+use lines::{say_bundled, say_bytes, say_end, say_result, say_words};
+use rules::NoBundle;
 use std::env::{Env, FillError};
-use std::num::wrapping_add_u64;
 
 mod input;
 mod lines;
@@ -23,273 +21,125 @@ mod lines;
 // What each byte of the buffer holds before.
 const HELD: u8 = 0xEE;
 
+// One byte more than a table may have.
 const TABLE_ROOM: usize = 65537;
 
+// The longest streams of the shared cases.
+const STREAMS_ROOM: usize = 65536;
+
+// The longest lists of the shared cases.
 const LIST_ROOM: usize = 8000;
 
-// Nothing says that the input ends, and a loop has to: so it counts its turns down from a number that no run uses up.
+// The lengths and the rooms that a case may say.
+const MOST_PARTS: usize = 32;
+
+// What a table is cut to: streams one behind another, and as many lists; lengths and rooms apart, as a caller in C lends them.
+#[derive(Clone, Copy)]
+struct Streams<'a> {
+    bytes: &'a [u8],
+    lengths: &'a [u64],
+    rooms: &'a [u64],
+}
+
+// Nothing says that the input ends, and a loop has to: so it has a bound that no run uses up.
 fn main(rt: HostRuntime) {
     let whole = has_word(&rt);
-    let mut turns = u64::MAX;
-    while turns > 0 && answer_case(&rt, whole) {
-        turns -= 1;
+    for _ in 0..u64::MAX {
+        if let Err(end) = answer_case(&rt, whole) {
+            say_end(&rt, end);
+            return;
+        }
     }
 }
 
 // Whether the program was run with a word.
 fn has_word(rt: &impl Env) -> bool {
-    match rt.arg(1, &mut []) {
-        Ok(_) | Err(FillError::TooLong) => true,
-        Err(FillError::NotPresent) => false,
-    }
+    !matches!(rt.arg(1, &mut []), Err(FillError::NotPresent))
 }
 
-// Reads a case and prints its answers; says whether another may follow.
-fn answer_case(rt: &HostRuntime, whole: bool) -> bool {
-    let Next::Number(table) = next_number(rt) else {
-        return false;
+// Reads a case and prints its answers.
+fn answer_case(rt: &HostRuntime, whole: bool) -> Result<(), End> {
+    let head = read_head(rt, whole)?;
+    let lists = head.whole.map_or(head.streams, |said| said.lists);
+    let mut lengths = [0u64; MOST_PARTS];
+    let mut rooms = [0u64; MOST_PARTS];
+    read_parts(rt, head.streams.max(lists), &mut lengths, &mut rooms);
+    let lengths = lengths.get(..head.streams).ok_or(End::TooLong)?;
+    let rooms = rooms.get(..lists).ok_or(End::TooLong)?;
+    answer_parts(rt, head, lengths, rooms)
+}
+
+// Makes room for what is lent, and lends as much of it as the case says: where it does not say all bytes and all words, their sums.
+fn answer_parts(rt: &HostRuntime, head: Head, lengths: &[u64], rooms: &[u64]) -> Result<(), End> {
+    let all_bytes = head.whole.map_or(sum(lengths), |said| said.bytes);
+    let all_words = head.whole.map_or(sum(rooms), |said| said.words);
+    let mut table = [0u8; TABLE_ROOM];
+    let mut bytes = [0u8; STREAMS_ROOM];
+    let mut list = [0u64; LIST_ROOM];
+    let mut buffer = [HELD; TABLE_ROOM];
+    let table = fill(rt, &mut table, head.table)?;
+    let streams = Streams {
+        bytes: fill(rt, &mut bytes, all_bytes)?,
+        lengths,
+        rooms,
     };
-    let mut lengths = [0u64; 32];
-    let mut rooms = [0u64; 32];
-    answer_head(rt, table, &mut lengths, &mut rooms, whole)
-}
-
-// The rest of the head, and the lengths and rooms. Where it does not say all bytes and all words, they are the sums of these.
-fn answer_head(
-    rt: &HostRuntime,
-    table: usize,
-    lengths: &mut [u64],
-    rooms: &mut [u64],
-    whole: bool,
-) -> bool {
-    let streams = number(rt);
-    let buffer = number(rt);
-    let lists = said_or(rt, whole, streams);
-    let bytes = said_or(rt, whole, 0);
-    let words = said_or(rt, whole, 0);
-    read_parts(rt, larger(streams, lists), lengths, rooms);
-    if lengths.len() < streams || rooms.len() < lists {
-        return too_long(rt);
-    }
-    if whole {
-        return answer_parts(
-            rt,
-            table,
-            &lengths[..streams],
-            &rooms[..lists],
-            bytes,
-            words,
-            buffer,
-            whole,
-        );
-    }
-    let all_bytes = sum(lengths);
-    let all_words = sum(rooms);
-    answer_parts(
-        rt,
-        table,
-        &lengths[..streams],
-        &rooms[..lists],
-        all_bytes,
-        all_words,
-        buffer,
-        whole,
-    )
-}
-
-// What the head says only of a whole case.
-fn said_or(rt: &HostRuntime, whole: bool, other: usize) -> usize {
-    if whole { number(rt) } else { other }
-}
-
-fn larger(a: usize, b: usize) -> usize {
-    if a < b { b } else { a }
+    let list = list.get_mut(..all_words).ok_or(End::TooLong)?;
+    let buffer = buffer.get_mut(..head.buffer).ok_or(End::TooLong)?;
+    answer(rt, table, streams, list, buffer, head.whole.is_some());
+    Ok(())
 }
 
 // Each of them has 32 bits: the sum does not wrap.
 fn sum(parts: &[u64]) -> usize {
-    let mut all = 0;
-    let mut i = 0;
-    while i < parts.len() {
-        all = wrapping_add_u64(all, parts[i]);
-        i += 1;
-    }
-    all as usize
-}
-
-// Makes room for what is lent.
-fn answer_parts(
-    rt: &HostRuntime,
-    table_bytes: usize,
-    lengths: &[u64],
-    rooms: &[u64],
-    stream_bytes: usize,
-    list_words: usize,
-    buffer_bytes: usize,
-    whole: bool,
-) -> bool {
-    let mut table = table_room();
-    let mut streams = streams_room();
-    let mut list = list_room();
-    let mut buffer = table_room();
-    if !fill(rt, &mut table, table_bytes) {
-        return false;
-    }
-    if !fill(rt, &mut streams, stream_bytes) {
-        return false;
-    }
-    answer_filled(
-        rt,
-        &table,
-        table_bytes,
-        &streams,
-        stream_bytes,
-        lengths,
-        rooms,
-        &mut list,
-        list_words,
-        &mut buffer,
-        buffer_bytes,
-        whole,
-    )
-}
-
-// Lends as much of it as the case says, and prints the answers.
-fn answer_filled(
-    rt: &HostRuntime,
-    table: &[u8],
-    table_bytes: usize,
-    streams: &[u8],
-    stream_bytes: usize,
-    lengths: &[u64],
-    rooms: &[u64],
-    list: &mut [u64],
-    list_words: usize,
-    buffer: &mut [u8],
-    buffer_bytes: usize,
-    whole: bool,
-) -> bool {
-    if table.len() < table_bytes
-        || streams.len() < stream_bytes
-        || list.len() < list_words
-        || buffer.len() < buffer_bytes
-    {
-        return too_long(rt);
-    }
-    answer(
-        rt,
-        &table[..table_bytes],
-        &streams[..stream_bytes],
-        lengths,
-        rooms,
-        &mut list[..list_words],
-        &mut buffer[..buffer_bytes],
-        whole,
-    );
-    true
+    parts
+        .iter()
+        .fold(0, |all: u64, part| all.wrapping_add(*part)) as usize
 }
 
 fn answer(
     rt: &impl Print,
     table: &[u8],
-    streams: &[u8],
-    lengths: &[u64],
-    rooms: &[u64],
+    streams: Streams<'_>,
     list: &mut [u64],
     buffer: &mut [u8],
     whole: bool,
 ) {
     count_down(list);
-    hold(buffer);
-    let listed = say_bundled(
-        rt,
-        bundle::bundle(table, streams, lengths, rooms, list, buffer),
+    let bundled = bundle::bundle(
+        table,
+        streams.bytes,
+        streams.lengths,
+        streams.rooms,
+        list,
+        buffer,
     );
+    say_bundled(rt, bundled);
     say_bytes(rt, buffer);
-    say_lists(rt, table, streams, lengths, rooms, list, listed, whole);
-    say(rt, b"\n");
-}
-
-// The words of the lists, or the readings, if there were any.
-fn say_lists(
-    rt: &impl Print,
-    table: &[u8],
-    streams: &[u8],
-    lengths: &[u64],
-    rooms: &[u64],
-    list: &mut [u64],
-    listed: bool,
-    whole: bool,
-) {
     if whole {
         say_words(rt, list);
-        return;
+    } else if matches!(bundled, Ok(_) | Err(NoBundle::ShortBuffer(_))) {
+        say_readings(rt, table, streams, list);
     }
-    if listed {
-        say_readings(rt, table, streams, lengths, rooms, list);
-        return;
-    }
+    let _ = println!(rt);
 }
 
 // A line of each stream's reading by itself, in the words of the list.
-fn say_readings(
-    rt: &impl Print,
-    table: &[u8],
-    streams: &[u8],
-    lengths: &[u64],
-    rooms: &[u64],
-    list: &mut [u64],
-) {
-    let mut at = 0;
-    let mut i = 0;
-    while i < lengths.len() && i < rooms.len() {
-        let bytes = lengths[i] as usize;
-        let words = rooms[i] as usize;
-        if streams.len() - at < bytes || list.len() < words {
+fn say_readings(rt: &impl Print, table: &[u8], streams: Streams<'_>, list: &mut [u64]) {
+    let mut rest = streams.bytes;
+    for (length, words) in streams.lengths.iter().zip(streams.rooms) {
+        let Some((stream, behind)) = rest.split_at_checked(*length as usize) else {
             return;
-        }
-        say_result(
-            rt,
-            reader::read(table, &streams[at..at + bytes], &mut list[..words]),
-        );
-        at += bytes;
-        i += 1;
+        };
+        let Some(part) = list.get_mut(..*words as usize) else {
+            return;
+        };
+        say_result(rt, reader::read(table, stream, part));
+        rest = behind;
     }
 }
 
 fn count_down(list: &mut [u64]) {
-    let mut i = 0;
-    while i < list.len() {
-        list[i] = u64::MAX - i as u64;
-        i += 1;
+    for (i, word) in list.iter_mut().enumerate() {
+        *word = u64::MAX - i as u64;
     }
-}
-
-fn hold(buffer: &mut [u8]) {
-    let mut i = 0;
-    while i < buffer.len() {
-        buffer[i] = HELD;
-        i += 1;
-    }
-}
-
-// One byte more than a table may have.
-fn table_room() -> [u8; TABLE_ROOM]
-    ensures { 65537 ≡ length result }
-{
-    [0; TABLE_ROOM]
-}
-
-// Room for the longest streams of the shared cases.
-fn streams_room() -> [u8; 65536]
-    ensures { 65536 ≡ length result }
-{
-    [0; 65536]
-}
-
-// Room for the longest lists of the shared cases.
-fn list_room() -> [u64; LIST_ROOM]
-    ensures { 8000 ≡ length result }
-{
-    [0; LIST_ROOM]
 }

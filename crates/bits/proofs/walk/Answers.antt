@@ -17,9 +17,6 @@ overflow_sub-at c = omega arith
 pub overflow_sub-width : goal.overflow_sub-width
 overflow_sub-width c = omega arith
 
-pub lesser-more-requires : goal.lesser-more-requires
-lesser-more-requires c = tt
-
 pub piece-requires : goal.piece-requires
 piece-requires c = omega arith
 

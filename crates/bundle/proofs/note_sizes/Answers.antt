@@ -5,10 +5,8 @@ use Rattle.bundle.proofs.note_sizes.Goals as goal
 
 pub prepare-requires : goal.prepare-requires
 prepare-requires c =
-    let a = c.before.before.before in
-    let s = a.before.before.before in
-    let k = (checked-accepts s.args.table.now _ s.requires.0).limit in
-    record { table_value = s.requires.0; table_in_bounds = (omega (arith, k, s.requires.1), omega (arith, k, a.no_aligns-aligns.ensures)) }
+    let k = (checked-accepts c.args.table.now _ c.requires.0).limit in
+    record { table_value = c.requires.0; table_in_bounds = (omega (arith, k, c.requires.1), k) }
 
 pub returns : goal.returns
 returns c = c.prepare.ensures.ready.sized

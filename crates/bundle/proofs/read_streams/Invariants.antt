@@ -1,11 +1,6 @@
-use Prim.Native.Nat.{◌-◌}
-use lib.ListN.{length}
 use Rattle.bundle.proofs.Streams.{Going}
 use Rattle.bundle.proofs.read_streams.Given as goal
 
 abbrev pub invariant-loop-i : goal.invariant-loop-i
 invariant-loop-i l =
     Going l.table l.streams l.lengths l.rooms l.initial.list l.initial.marks l.i l.from l.at l.list l.marks
-
-abbrev pub decreases-loop-i : goal.decreases-loop-i
-decreases-loop-i l = length l.lengths - l.i

@@ -1,46 +1,23 @@
--- The invariant: so many bytes are copied. The measure: those left.
-use Prim.Native.Nat.{◌+◌, ◌<◌}
+-- What is lent of the buffer is the table's bytes, and the others are as they came.
+use mathlib.Core.Path.{◌≡◌, sym, ap, ◌∙◌}
+use mathlib.Core.List.{List, ◌++◌, append_assoc}
+use Prim.Native.Nat.{ℕ, ◌+◌, ◌-◌}
 use native.Mathlib.Omega.{arith}
-use lib.ListN.{length}
-use Rattle.bundle_table.proofs.Copies.{copies-start, copies-next, copies_length, copies-end}
+use lib.ListN.{take, drop}
+use lib.Seq.{drop-drop, paste}
+use borrow.Rule.Slice.PartMut.{put_mid}
 use Rattle.bundle_table.proofs.copy.Goals as goal
-use Rattle.bundle_table.proofs.copy.Lts as lts
-use Rattle.bundle_table.proofs.copy.Reads as reads
 
--- the place that is written is there
-room : (c : lts.In-loop reads.Pre reads.Post goal.the-invariant-loop-i goal.the-decreases-loop-i) → c.args.to + c.loop-i.i < length c.loop-i.out
-room c =
-    let s = c.before.before in
-    omega (arith, copies_length _ _ _ _ _ s.requires.0 s.requires.1 c.loop-i.invariant, s.requires.1, c.loop-i-test.true)
-
-pub loop-i-init : goal.loop-i-init
-loop-i-init c = copies-start _ _ _ _ _ c.requires.0 c.requires.1
-
-pub overflow_add-out : goal.overflow_add-out
-overflow_add-out c = omega arith
-
-pub bounds-table-from : goal.bounds-table-from
-bounds-table-from c = omega arith
-
-pub overflow_add-out-in-loop-i : goal.overflow_add-out-in-loop-i
-overflow_add-out-in-loop-i c = omega (arith, room c.before.before)
-
-pub bounds-out-to : goal.bounds-out-to
-bounds-out-to c = omega (arith, room c.before.before)
-
-pub overflow_add-i : goal.overflow_add-i
-overflow_add-i c = omega arith
-
-pub loop-i-smaller : goal.loop-i-smaller
-loop-i-smaller c = omega arith
-
-pub loop-i-preserved : goal.loop-i-preserved
-loop-i-preserved c =
-    let l = c.before.before.before in
-    copies-next _ _ _ _ _ l.requires.0 l.requires.1 c.loop-i-test.true l.loop-i.invariant
-
-pub shape_of-out : goal.shape_of-out
-shape_of-out c = copies_length _ _ _ _ _ c.requires.0 c.requires.1 c.loop-i.invariant
+put-pastes : (old s : List ℕ) (at n : ℕ) {k : ℕ} {y : List ℕ} → k ≡ n → y ≡ take n s → put_mid at k old y ≡ paste old at s n
+put-pastes old s at n e f =
+    rw (
+      e,
+      f,
+    ) (ap (λ z. take at old ++ (take n s ++ z)) (drop-drop n at old) ∙ sym (append_assoc (take at old) (take n s) (drop (at + n) old)))
 
 pub returns : goal.returns
-returns c = copies-end _ _ _ _ _ c.requires.0 c.requires.1 c.loop-i-test.false c.loop-i.invariant
+returns c =
+    let a = c.args in
+    let bytes : a.from + a.size - a.from ≡ a.size = omega arith in
+    let room : a.to + a.size - a.to ≡ a.size = omega arith in
+    put-pastes a.out.now (drop a.from a.table.now) a.to a.size room (rw bytes at c.copy_from_slice.ensures.after)

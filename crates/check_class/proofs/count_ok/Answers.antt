@@ -1,4 +1,5 @@
 -- By kind, in the order of the definition.
+use native.Mathlib.Omega.{arith}
 use borrow.Author.Tests.{le-leb, lt-leb, ne_eqb}
 use Rattle.table_offsets.specs.Check.{inside, count_ok, pick_b}
 use Rattle.check_class.proofs.count_ok.Goals as goal
@@ -21,4 +22,6 @@ returns-else-count-lt1 c = simp (c.in-32.is, le-leb _ _ c.if-count-lt1.false)
 
 pub returns-in_default : goal.returns-in_default
 unfolding count_ok pick_b inside
-returns-in_default c = simp (ne_eqb _ _ c.in_default.in_default-own.rest.0.0.1, ne_eqb _ _ c.in_default.in_default-own.rest.0.1, ne_eqb _ _ c.in_default.in_default-own.rest.1)
+returns-in_default c =
+    let k = c.args.kind in
+    simp (ne_eqb k 28 (omega arith), ne_eqb k 31 (omega arith), ne_eqb k 32 (omega arith))

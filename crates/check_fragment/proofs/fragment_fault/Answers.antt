@@ -1,38 +1,36 @@
 -- The first number of the tests, in the order of the definition.
-use mathlib.Core.Path.{sym, ◌∙◌}
+use mathlib.Core.Path.{◌∙◌, sym}
 use native.Mathlib.Omega.{arith}
 use Rattle.table_offsets.specs.Check.{fragment_fault}
-use Rattle.table_offsets.proofs.Picked.{first-zero, first_some}
 use Rattle.table_offsets.proofs.Sound.{head-fine}
+use Rattle.table_offsets.proofs.Told.{none, first-none, first-exit}
 use Rattle.check_fragment.proofs.fragment_fault.Goals as goal
 
-pub returns-then-h-ne-NO_FAULT : goal.returns-then-h-ne-NO_FAULT
+pub returns-in_err-head_fault : goal.returns-in_err-head_fault
 unfolding fragment_fault
-returns-then-h-ne-NO_FAULT c = simp (sym c.head_fault-h.ensures, first_some _ c.if-h-ne-NO_FAULT.true)
+returns-in_err-head_fault c = first-exit c.head_fault.ensures c.in_err-head_fault.was _ c.from_residual.ensures.1 _
 
-pub order_fault-o-requires : goal.order_fault-o-requires
-order_fault-o-requires c =
-    let pre = c.requires in
-    let h = (head-fine _ _ (sym c.head_fault-h.ensures ∙ c.if-h-ne-NO_FAULT.false)).0 in omega (arith, h, pre)
+pub order_fault-requires : goal.order_fault-requires
+order_fault-requires c =
+    let h = (head-fine _ _ (none c.head_fault.ensures c.in_ok-head_fault.was)).0 in
+    omega (arith, h, c.requires)
 
-pub returns-then-o-ne-NO_FAULT : goal.returns-then-o-ne-NO_FAULT
+pub returns-in_err-order_fault : goal.returns-in_err-order_fault
 unfolding fragment_fault
-returns-then-o-ne-NO_FAULT c =
-    let if1 = c.if-h-ne-NO_FAULT in
-    let head-fault = c.head_fault-h in
-    simp (sym head-fault.ensures, first-zero _ if1.false, sym c.order_fault-o.ensures, first_some _ c.if-o-ne-NO_FAULT.true)
+returns-in_err-order_fault c =
+    first-exit c.order_fault.ensures c.in_err-order_fault.was _ c.from_residual-in_err-order_fault.ensures.1 _
+    ∙ sym (first-none c.head_fault.ensures c.in_ok-head_fault.was _)
 
 pub open_fault-requires : goal.open_fault-requires
 open_fault-requires c =
-    let if1 = c.if-h-ne-NO_FAULT in
-    let head-fault = c.head_fault-h in
-    let pre = c.requires in
-    let h = (head-fine _ _ (sym head-fault.ensures ∙ if1.false)).0 in omega (arith, h, pre)
+    let h = (head-fine _ _ (none c.head_fault.ensures c.in_ok-head_fault.was)).0 in
+    omega (arith, h, c.requires)
 
 pub returns : goal.returns
 unfolding fragment_fault
 returns c =
-    let order-fault = c.order_fault-o in
-    let if1 = c.if-h-ne-NO_FAULT in
-    let head-fault = c.head_fault-h in
-    simp (sym head-fault.ensures, first-zero _ if1.false, sym order-fault.ensures, first-zero _ c.if-o-ne-NO_FAULT.false, sym c.open_fault.ensures)
+    simp (
+      first-none c.head_fault.ensures c.in_ok-head_fault.was,
+      first-none c.order_fault.ensures c.in_ok-order_fault.was,
+      sym c.open_fault.ensures,
+    )

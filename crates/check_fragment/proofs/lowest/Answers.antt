@@ -1,28 +1,37 @@
 -- Numbers below 4 stay, and so does any behind the end, where no fragment stands; else the order decides.
-use mathlib.Core.Path.{sym}
+use mathlib.Core.Path.{◌≡◌, ◌∙◌, sym}
 use native.Mathlib.Omega.{arith}
+use lib.ListN.{length}
 use borrow.Author.Tests.{lt-ltb, le-ltb}
 use Rattle.table_offsets.specs.Check.{latest, lowest, pick_n}
-use Rattle.table_offsets.proofs.Picked.{first-zero, first_some}
+use Rattle.table_offsets.specs.Faults.{number}
 use Rattle.table_offsets.proofs.Searched.{lowest-out}
+use Rattle.table_offsets.proofs.Told.{first-none, first-told}
 use Rattle.check_fragment.proofs.lowest.Goals as goal
 
 pub returns-then-is_lower : goal.returns-then-is_lower
-unfolding lowest pick_n
-returns-then-is_lower c = simp (lt-ltb _ _ c.if-is_lower.true)
+unfolding lowest pick_n number
+returns-then-is_lower c =
+    let four : c.number.result ≡ 4 = c.number.ensures in
+    simp (lt-ltb c.args.m 4 (omega (arith, four, c.if-is_lower.true)))
 
 pub returns-then-table-at : goal.returns-then-table-at
 returns-then-table-at c =
     let args = c.args in
-    sym (lowest-out args.table.now args.trace (latest args.seen.now args.n) args.m args.at c.if-table-at.true)
+    sym (lowest-out args.table.now args.trace (latest args.seen.now (length args.seen.now)) args.m args.at c.if-table-at.true)
 
-pub order_fault-o-requires : goal.order_fault-o-requires
-order_fault-o-requires c = omega (arith, c.requires, c.if-table-at.false)
+pub order_fault-requires : goal.order_fault-requires
+order_fault-requires c = omega (arith, c.requires, c.if-table-at.false)
 
-pub returns-then-o-ne-NO_FAULT : goal.returns-then-o-ne-NO_FAULT
-unfolding lowest pick_n
-returns-then-o-ne-NO_FAULT c = simp (le-ltb _ _ c.if-is_lower.false, sym c.order_fault-o.ensures, first_some _ c.if-o-ne-NO_FAULT.true)
+pub returns-in-Err : goal.returns-in-Err
+unfolding lowest pick_n number
+returns-in-Err c =
+    let four : c.number.result ≡ 4 = c.number.ensures in
+    let high = le-ltb c.args.m 4 (omega (arith, four, c.if-is_lower.false)) in
+    c.number-in-Err.ensures ∙ sym (simp (high, first-told c.order_fault.ensures c.in-Err.is))
 
-pub returns : goal.returns
-unfolding lowest pick_n
-returns c = simp (le-ltb _ _ c.if-is_lower.false, sym c.order_fault-o.ensures, first-zero _ c.if-o-ne-NO_FAULT.false)
+pub returns-in-Ok : goal.returns-in-Ok
+unfolding lowest pick_n number
+returns-in-Ok c =
+    let four : c.number.result ≡ 4 = c.number.ensures in
+    simp (le-ltb c.args.m 4 (omega (arith, four, c.if-is_lower.false)), first-none c.order_fault.ensures c.in-Ok.is)

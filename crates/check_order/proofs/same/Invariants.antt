@@ -5,6 +5,3 @@ use Rattle.check_order.proofs.same.Given as goal
 
 abbrev pub invariant-loop-i : goal.invariant-loop-i
 invariant-loop-i l = (l.i ≤ l.n) × (same l.table l.a l.b l.n ≡ same l.table l.a l.b l.i)
-
-abbrev pub decreases-loop-i : goal.decreases-loop-i
-decreases-loop-i l = l.i

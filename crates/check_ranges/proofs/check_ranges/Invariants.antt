@@ -1,10 +1,8 @@
-use Rattle.std.proofs.Common.{◌≡◌}
+use Rattle.std.proofs.Common.{◌≡◌, ◌-◌, length}
 use Rattle.table_offsets.specs.Check.{ranges_at, latest}
 use Rattle.check_ranges.proofs.check_ranges.Given as goal
 
-abbrev pub invariant-loop-todo : goal.invariant-loop-todo
-invariant-loop-todo l =
-    ranges_at l.table l.first (latest l.done l.n) l.at l.count ≡ ranges_at l.table l.first (latest l.done l.n) l.next l.todo
-
-abbrev pub decreases-loop-todo : goal.decreases-loop-todo
-decreases-loop-todo l = l.todo
+abbrev pub invariant-loop : goal.invariant-loop
+invariant-loop l =
+    let done = latest l.done (length l.done) in
+    ranges_at l.table l.first done l.at l.count ≡ ranges_at l.table l.first done l.next (l.count - l.counter)

@@ -1,64 +1,30 @@
 -- The tests of the definition, in its order.
-use Rattle.std.proofs.Common.{◌≡◌, sym, ◌∙◌, arith, eq-eqb, ne_eqb}
-use Rattle.table_offsets.specs.Check.{head_fault, option_fault, pick_n}
-use Rattle.table_offsets.proofs.Picked.{first-zero, first_some}
+use Rattle.std.proofs.Common.{sym, eq-eqb, ne_eqb}
+use Rattle.table_offsets.specs.Check.{option_fault, pick_n}
+use Rattle.table_offsets.specs.Faults.{number, fault_number}
+use Rattle.table_offsets.proofs.Told.{none, first-none, first-exit}
 use Rattle.table_offsets.proofs.Sound.{head-fine}
 use Rattle.check_ranges.proofs.option_fault.Goals as goal
-use Rattle.check_ranges.proofs.option_fault.Lts as lts
-use Rattle.check_ranges.proofs.option_fault.Tie as tie
-use Rattle.check_ranges.proofs.option_fault.Reads as reads
 
--- Places of the code: the record is whole; it is an option
-
-abbrev AtWhole : Type 0
-AtWhole = lts.Else1 tie.the-claims reads.Pre reads.Post
-
-abbrev AtOption : Type 0
-AtOption = lts.Else2 tie.the-claims reads.Pre reads.Post
-
--- The way back
-
-abbrev start : AtWhole → lts.Start tie.the-claims reads.Pre reads.Post
-start c = c.before.before.before
-
-abbrev whole : AtOption → AtWhole
-whole c = c.before.before
-
--- What is known there
-
-no-head : (c : AtWhole) →
-    let a = c.args in
-    head_fault a.table.now a.at ≡ 0
-no-head c = sym c.head_fault-h.ensures ∙ c.if-h-ne-NO_FAULT.false
-
--- The tests
-
-pub returns-then-h-ne-NO_FAULT : goal.returns-then-h-ne-NO_FAULT
-unfolding option_fault pick_n
-returns-then-h-ne-NO_FAULT c = simp (sym c.head_fault-h.ensures, first_some _ c.if-h-ne-NO_FAULT.true)
+pub returns-in_err-head_fault : goal.returns-in_err-head_fault
+unfolding option_fault
+returns-in_err-head_fault c = first-exit c.head_fault.ensures c.in_err-head_fault.was _ c.from_residual.ensures.1 _
 
 pub bounds-table-at : goal.bounds-table-at
-bounds-table-at c = (head-fine _ _ (no-head c.before.before)).0
+bounds-table-at c = (head-fine _ _ (none c.head_fault.ensures c.in_ok-head_fault.was)).0
 
 pub returns-then-table-at-ne-OPTION : goal.returns-then-table-at-ne-OPTION
-unfolding option_fault pick_n
-returns-then-table-at-ne-OPTION c = simp (first-zero _ (no-head c.before.before.before), ne_eqb _ _ c.if-table-at-ne-OPTION.true)
-
-pub overflow_add-at : goal.overflow_add-at
-overflow_add-at c = omega (arith, (head-fine _ _ (no-head (whole c.before))).0)
+unfolding option_fault pick_n fault_number number
+returns-then-table-at-ne-OPTION c = simp (first-none c.head_fault.ensures c.in_ok-head_fault.was, ne_eqb _ _ c.if-table-at-ne-OPTION.true)
 
 pub returns-then-within : goal.returns-then-within
-unfolding option_fault pick_n
+unfolding option_fault pick_n fault_number number
 returns-then-within c =
-    let o = c.before.before.before.before in
-    let none = first-zero _ (no-head (whole o)) in
-    let asked = sym c.within.ensures in
-    simp (none, eq-eqb _ _ o.if-table-at-ne-OPTION.false, sym c.byte.ensures, asked, c.if-within.true)
+    let whole = first-none c.head_fault.ensures c.in_ok-head_fault.was in
+    simp (whole, eq-eqb _ _ c.if-table-at-ne-OPTION.false, sym c.byte.ensures, sym c.within.ensures, c.if-within.true)
 
 pub returns : goal.returns
-unfolding option_fault pick_n
+unfolding option_fault pick_n fault_number number
 returns c =
-    let o = c.before.before.before.before in
-    let none = first-zero _ (no-head (whole o)) in
-    let asked = sym c.within.ensures in
-    simp (none, eq-eqb _ _ o.if-table-at-ne-OPTION.false, sym c.byte.ensures, asked, c.if-within.false)
+    let whole = first-none c.head_fault.ensures c.in_ok-head_fault.was in
+    simp (whole, eq-eqb _ _ c.if-table-at-ne-OPTION.false, sym c.byte.ensures, sym c.within.ensures, c.if-within.false)

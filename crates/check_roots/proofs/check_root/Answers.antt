@@ -4,6 +4,7 @@ use native.Mathlib.Omega.{arith}
 use Rattle.table_offsets.specs.Check.{under}
 use Rattle.table_offsets.proofs.Ends.{root-head}
 use Rattle.table_offsets.proofs.Walked.{root-there, root-not}
+use Rattle.table_offsets.specs.Faults.{walk}
 use Rattle.check_roots.proofs.check_root.Goals as goal
 
 pub overflow_add-u : goal.overflow_add-u
@@ -20,4 +21,5 @@ unfolding under
 returns-then-root_here c = c.check_class.ensures ∙ sym (root-there _ _ _ _ _ (sym c.root_here.ensures ∙ c.if-root_here.true))
 
 pub returns : goal.returns
+unfolding walk
 returns c = sym (root-not _ _ _ _ _ (sym c.root_here.ensures ∙ c.if-root_here.false))

@@ -1,75 +1,39 @@
 -- A turn walks one root; what is left to walk is the definition at the next number.
-use mathlib.Core.Path.{refl, sym, ◌∙◌}
+use mathlib.Core.Path.{◌≡◌, sym, ◌∙◌}
+use Prim.Native.Nat.{◌+◌, ◌-◌}
 use native.Mathlib.Omega.{arith}
-use Rattle.table_offsets.proofs.Picked.{else-zero, else-some}
+use Rattle.table_offsets.specs.Faults.{walk}
+use Rattle.table_offsets.proofs.Told.{else-none, else-told, walk-fine, walk-bad, exit-walk}
 use Rattle.table_offsets.proofs.Walked.{roots-bad, roots-fine, roots-none}
 use Rattle.check_roots.proofs.check_roots.Goals as goal
-use Rattle.check_roots.proofs.check_roots.Lts as lts
-use Rattle.check_roots.proofs.check_roots.Tie as tie
-use Rattle.check_roots.proofs.check_roots.Reads as reads
 
--- Places of the code: a turn's start; its root walked
+pub loop-n-init : goal.loop-n-init
+loop-n-init c =
+    let all : c.args.first + c.args.count - c.args.first ≡ c.args.count = omega arith in
+    rw all
 
-abbrev AtLoop : Type 0
-AtLoop = lts.At-loop tie.the-claims reads.Pre reads.Post goal.the-invariant-loop-todo goal.the-decreases-loop-todo
+pub returns-in_err-next : goal.returns-in_err-next
+returns-in_err-next c =
+    let bad = sym c.check_root.ensures ∙ walk-bad c.in_err-next.was in
+    exit-walk _ _ c.from_residual.ensures.1 ∙ sym (c.loop-n.invariant ∙ roots-bad _ _ _ _ _ _ _ _ (omega arith) bad)
 
-abbrev AtTurn : Type 0
-AtTurn = lts.In-loop tie.the-claims reads.Pre reads.Post goal.the-invariant-loop-todo goal.the-decreases-loop-todo
+pub loop-n-preserved : goal.loop-n-preserved
+loop-n-preserved c =
+    let l = c.loop-n in
+    let end = c.args.first + c.args.count in
+    let one : end - l.n - 1 ≡ end - (l.n + 1) = omega arith in
+    let fine = sym c.check_root.ensures ∙ walk-fine c.in_ok-next.was in
+    let on = l.invariant ∙ roots-fine _ _ _ _ _ _ _ (omega arith) fine in
+    rw one at on
 
-abbrev AtRoot : Type 0
-AtRoot = lts.After-check_root tie.the-claims reads.Pre reads.Post goal.the-invariant-loop-todo goal.the-decreases-loop-todo
-
--- The way back
-
-abbrev start : AtLoop → lts.Start tie.the-claims reads.Pre reads.Post goal.the-invariant-loop-todo goal.the-decreases-loop-todo
-start c = c.before.before
-
-abbrev loop : AtTurn → AtLoop
-loop c = c.before
-
-abbrev turn : AtRoot → AtTurn
-turn c = c.before
-
--- The turns
-
-pub loop-todo-init : goal.loop-todo-init
-loop-todo-init c = (refl, refl)
-
-pub check_root-r-requires : goal.check_root-r-requires
-check_root-r-requires c = c.requires.0
-
-pub returns-in-Bad : goal.returns-in-Bad
-returns-in-Bad c =
-    let r = c.before.before in
-    let so_far = r.loop-todo.invariant.1 in
-    sym (so_far ∙ roots-bad _ _ _ _ _ _ _ _ r.loop-todo-test.true (sym r.check_root-r.ensures ∙ c.in-Bad.is))
-
-pub overflow_add-n : goal.overflow_add-n
-overflow_add-n c =
-    let l = loop (turn c.before.before) in
-    omega (arith, l.requires, l.loop-todo.invariant.0)
-
-pub overflow_sub-todo : goal.overflow_sub-todo
-overflow_sub-todo c = omega arith
-
-pub loop-todo-smaller : goal.loop-todo-smaller
-loop-todo-smaller c = omega arith
-
-pub loop-todo-preserved : goal.loop-todo-preserved
-loop-todo-preserved c =
-    let r = c.before.before in
-    let l = r.loop-todo in
-    let walked = sym r.check_root-r.ensures ∙ c.in-Fine.is in
-    (omega (arith, l.invariant.0), l.invariant.1 ∙ roots-fine _ _ _ _ _ _ _ r.loop-todo-test.true walked)
-
-pub returns-then-f-ne-NO_FAULT : goal.returns-then-f-ne-NO_FAULT
-returns-then-f-ne-NO_FAULT c =
-    let loop-test = c.loop-todo-test in
-    let loop = c.loop-todo in
-    sym (loop.invariant.1 ∙ roots-none _ _ _ _ _ _ loop-test.false ∙ rw (← c.stray-f.ensures) (else-some _ _ _ c.if-f-ne-NO_FAULT.true))
+pub returns-in-Err : goal.returns-in-Err
+unfolding walk
+returns-in-Err c =
+    let over = c.loop-n.invariant ∙ roots-none _ _ _ _ _ _ (omega arith) in
+    sym (over ∙ else-told c.stray.ensures c.in-Err.is _ _)
 
 pub returns : goal.returns
+unfolding walk
 returns c =
-    let loop-test = c.loop-todo-test in
-    let loop = c.loop-todo in
-    sym (loop.invariant.1 ∙ roots-none _ _ _ _ _ _ loop-test.false ∙ rw (← c.stray-f.ensures) (else-zero _ _ _ c.if-f-ne-NO_FAULT.false))
+    let over = c.loop-n.invariant ∙ roots-none _ _ _ _ _ _ (omega arith) in
+    sym (over ∙ else-none c.stray.ensures c.in_default.is _ _)

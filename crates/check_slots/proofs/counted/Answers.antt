@@ -1,12 +1,14 @@
 -- One test.
-use borrow.Author.Tests.{eq-eqb, ne_eqb}
+use mathlib.Core.Path.{◌≡◌, refl, ◌∙◌}
+use mathlib.Core.Bool.{Bool, true, false}
+use mir.Val.{bool_byte}
 use Rattle.table_offsets.specs.Check.{pick_n}
 use Rattle.check_slots.proofs.counted.Goals as goal
 
-pub returns-then-is_stream : goal.returns-then-is_stream
+one_or_none : (b : Bool) → bool_byte b ≡ pick_n b 1 0
 unfolding pick_n
-returns-then-is_stream c = simp (eq-eqb _ _ c.if-is_stream.true)
+one_or_none true = refl
+one_or_none false = refl
 
-pub returns-else-is_stream : goal.returns-else-is_stream
-unfolding pick_n
-returns-else-is_stream c = simp (ne_eqb _ _ c.if-is_stream.false)
+pub returns : goal.returns
+returns c = c.from.ensures ∙ one_or_none _

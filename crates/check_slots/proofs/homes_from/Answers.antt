@@ -4,4 +4,4 @@ use Rattle.check_slots.proofs.homes_from.Goals as goal
 
 pub returns : goal.returns
 unfolding homes_of
-returns c = c.walk_roots-end.ensures.set
+returns c = c.walk_roots.ensures.set

@@ -1,69 +1,34 @@
 -- A turn walks one fragment and its roots: the whole check is what is left of it, with the fragments so far in `seen`.
-use mathlib.Core.Bool.{false}
-use mathlib.Core.Path.{refl, sym, ◌∙◌}
-use Prim.Native.Nat.{◌-◌}
+use mathlib.Core.Bool.{Bool}
+use mathlib.Core.List.{List}
+use mathlib.Core.Path.{◌≡◌, refl, sym, ap, ◌∙◌}
+use Prim.Native.Nat.{ℕ, ◌+◌, ◌≤◌}
 use native.Mathlib.Omega.{arith}
-use lib.ListN.{length-set}
-use Rattle.table_offsets.specs.Check.{latest}
+use lib.ListN.{length, take, set, length-set}
+use Rattle.std.specs.Prelude.{⊤, Result, Ok}
+use Rattle.std.proofs.lemmas.List.{length-take-le}
+use Rattle.table_offsets.specs.Check.{latest, fragment_fault}
+use Rattle.table_offsets.specs.Faults.{fault_number}
+use Rattle.table_offsets.specs.Walks.{Bad}
+use Rattle.table_offsets.specs.declared.faults.Fault.{Fault}
 use Rattle.table_offsets.proofs.FragmentOpens.{FragmentOpens, opens, fragment-end}
+use Rattle.table_offsets.proofs.Places.{latest-taken}
 use Rattle.table_offsets.proofs.Rounds.{turn-none, turn-stop, turn-bad, turn-fine}
+use Rattle.table_offsets.proofs.Told.{number-some, none, told, walk-fine, walk-bad}
 use Rattle.check_table.proofs.check_fragments.Goals as goal
-use Rattle.check_table.proofs.check_fragments.Lts as lts
-use Rattle.check_table.proofs.check_fragments.Tie as tie
-use Rattle.check_table.proofs.check_fragments.Reads as reads
 
--- Places of the code: a turn's start; a fragment with no fault; it is counted; its roots are walked, and with no fault
+-- A fragment's test, the first n places of xs before it; one with no fault; room for its place
 
-abbrev AtStart : Type 0
-AtStart = lts.Start tie.the-claims reads.Pre reads.Post goal.the-invariant-loop-next goal.the-decreases-loop-next
+module _ (r : Result ⊤ Fault) (t : List ℕ) (trace : Bool) (xs : List ℕ) (n at : ℕ) (few : n ≤ 512) (size : length xs ≡ 513)
+    (asked : fault_number r ≡ fragment_fault t trace (latest (take n xs) (length (take n xs))) (length (take n xs)) at) where
+  tested : fault_number r ≡ fragment_fault t trace (latest xs n) n at
+  tested = let l : n ≤ length xs = omega arith in rw (latest-taken xs n l, length-take-le n xs l) at asked
 
-abbrev AtLoop : Type 0
-AtLoop = lts.At-loop tie.the-claims reads.Pre reads.Post goal.the-invariant-loop-next goal.the-decreases-loop-next
+  opened : {x : ⊤} → r ≡ Ok x → FragmentOpens t n at
+  opened fine = opens _ _ _ _ _ few 0 (sym (none tested fine)) refl
 
-abbrev AtTurn : Type 0
-AtTurn = lts.In-loop tie.the-claims reads.Pre reads.Post goal.the-invariant-loop-next goal.the-decreases-loop-next
-
-abbrev AtFragment : Type 0
-AtFragment = lts.Else1 tie.the-claims reads.Pre reads.Post goal.the-invariant-loop-next goal.the-decreases-loop-next
-
-abbrev AtCounted : Type 0
-AtCounted = lts.After-counted tie.the-claims reads.Pre reads.Post goal.the-invariant-loop-next goal.the-decreases-loop-next
-
-abbrev AtRoots : Type 0
-AtRoots = lts.After-roots_of tie.the-claims reads.Pre reads.Post goal.the-invariant-loop-next goal.the-decreases-loop-next
-
-abbrev AtWalked : Type 0
-AtWalked = lts.Past-After-known_told2 tie.the-claims reads.Pre reads.Post goal.the-invariant-loop-next goal.the-decreases-loop-next
-
--- The way back
-
-abbrev start : AtLoop → AtStart
-start c = c.before.before
-
-abbrev loop : AtTurn → AtLoop
-loop c = c.before
-
-abbrev turn : AtFragment → AtTurn
-turn c = c.before.before.before
-
-abbrev fragment : AtCounted → AtFragment
-fragment c = c.before.before
-
-abbrev counted : AtRoots → AtCounted
-counted c = c.before.before
-
-abbrev roots : AtWalked → AtRoots
-roots c = c.before
-
-abbrev given : AtFragment → AtStart
-given c = c.before.before.before.before.before.before
-
--- What is known at them
-
-opened : (c : AtFragment) →
-    let l = c.loop-next in
-    FragmentOpens c.args.table.now l.n l.next
-opened c = opens _ _ _ _ _ c.loop-next.invariant.0 _ c.fragment_fault-f.ensures c.if-f-ne-NO_FAULT.false
+more-room : (xs : List ℕ) (n v m : ℕ) → m ≤ 512 → length xs ≡ 513 → m ≤ length (set xs n v)
+more-room xs n v m few size = let l : length (set xs n v) ≡ 513 = simp length-set size in omega arith
 
 pub loop-next-init : goal.loop-next-init
 unfolding latest
@@ -71,80 +36,70 @@ loop-next-init c = (omega arith, (refl, refl))
 
 -- The fragment
 
-pub fragment_fault-f-requires : goal.fragment_fault-f-requires
-fragment_fault-f-requires c =
-    let l = loop c.before.before in
-    omega (arith, l.loop-next.invariant.0, l.requires)
-
-pub returns-then-f-ne-NO_FAULT : goal.returns-then-f-ne-NO_FAULT
-returns-then-f-ne-NO_FAULT c =
-    let n = c.before.before.before.before in
-    let l = n.loop-next in
-    turn-stop _ _ _ _ _ _ l.invariant.1.1 n.loop-next-test.true _ c.fragment_fault-f.ensures c.if-f-ne-NO_FAULT.true
-
-pub bounds-table-next : goal.bounds-table-next
-bounds-table-next c = omega arith
-
-pub overflow_cast-seen : goal.overflow_cast-seen
-overflow_cast-seen c = omega (arith, c.requires)
-
-pub offset_bounds-seen-n : goal.offset_bounds-seen-n
-offset_bounds-seen-n c = omega (arith, c.loop-next.invariant.0)
-
-pub bounds-seen-n : goal.bounds-seen-n
-bounds-seen-n c = omega (arith, c.loop-next.invariant.0)
+pub returns-in-Err : goal.returns-in-Err
+returns-in-Err c =
+    let l = c.loop-next in
+    let t = tested _ _ _ l.seen l.n _ l.invariant.0 l.invariant.1.0 c.fragment_fault.ensures in
+    c.refused.ensures
+    ∙ turn-stop _ _ _ _ _ _ l.invariant.1.1 c.loop-next-test.true _ (sym (told t c.in-Err.is)) (number-some _)
 
 pub overflow_add-n : goal.overflow_add-n
-overflow_add-n c = omega (arith, (opened (fragment c.before)).few, c.counted-n.ensures)
+overflow_add-n c =
+    let l = c.loop-next in
+    let o = opened _ _ _ l.seen l.n _ l.invariant.0 l.invariant.1.0 c.fragment_fault.ensures c.in_default.is in
+    omega (arith, o.few, c.counted-n.ensures)
 
 -- Its roots
 
-pub roots_of-r-requires : goal.roots_of-r-requires
-roots_of-r-requires c =
-    let f = fragment c.before.before in
-    let p = f.requires in
-    let o = opened f in
-    (p.0, (omega (arith, p, f.loop-next-test.true), (o.low, o.high)))
+pub roots_of-requires : goal.roots_of-requires
+roots_of-requires c =
+    let l = c.loop-next in
+    let o = opened _ _ _ l.seen l.n _ l.invariant.0 l.invariant.1.0 c.fragment_fault.ensures c.in_default.is in
+    (c.requires.0, (omega (arith, c.requires, c.loop-next-test.true), (o.low, o.high)))
 
-pub lowest-low-requires : goal.lowest-low-requires
-lowest-low-requires c =
-    let k = counted c.before.before.before in
-    let f = fragment k in
-    omega (arith, (opened f).few, k.counted-n.ensures, f.requires)
+pub slice_bounds-seen-end-in-Err-roots_of : goal.slice_bounds-seen-end-in-Err-roots_of
+slice_bounds-seen-end-in-Err-roots_of c =
+    let l = c.loop-next in
+    let o = opened _ _ _ l.seen l.n _ l.invariant.0 l.invariant.1.0 c.fragment_fault.ensures c.in_default.is in
+    more-room _ _ _ _ (omega (arith, o.few, c.counted-n.ensures)) l.invariant.1.0
 
-pub returns-in-Bad : goal.returns-in-Bad
-returns-in-Bad c =
-    let r = c.before.before.before.before in
-    let k = counted r in
-    let f = fragment k in
-    let n = turn f in
-    let l = n.loop-next in
-    turn-bad _ _ _ _ _ _ l.invariant.1.1 n.loop-next-test.true _ f.fragment_fault-f.ensures f.if-f-ne-NO_FAULT.false
-    l.invariant.0 l.invariant.1.0 _ _ r.traced-trace.ensures k.counted-n.ensures _ r.roots_of-r.ensures _ _ _
-    c.in-Bad.is c.lowest-low.ensures
+pub slice_bounds-lowest-end : goal.slice_bounds-lowest-end
+slice_bounds-lowest-end c =
+    let l = c.loop-next in
+    let o = opened _ _ _ l.seen l.n _ l.invariant.0 l.invariant.1.0 c.fragment_fault.ensures c.in_default.is in
+    sym (length-take-le _ _ (more-room _ _ _ _ (omega (arith, o.few, c.counted-n.ensures)) l.invariant.1.0))
+
+pub returns-in-Err-roots_of : goal.returns-in-Err-roots_of
+returns-in-Err-roots_of c =
+    let l = c.loop-next in
+    let t = tested _ _ _ l.seen l.n _ l.invariant.0 l.invariant.1.0 c.fragment_fault.ensures in
+    let o = opened _ _ _ l.seen l.n _ l.invariant.0 l.invariant.1.0 c.fragment_fault.ensures c.in_default.is in
+    let room = more-room l.seen l.n l.next (l.n + c.counted-n.result) (omega (arith, o.few, c.counted-n.ensures)) l.invariant.1.0 in
+    let bad = walk-bad c.in-Err-roots_of.is ∙ ap (λ m. Bad m c.in-Err-roots_of.found.byte) (sym c.number.ensures) in
+    turn-bad _ _ _ _ _ _ l.invariant.1.1 c.loop-next-test.true 0 (sym (none t c.in_default.is)) refl
+    l.invariant.0 l.invariant.1.0 _ _ c.traced-trace.ensures c.counted-n.ensures _ c.roots_of.ensures _ _ _
+    bad (rw (latest-taken _ _ room) at c.lowest-low.ensures)
 
 -- The next turn
 
 pub loop-next-smaller : goal.loop-next-smaller
 loop-next-smaller c =
-    let r = roots c.before in
-    let f = fragment (counted r) in
-    let walked = sym r.roots_of-r.ensures ∙ c.in-Fine.is in
-    omega (arith, (fragment-end _ _ _ _ (opened f) walked).0, f.loop-next-test.true)
+    let l = c.loop-next in
+    let o = opened _ _ _ l.seen l.n _ l.invariant.0 l.invariant.1.0 c.fragment_fault.ensures c.in_default.is in
+    let walked = sym c.roots_of.ensures ∙ walk-fine c.in-Ok.is in
+    omega (arith, (fragment-end _ _ _ _ o walked).0, c.loop-next-test.true)
 
 pub loop-next-preserved : goal.loop-next-preserved
 loop-next-preserved c =
-    let r = roots c.before in
-    let k = counted r in
-    let f = fragment k in
-    let n = turn f in
-    let l = n.loop-next in (
-      omega (arith, (opened f).few, k.counted-n.ensures),
+    let l = c.loop-next in
+    let t = tested _ _ _ l.seen l.n _ l.invariant.0 l.invariant.1.0 c.fragment_fault.ensures in
+    let o = opened _ _ _ l.seen l.n _ l.invariant.0 l.invariant.1.0 c.fragment_fault.ensures c.in_default.is in (
+      omega (arith, o.few, c.counted-n.ensures),
       (
         simp length-set l.invariant.1.0,
-        turn-fine _ _ _ _ _ _ l.invariant.1.1 n.loop-next-test.true _ f.fragment_fault-f.ensures f.if-f-ne-NO_FAULT.false
-            l.invariant.0 l.invariant.1.0 _ _ r.traced-trace.ensures k.counted-n.ensures _ r.roots_of-r.ensures _
-            c.in-Fine.is,
+        turn-fine _ _ _ _ _ _ l.invariant.1.1 c.loop-next-test.true 0 (sym (none t c.in_default.is)) refl
+            l.invariant.0 l.invariant.1.0 _ _ c.traced-trace.ensures c.counted-n.ensures _ c.roots_of.ensures _
+            (walk-fine c.in-Ok.is),
       ),
     )
 

@@ -10,7 +10,8 @@ abbrev pub invariant-loop-next : goal.invariant-loop-next
 invariant-loop-next l =
     (l.n ≤ 512)
     × ((length l.seen ≡ 513)
-    × (fragments_at (length l.table - l.at) l.table false [] l.at ≡ fragments_at (length l.table - l.next) l.table l.trace (latest l.seen l.n) l.next))
+    × (fragments_at (length l.table - l.at) l.table false [] l.at
+    ≡ fragments_at (length l.table - l.next) l.table l.trace (latest l.seen l.n) l.next))
 
 abbrev pub decreases-loop-next : goal.decreases-loop-next
 decreases-loop-next l = length l.table - l.next

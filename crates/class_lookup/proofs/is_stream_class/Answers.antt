@@ -3,7 +3,7 @@ use native.Mathlib.Omega.{arith}
 use borrow.Author.Tests.{eq-eqb, ne_eqb}
 use Rattle.rules.specs.Record.{u8}
 use Rattle.class_layout.specs.Fragments.{is_stream, opening_size}
-use Rattle.class_layout.proofs.Ahead.{opening-there}
+use Rattle.class_layout.proofs.Walked.{opening-there}
 use Rattle.class_lookup.proofs.is_stream_class.Goals as goal
 
 pub u64_at-requires : goal.u64_at-requires

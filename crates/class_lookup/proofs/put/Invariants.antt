@@ -1,8 +1,8 @@
-use Rattle.class_lookup.proofs.Index.{Putting}
+use mathlib.Core.Path.{◌≡◌}
+use Prim.Native.Nat.{◌+◌, ◌-◌, ◌%◌}
+use Rattle.class_lookup.specs.Index.{places, put_from}
 use Rattle.class_lookup.proofs.put.Given as goal
 
-abbrev pub invariant-loop-left : goal.invariant-loop-left
-invariant-loop-left l = Putting l.initial.index l.from l.place l.index l.at l.left
-
-abbrev pub decreases-loop-left : goal.decreases-loop-left
-decreases-loop-left l = l.left
+abbrev pub invariant-loop-step : goal.invariant-loop-step
+invariant-loop-step l =
+    put_from places l.initial.index l.from l.place ≡ put_from (places - l.step) l.index ((l.from + l.step) % places) l.place

@@ -7,7 +7,4 @@ use Rattle.class_slots.proofs.behind_record.Goals as goal
 
 pub returns : goal.returns
 unfolding u8
-returns c =
-    let m = c.before.before in
-    let b = m.before in
-    ap (λ n. b.args.at + 1 + n) (c.wide.ensures.0 ∙ m.mark_of.ensures ∙ ap body_mark b.byte.ensures)
+returns c = ap (λ n. c.args.at + 1 + n) (c.wide.ensures.0 ∙ c.mark_of.ensures ∙ ap body_mark c.byte.ensures)

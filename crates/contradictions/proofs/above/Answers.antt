@@ -3,10 +3,10 @@ use Rattle.rules.specs.Packet.{above}
 use mathlib.Core.Path.{refl}
 use Rattle.contradictions.proofs.above.Goals as goal
 
-pub returns-in-Missing : goal.returns-in-Missing
+pub returns-in-None : goal.returns-in-None
 unfolding above
-returns-in-Missing c = rw c.in-Missing.is refl
+returns-in-None c = rw c.in-None.is refl
 
-pub returns-in-As : goal.returns-in-As
+pub returns-in-Some : goal.returns-in-Some
 unfolding above
-returns-in-As c = rw c.in-As.is refl
+returns-in-Some c = rw c.in-Some.is refl

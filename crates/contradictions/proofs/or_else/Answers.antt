@@ -3,14 +3,14 @@ use Rattle.rules.specs.Packet.{or_else}
 use mathlib.Core.Path.{refl}
 use Rattle.contradictions.proofs.or_else.Goals as goal
 
-pub returns-in-As : goal.returns-in-As
+pub returns-in-Some : goal.returns-in-Some
 unfolding or_else
-returns-in-As c = rw c.in-As.is refl
+returns-in-Some c = rw c.in-Some.is refl
 
-pub returns-in-As-other : goal.returns-in-As-other
+pub returns-in-Some-other : goal.returns-in-Some-other
 unfolding or_else
-returns-in-As-other c = rw (c.in-Missing.is, c.in-As-other.is) refl
+returns-in-Some-other c = rw (c.in-None.is, c.in-Some-other.is) refl
 
-pub returns-in-Missing-other : goal.returns-in-Missing-other
+pub returns-in-None-other : goal.returns-in-None-other
 unfolding or_else
-returns-in-Missing-other c = rw (c.in-Missing.is, c.in-Missing-other.is) refl
+returns-in-None-other c = rw (c.in-None.is, c.in-None-other.is) refl

@@ -7,6 +7,6 @@ pub returns-then-here : goal.returns-then-here
 unfolding opens_at
 returns-then-here c = rw (c.if-here.true, opens_at) refl
 
-pub returns : goal.returns
+pub returns-else-here : goal.returns-else-here
 unfolding opens_at
-returns c = rw (c.if-here.false, opens_at) refl
+returns-else-here c = rw (c.if-here.false, opens_at) refl

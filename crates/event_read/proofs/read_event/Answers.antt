@@ -739,23 +739,23 @@ overflow_add-used c =
     let past = c.before.before.before.before in
     omega (arith, (took past (now (turned-loop past))).room, within (turned-loop past))
 
-pub shape_of-list-in-Stopped : goal.shape_of-list-in-Stopped
-shape_of-list-in-Stopped c =
+pub shape_of-list-in-Err : goal.shape_of-list-in-Err
+shape_of-list-in-Err c =
     let past = c.before.before.before.before.before.before in
     (took past (now (turned-loop past))).same
 
-pub returns-in-Stopped : goal.returns-in-Stopped
-returns-in-Stopped c =
+pub returns-in-Err : goal.returns-in-Err
+returns-in-Err c =
     let past = c.before.before.before.before.before.before in
     let y = took past (now (turned-loop past)) in
-    rw c.stopped.ensures (event-stopped (event (turned-loop past)) _ _ (y.stops _ c.in-Stopped.is _ _))
+    rw c.stopped.ensures (event-stopped (event (turned-loop past)) _ _ (y.stops _ c.in-Err.is _ _))
 
 pub loop-only-smaller-then-is_over : goal.loop-only-smaller-then-is_over
 loop-only-smaller-then-is_over c =
     let past = c.before.before.before.before.before.before in
     let l = past.loop-only in
     let t = took past (now (turned-loop past)) in
-    let rises = t.rises c.in-On.is in
+    let rises = t.rises c.in_default.is in
     let r = past.open_turn-o.result in
     round-falls (length l.list) _ l.used (l.used + r.used) (steps_left l.turn l.off) (steps_left r.turn l.off)
     (t.same ∙ sym (within (turned-loop past)).1) (omega (arith, t.room, within (turned-loop past))) (omega (arith, rises.0, rises.1))
@@ -765,7 +765,7 @@ loop-only-preserved-then-is_over c =
     let past = c.before.before.before.before.before.before in
     λ all ws held.
     let none : past.loop-only.off ≡ 0 = omega (arith, past.if-off-gt0.false) in
-    still-none none ((took past (past.loop-only.invariant all ws held)).goes c.in-On.is)
+    still-none none ((took past (past.loop-only.invariant all ws held)).goes c.in_default.is)
 
 -- a field is left
 some_left : (c : AtField) → Begun c.forward-run.result
@@ -1104,16 +1104,16 @@ overflow_add-used-then-kind-lt-FIRST_THAT_HOLDS-2 c =
     let past = c.before.before.before.before in
     omega (arith, (applied past (now (applied-loop past))).room, within (applied-loop past))
 
-pub shape_of-list-in-Stopped-went : goal.shape_of-list-in-Stopped-went
-shape_of-list-in-Stopped-went c =
+pub shape_of-list-in-Err-went : goal.shape_of-list-in-Err-went
+shape_of-list-in-Err-went c =
     let past = c.before.before.before.before.before.before in
     (applied past (now (applied-loop past))).same
 
-pub returns-in-Stopped-went : goal.returns-in-Stopped-went
-returns-in-Stopped-went c =
+pub returns-in-Err-went : goal.returns-in-Err-went
+returns-in-Err-went c =
     let past = c.before.before.before.before.before.before in
     let y = applied past (now (applied-loop past)) in
-    rw c.stopped-in-Stopped-went.ensures (event-stopped (event (applied-loop past)) _ _ (y.stops _ c.in-Stopped-went.is _ _))
+    rw c.stopped-in-Err-went.ensures (event-stopped (event (applied-loop past)) _ _ (y.stops _ c.in-Err-went.is _ _))
 
 pub loop-only-smaller-then-kind-lt-FIRST_THAT_HOLDS : goal.loop-only-smaller-then-kind-lt-FIRST_THAT_HOLDS
 loop-only-smaller-then-kind-lt-FIRST_THAT_HOLDS c =
@@ -1130,7 +1130,7 @@ loop-only-preserved-then-kind-lt-FIRST_THAT_HOLDS c =
     let past = c.before.before.before.before.before.before in
     λ all ws held.
     let k = past.loop-only.invariant all ws held in
-    gone-on k ((applied past k).goes c.in-On-went.is)
+    gone-on k ((applied past k).goes c.in_default-went.is)
 
 pub taken-run-requires : goal.taken-run-requires
 taken-run-requires c =
@@ -1483,16 +1483,16 @@ overflow_add-used-in-loop-only c =
     let past = c.before.before.before.before in
     omega (arith, (field past (now (read-loop past))).room, within (read-loop past))
 
-pub shape_of-list-in-Stopped-went-2 : goal.shape_of-list-in-Stopped-went-2
-shape_of-list-in-Stopped-went-2 c =
+pub shape_of-list-in-Err-went-2 : goal.shape_of-list-in-Err-went-2
+shape_of-list-in-Err-went-2 c =
     let past = c.before.before.before.before.before.before in
     (field past (now (read-loop past))).same
 
-pub returns-in-Stopped-went-2 : goal.returns-in-Stopped-went-2
-returns-in-Stopped-went-2 c =
+pub returns-in-Err-went-2 : goal.returns-in-Err-went-2
+returns-in-Err-went-2 c =
     let past = c.before.before.before.before.before.before in
     let y = field past (now (read-loop past)) in
-    rw c.stopped-in-Stopped-went-2.ensures (event-stopped (event (read-loop past)) _ _ (y.stops _ c.in-Stopped-went-2.is _ _))
+    rw c.stopped-in-Err-went-2.ensures (event-stopped (event (read-loop past)) _ _ (y.stops _ c.in-Err-went-2.is _ _))
 
 pub overflow_sub-run-in-loop-only : goal.overflow_sub-run-in-loop-only
 overflow_sub-run-in-loop-only c =
@@ -1511,7 +1511,7 @@ loop-only-smaller c =
     let l = past.loop-only in
     let y = field past (now (read-loop past)) in
     let s = steps_left l.turn l.off in
-    let some = y.some c.in-On-went-2.is in
+    let some = y.some c.in_default-went-2.is in
     round-falls (length l.list) _ l.used (l.used + past.read_field-r.result.used) s s (y.same ∙ sym (within (read-loop past)).1)
     (omega (arith, y.room, within (read-loop past))) (omega (arith, some))
 
@@ -1520,5 +1520,5 @@ loop-only-preserved c =
     let past = c.before.before.before.before.before.before.before.before.before.before in
     λ all ws held.
     let k = past.loop-only.invariant all ws held in
-    let on = c.in-On-went-2.is in
+    let on = c.in_default-went-2.is in
     gone-on k (field-run (holds (read_told past) k) (holder-next (read-holder past)) (field past k) c.behind-run-in-loop-only.ensures on)

@@ -4,22 +4,6 @@ use Rattle.event_turns.specs.Left.{turn_left}
 use Rattle.event_turns.proofs.Lefts.{turn_stopped, turn-due}
 use Rattle.event_turns.proofs.Bodies.{looked-stands}
 use Rattle.event_turns.proofs.open_turn.Goals as goal
-use Rattle.event_turns.proofs.open_turn.Lts as lts
-use Rattle.event_turns.proofs.open_turn.Tie as tie
-use Rattle.event_turns.proofs.open_turn.Reads as reads
-
--- Places of the code, and the way back
-
-abbrev AtLooked : Type 0
-AtLooked = lts.After-look_up tie.the-claims reads.Pre reads.Post tie.handed_clauses
-
-abbrev looked : lts.After-struct_known tie.the-claims reads.Pre reads.Post tie.handed_clauses → AtLooked
-looked c = c.before.before.before
-
-abbrev asked : AtLooked → lts.Start tie.the-claims reads.Pre reads.Post tie.handed_clauses
-asked c = c.before.before.before.before.before.before
-
--- The needs
 
 pub returns-then-not-o : goal.returns-then-not-o
 unfolding turn_left
@@ -32,17 +16,15 @@ returns-then-not-o c =
 
 pub next_root-due-requires : goal.next_root-due-requires
 next_root-due-requires c =
-    let o = looked c.before.before in
-    let pre = o.requires in
-    let stands = looked-stands _ _ _ _ _ _ _ _ pre.sized _ _ pre.known _ o.look_up-o.ensures.value (not-false _ c.if-not-o.false) in
+    let pre = c.requires in
+    let stands = looked-stands _ _ _ _ _ _ _ _ pre.sized _ _ pre.known _ c.look_up-o.ensures.value (not-false _ c.if-not-o.false) in
     record { sized_fragment = stands; table_len_bound = (pre.sized.limit, pre.sized.room) }
 
 pub returns : goal.returns
 unfolding turn_left
 returns c =
-    let due = c.before.before in
-    let gave = due.look_up-o.ensures in
+    let gave = c.look_up-o.ensures in
     record {
-      value = turn-due _ _ _ _ _ gave.value _ (not-false _ due.if-not-o.false) due.next_root-due.ensures;
+      value = turn-due _ _ _ _ _ gave.value _ (not-false _ c.if-not-o.false) c.next_root-due.ensures;
       list_after = gave.list_after;
     }

@@ -4,13 +4,12 @@ use mathlib.Core.List.{List}
 use Prim.Native.Nat.{ℕ}
 use borrow.Author.Tests.{ne_eqb}
 use Rattle.class_layout.specs.Fragments.{root_place}
-use Rattle.class_layout.specs.Sizes.{found_of}
 use Rattle.event_turns.specs.declared.Asking.{Asking}
 use Rattle.event_turns.specs.Left.{root_found}
 use Rattle.event_turns.proofs.root_of.Goals as goal
 
 payload : (t : List ℕ) (w : Asking) (turn class : ℕ) → (turn ≡ 2 → ⊥) → (turn ≡ 3 → ⊥)
-    → found_of (root_place t class 1) ≡ root_found t w turn class
+    → root_place t class 1 ≡ root_found t w turn class
 unfolding root_found
 payload t w turn class a b = rw (root_found, ne_eqb _ _ a, ne_eqb _ _ b) refl
 

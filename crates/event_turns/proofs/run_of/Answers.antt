@@ -2,10 +2,10 @@
 use Rattle.event_turns.specs.Left.{root_run}
 use Rattle.event_turns.proofs.run_of.Goals as goal
 
-pub returns-in-Nothing : goal.returns-in-Nothing
+pub returns-in-None : goal.returns-in-None
 unfolding root_run
-returns-in-Nothing c = rw c.in-Nothing.is c.members.ensures
+returns-in-None c = rw c.in-None.is c.members.ensures
 
-pub returns-in-At : goal.returns-in-At
+pub returns-in-Some : goal.returns-in-Some
 unfolding root_run
-returns-in-At c = rw c.in-At.is c.members-in-At.ensures
+returns-in-Some c = rw c.in-Some.is c.members-in-Some.ensures

@@ -1,5 +1,4 @@
 -- By the sign's byte.
-use Rattle.std.proofs.Common.{◌∙◌}
 use Rattle.field_choice.proofs.Keys.{key-plain, key-signed}
 use Rattle.field_choice.proofs.key.Goals as goal
 
@@ -7,4 +6,4 @@ pub returns-then-sign-eq-UNSIGNED : goal.returns-then-sign-eq-UNSIGNED
 returns-then-sign-eq-UNSIGNED c = key-plain _ _ c.if-sign-eq-UNSIGNED.true
 
 pub returns : goal.returns
-returns c = c.wrapping_add_u64.ensures.value ∙ key-signed _ _ c.if-sign-eq-UNSIGNED.false
+returns c = key-signed _ _ c.if-sign-eq-UNSIGNED.false

@@ -11,20 +11,16 @@ returns-then-run-gt0 c = sym (forward-members _ c.if-run-gt0.true)
 
 pub taken-requires : goal.taken-requires
 taken-requires c =
-    let some = c.before.before in
-    let none = some.before.before in
-    rw (count-elements none.args.run none.if-run-gt0.false) some.if-run-gt0-2.true
+    rw (count-elements c.args.run c.if-run-gt0.false) c.if-run-gt0-2.true
 
 pub returns-then-run-ne0 : goal.returns-then-run-ne0
 returns-then-run-ne0 c =
-    let some = c.before.before.before in
     let forgets = forgetting-some _ c.if-run-ne0.true in
-    c.taken.ensures ∙ sym (forward-taken _ some.if-run-gt0.false some.if-run-gt0-2.true forgets)
+    c.taken.ensures ∙ sym (forward-taken _ c.if-run-gt0.false c.if-run-gt0-2.true forgets)
 
 pub returns-then-run-gt0-2 : goal.returns-then-run-gt0-2
 returns-then-run-gt0-2 c =
-    let some = c.before.before in
-    sym (forward-elements _ some.if-run-gt0.false some.if-run-gt0-2.true (forgetting-none _ c.if-run-ne0.false))
+    sym (forward-elements _ c.if-run-gt0.false c.if-run-gt0-2.true (forgetting-none _ c.if-run-ne0.false))
 
 -- nothing is left but what was put off
 

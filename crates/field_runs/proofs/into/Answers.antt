@@ -9,8 +9,5 @@ returns-then-elements c = c.put_off.ensures ∙ sym (into-elements _ _ _ _ _ _ _
 pub returns-then-kind-eq-VARIANT : goal.returns-then-kind-eq-VARIANT
 returns-then-kind-eq-VARIANT c = c.put_off-then-kind-eq-VARIANT.ensures ∙ sym (into-variant _ _ _ _ _ _ _ c.if-elements.false c.if-kind-eq-VARIANT.true)
 
-pub opened-requires : goal.opened-requires
-opened-requires c = let p = c.requires in (p.0, p.1 c.if-elements.false)
-
 pub returns : goal.returns
 returns c = c.opened.ensures ∙ sym (into-parts _ _ _ _ _ _ _ c.if-elements.false c.if-kind-eq-VARIANT.false)

@@ -7,8 +7,7 @@ use Rattle.field_runs.proofs.is_border.Goals as goal
 pub returns-then-is_element : goal.returns-then-is_element
 unfolding forgetting
 returns-then-is_element c =
-    let told = c.before in
-    sym (border-element _ (sym told.is_element.ensures ∙ told.if-is_element.true))
+    sym (border-element _ (sym c.is_element.ensures ∙ c.if-is_element.true))
 
 pub returns : goal.returns
 returns c = sym (border-member _ (sym c.is_element.ensures ∙ c.if-is_element.false))

@@ -18,6 +18,5 @@ returns-then-run-ne0-3 c =
 
 pub returns : goal.returns
 returns c =
-    let other = c.before.before.before in
-    let none = other.if-run-ne0.false in
-    sym (over-free _ (omega (arith, none)) ∙ free-rest _ (omega (arith, other.if-run-ne0-2.false)) (forgetting-none _ c.if-run-ne0-3.false))
+    let none = c.if-run-ne0.false in
+    sym (over-free _ (omega (arith, none)) ∙ free-rest _ (omega (arith, c.if-run-ne0-2.false)) (forgetting-none _ c.if-run-ne0-3.false))

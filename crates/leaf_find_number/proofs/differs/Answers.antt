@@ -25,30 +25,30 @@ was-big c = c.before
 
 -- The needs
 
-pub returns-in-Nothing : goal.returns-in-Nothing
+pub returns-in-None : goal.returns-in-None
 unfolding Rattle.rules.specs.Field.other_order
-returns-in-Nothing c = simp c.in-Nothing.is
+returns-in-None c = simp c.in-None.is
 
 pub returns-in-Little-order : goal.returns-in-Little-order
 unfolding Rattle.rules.specs.Field.other_order
 returns-in-Little-order c =
     let was = c.before in
-    simp (was.in-Was.is, was.in-Little.is, c.in-Little-order.is)
+    simp (was.in-Some.is, was.in-Little.is, c.in-Little-order.is)
 
 pub returns-in-Big-order : goal.returns-in-Big-order
 unfolding Rattle.rules.specs.Field.other_order
 returns-in-Big-order c =
     let was = c.before in
-    simp (was.in-Was.is, was.in-Little.is, c.in-Big-order.is)
+    simp (was.in-Some.is, was.in-Little.is, c.in-Big-order.is)
 
 pub returns-in-Little-order-2 : goal.returns-in-Little-order-2
 unfolding Rattle.rules.specs.Field.other_order
 returns-in-Little-order-2 c =
     let was = c.before in
-    simp (was.in-Was.is, was.in-Big.is, c.in-Little-order-2.is)
+    simp (was.in-Some.is, was.in-Big.is, c.in-Little-order-2.is)
 
 pub returns-in-Big-order-2 : goal.returns-in-Big-order-2
 unfolding Rattle.rules.specs.Field.other_order
 returns-in-Big-order-2 c =
     let was = c.before in
-    simp (was.in-Was.is, was.in-Big.is, c.in-Big-order-2.is)
+    simp (was.in-Some.is, was.in-Big.is, c.in-Big-order-2.is)

@@ -40,8 +40,8 @@ to-bytes-from-blob c = c.before
 
 -- What is known at them: no slot gives more than 65,535 bytes
 
-few : (c : AtBytes) → c.in-Of.bytes ≤ 65535
-few c = length-small _ c.length_of.ensures c.in-Of.is
+few : (c : AtBytes) → c.in-Ok.bytes ≤ 65535
+few c = length-small _ c.length_of.ensures c.in-Ok.is
 
 -- The needs: the slot
 
@@ -56,7 +56,7 @@ pub returns-then-kind-eq-DYNAMIC_STRING : goal.returns-then-kind-eq-DYNAMIC_STRI
 returns-then-kind-eq-DYNAMIC_STRING c =
     let text = c.before.before.before in
     let bytes = to-bytes-from-text text in
-    text-seen _ _ _ _ _ bytes.length_of.ensures bytes.in-Of.is _ c.plain.ensures text.if-kind-eq-DYNAMIC_STRING.true
+    text-seen _ _ _ _ _ bytes.length_of.ensures bytes.in-Ok.is _ c.plain.ensures text.if-kind-eq-DYNAMIC_STRING.true
     c.find_text.ensures
 
 -- Kind 27
@@ -66,12 +66,12 @@ find_blob-requires c =
     let bytes = to-bytes-from-blob c.before in
     record { framed = bytes.requires; bytes_bound = few bytes }
 
-pub returns-in-NotOf : goal.returns-in-NotOf
-returns-in-NotOf c = no-length-seen _ _ _ _ _ c.length_of.ensures c.in-NotOf.is _
+pub returns-in-Err : goal.returns-in-Err
+returns-in-Err c = no-length-seen _ _ _ _ _ c.length_of.ensures c.in-Err.is _
 
 pub returns-else-kind-eq-DYNAMIC_STRING : goal.returns-else-kind-eq-DYNAMIC_STRING
 returns-else-kind-eq-DYNAMIC_STRING c =
     let blob = c.before.before.before in
     let bytes = to-bytes-from-blob blob in
-    blob-seen _ _ _ _ _ bytes.length_of.ensures bytes.in-Of.is _ c.plain-in-Of.ensures blob.if-kind-eq-DYNAMIC_STRING.false
+    blob-seen _ _ _ _ _ bytes.length_of.ensures bytes.in-Ok.is _ c.plain-in-Ok.ensures blob.if-kind-eq-DYNAMIC_STRING.false
     c.find_blob.ensures

@@ -9,4 +9,4 @@ returns-in-Refused c = rw c.in-Refused.is refl
 
 pub returns-in-At : goal.returns-in-At
 unfolding seen plain_seen
-returns-in-At c = rw c.in-At.is refl
+returns-in-At c = rw (c.in-At.is, c.from.ensures) refl

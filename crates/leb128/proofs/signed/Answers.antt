@@ -1,6 +1,7 @@
 -- `leb128::signed` meets its contract: each return is the law for what the first nine bytes said, and the tenth behind them.
 use mathlib.Core.Path.{refl}
 use native.Mathlib.Omega.{arith}
+use Rattle.std.proofs.Common.{rules}
 use Rattle.leb128.proofs.FirstNine.{passed-short}
 use Rattle.leb128.proofs.Tenth.{says-short, says-ended, says_on, signed-past, signed-ended, signed-zeros, signed-ones, signed-large}
 use Rattle.leb128.proofs.signed.Goals as goal
@@ -17,45 +18,35 @@ sign_extend-requires c =
 
 pub returns-then-bytes-le9 : goal.returns-then-bytes-le9
 returns-then-bytes-le9 c =
-    let nine = c.before.before.before in
-    let on = says_on _ nine.first_nine.ensures c.in-GoOn.is in
-    rw (← nine.readable-bytes.ensures) (signed-past _ (passed-short on c.if-bytes-le9.true))
+    let on = says_on _ c.first_nine.ensures c.in-GoOn.is in
+    rw (← c.readable-bytes.ensures) (signed-past _ (passed-short on c.if-bytes-le9.true))
 
 pub overflow_add-result : goal.overflow_add-result
 overflow_add-result c =
-    let known = c.before.before.before.before in
-    let on = says_on _ known.first_nine.ensures known.in-GoOn.is in
+    let on = says_on _ c.first_nine.ensures c.in-GoOn.is in
     record { fits = omega (arith, on.small) }
 
 pub returns-in-Short : goal.returns-in-Short
 returns-in-Short c =
-    let nine = c.before.before in
-    rw (← nine.readable-bytes.ensures) (signed-past _ (says-short _ nine.first_nine.ensures c.in-Short.is))
+    rw (← c.readable-bytes.ensures) (signed-past _ (says-short _ c.first_nine.ensures c.in-Short.is))
 
 pub returns-in-Ended : goal.returns-in-Ended
 returns-in-Ended c =
-    let nine = c.before.before.before in
-    let ended = says-ended _ nine.first_nine.ensures c.in-Ended.is in
-    rw (← nine.readable-bytes.ensures) (signed-ended _ ended c.sign_extend.ensures)
+    let ended = says-ended _ c.first_nine.ensures c.in-Ended.is in
+    rw (← c.readable-bytes.ensures) (signed-ended _ ended c.sign_extend.ensures)
 
 pub returns-in-0 : goal.returns-in-0
 returns-in-0 c =
-    let known = c.before.before.before.before in
-    let nine = known.before in
-    let on = says_on _ nine.first_nine.ensures known.in-GoOn.is in
-    rw (← nine.readable-bytes.ensures) (signed-zeros _ on _ c.if-bytes-le9.false refl c.in-0.is)
+    let on = says_on _ c.first_nine.ensures c.in-GoOn.is in
+    rw (← c.readable-bytes.ensures) (signed-zeros _ on _ c.if-bytes-le9.false refl c.in-0.is)
 
 pub returns-in-127 : goal.returns-in-127
 returns-in-127 c =
-    let known = c.before.before.before.before in
-    let nine = known.before in
-    let on = says_on _ nine.first_nine.ensures known.in-GoOn.is in
-    rw (← nine.readable-bytes.ensures) (signed-ones _ on _ c.if-bytes-le9.false refl c.in-127.is)
+    let on = says_on _ c.first_nine.ensures c.in-GoOn.is in
+    rw (← c.readable-bytes.ensures) (signed-ones _ on _ c.if-bytes-le9.false refl c.in-127.is)
 
 pub returns-in_default : goal.returns-in_default
 returns-in_default c =
-    let known = c.before.before.before.before in
-    let nine = known.before in
-    let on = says_on _ nine.first_nine.ensures known.in-GoOn.is in
-    rw (← nine.readable-bytes.ensures)
-    (signed-large _ on _ c.if-bytes-le9.false refl c.in_default.in_default-own.rest.0.1 c.in_default.in_default-own.rest.1)
+    let on = says_on _ c.first_nine.ensures c.in-GoOn.is in
+    rw (← c.readable-bytes.ensures)
+    (signed-large _ on _ c.if-bytes-le9.false refl (search rules) (search rules))

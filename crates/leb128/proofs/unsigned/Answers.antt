@@ -6,38 +6,30 @@ use Rattle.leb128.proofs.unsigned.Goals as goal
 
 pub returns-then-bytes-le9 : goal.returns-then-bytes-le9
 returns-then-bytes-le9 c =
-    let nine = c.before.before.before in
-    let on = says_on _ nine.first_nine.ensures c.in-GoOn.is in
-    rw (← nine.readable-bytes.ensures) (unsigned-past _ (passed-short on c.if-bytes-le9.true))
+    let on = says_on _ c.first_nine.ensures c.in-GoOn.is in
+    rw (← c.readable-bytes.ensures) (unsigned-past _ (passed-short on c.if-bytes-le9.true))
 
 pub returns-then-too_large : goal.returns-then-too_large
 returns-then-too_large c =
-    let known = c.before.before.before.before.before in
-    let nine = known.before in
-    let on = says_on _ nine.first_nine.ensures known.in-GoOn.is in
-    rw (← nine.readable-bytes.ensures)
-    (unsigned-large _ on c.wide-tenth.result c.if-bytes-le9.false c.wide-tenth.ensures (omega arith))
+    let on = says_on _ c.first_nine.ensures c.in-GoOn.is in
+    rw (← c.readable-bytes.ensures)
+    (unsigned-large _ on c.from-tenth.result c.if-bytes-le9.false c.from-tenth.ensures (omega arith))
 
 pub overflow_add-result : goal.overflow_add-result
 overflow_add-result c =
-    let known = c.before.before.before.before.before in
-    let on = says_on _ known.first_nine.ensures known.in-GoOn.is in
+    let on = says_on _ c.first_nine.ensures c.in-GoOn.is in
     record { fits = omega (arith, on.small) }
 
 pub returns-in-Short : goal.returns-in-Short
 returns-in-Short c =
-    let nine = c.before.before in
-    rw (← nine.readable-bytes.ensures) (unsigned-past _ (says-short _ nine.first_nine.ensures c.in-Short.is))
+    rw (← c.readable-bytes.ensures) (unsigned-past _ (says-short _ c.first_nine.ensures c.in-Short.is))
 
 pub returns-in-Ended : goal.returns-in-Ended
 returns-in-Ended c =
-    let nine = c.before.before in
-    rw (← nine.readable-bytes.ensures) (unsigned-ended _ (says-ended _ nine.first_nine.ensures c.in-Ended.is))
+    rw (← c.readable-bytes.ensures) (unsigned-ended _ (says-ended _ c.first_nine.ensures c.in-Ended.is))
 
 pub returns-else-too_large : goal.returns-else-too_large
 returns-else-too_large c =
-    let known = c.before.before.before.before.before in
-    let nine = known.before in
-    let on = says_on _ nine.first_nine.ensures known.in-GoOn.is in
-    rw (← nine.readable-bytes.ensures)
-    (unsigned-tenth _ on c.wide-tenth.result c.if-bytes-le9.false c.wide-tenth.ensures (omega arith))
+    let on = says_on _ c.first_nine.ensures c.in-GoOn.is in
+    rw (← c.readable-bytes.ensures)
+    (unsigned-tenth _ on c.from-tenth.result c.if-bytes-le9.false c.from-tenth.ensures (omega arith))

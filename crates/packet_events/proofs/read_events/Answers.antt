@@ -144,8 +144,8 @@ overflow_add-used c =
       start.well_formed.1.1.1.1.1.1.1.1.1.1.1.0.0,
     )
 
-pub shape_of-list-in-Stopped : goal.shape_of-list-in-Stopped
-shape_of-list-in-Stopped c =
+pub shape_of-list-in-Err : goal.shape_of-list-in-Err
+shape_of-list-in-Err c =
     let read = c.before.before.before.before.before.before in
     let event = to-event read in
     let loop = to-loop-from-event event in
@@ -153,8 +153,8 @@ shape_of-list-in-Stopped c =
     same_len_mid l.used (length l.list - l.used) l.list read.read_event-r.new.list
     read.read_event-r.auto.list ∙ part_length l.invariant.part
 
-pub returns-in-Stopped : goal.returns-in-Stopped
-returns-in-Stopped c =
+pub returns-in-Err : goal.returns-in-Err
+returns-in-Err c =
     let read = c.before.before.before.before.before.before in
     let event = to-event read in
     let loop = to-loop-from-event event in
@@ -166,7 +166,7 @@ returns-in-Stopped c =
     let o = read_events (asked_at t) k (env_of a.stream.now a.uuid.now a.frame) a.to 0 (a.frame.bound.0 - a.st.place.0)
     (full a.st a.slots (length a.list.now)) in
     rw c.stopped.ensures (round-stops (asked_at t) k a.stream.now a.uuid.now a.frame a.to o a.slots w
-    event.loop-state-test.true read.read_event-r.ensures _ a.st c.in-Stopped.is)
+    event.loop-state-test.true read.read_event-r.ensures _ a.st c.in-Err.is)
 
 pub overflow_add-count : goal.overflow_add-count
 overflow_add-count c =
@@ -191,7 +191,7 @@ loop-state-smaller c =
     omega (
       arith,
       round-moved (asked_at t) k a.stream.now a.uuid.now a.frame a.to o a.slots w event.loop-state-test.true
-          read.read_event-r.ensures c.in-On.is,
+          read.read_event-r.ensures c.in_default.is,
       event.loop-state-test.true,
     )
 
@@ -208,7 +208,7 @@ loop-state-preserved c =
     let o = read_events (asked_at t) k (env_of a.stream.now a.uuid.now a.frame) a.to 0 (a.frame.bound.0 - a.st.place.0)
     (full a.st a.slots (length a.list.now)) in
     round-goes (asked_at t) k a.stream.now a.uuid.now a.frame a.to o a.slots w event.loop-state-test.true
-    read.read_event-r.ensures c.in-On.is
+    read.read_event-r.ensures c.in_default.is
 
 pub overflow_sub-list : goal.overflow_sub-list
 overflow_sub-list c =

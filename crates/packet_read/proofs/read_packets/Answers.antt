@@ -125,21 +125,21 @@ overflow_add-used c =
 
 -- It stopped
 
-pub shape_of-list-in-Stopped : goal.shape_of-list-in-Stopped
-shape_of-list-in-Stopped c =
+pub shape_of-list-in-Err : goal.shape_of-list-in-Err
+shape_of-list-in-Err c =
     let read = c.before.before.before.before.before.before in
     let l = read.loop-state in
     same_len_mid l.used (length l.list - l.used) l.list read.read_packet-r.new.list
     read.read_packet-r.auto.list ∙ part_length l.invariant.part
 
-pub returns-in-Stopped : goal.returns-in-Stopped
-returns-in-Stopped c =
+pub returns-in-Err : goal.returns-in-Err
+returns-in-Err c =
     let read = c.before.before.before.before.before.before in
     let loop = loop-of read in
     let a = loop.args in
     rw c.stopped.ensures
     (round-stops (asked_at a.table.now) (fits (given loop)) a.stream.now loop.loop-state.invariant (left (to-packet read))
-    read.read_packet-r.ensures _ _ loop.first_state-begun.ensures c.in-Stopped.is)
+    read.read_packet-r.ensures _ _ loop.first_state-begun.ensures c.in-Err.is)
 
 -- It went on
 
@@ -155,7 +155,7 @@ loop-state-smaller c =
     let loop = loop-of read in
     let a = loop.args in
     let behind = round-behind (asked_at a.table.now) (fits (given loop)) a.stream.now loop.loop-state.invariant
-    (left (to-packet read)) read.read_packet-r.ensures c.in-On.is in
+    (left (to-packet read)) read.read_packet-r.ensures c.in_default.is in
     omega (arith, behind.on, left (to-packet read))
 
 pub loop-state-preserved : goal.loop-state-preserved
@@ -164,7 +164,7 @@ loop-state-preserved c =
     let loop = loop-of read in
     let a = loop.args in
     round-goes (asked_at a.table.now) (fits (given loop)) a.stream.now loop.loop-state.invariant (left (to-packet read))
-    read.read_packet-r.ensures c.in-On.is
+    read.read_packet-r.ensures c.in_default.is
 
 -- No packet is left
 

@@ -45,12 +45,12 @@ pub walk_members-requires : goal.walk_members-requires
 walk_members-requires c =
     let root = c.before.before in
     let p = root.requires in
-    record { whole_members = one-member _ _ _ root.in-At.is p.root_stands; prepared = p.prepared; framed = p.framed }
+    record { whole_members = one-member _ _ _ root.in-Some.is p.root_stands; prepared = p.prepared; framed = p.framed }
 
-pub returns-in-Nothing : goal.returns-in-Nothing
-returns-in-Nothing c = no-root _ _ _ _ _ _ (slots-all (to-start-from-none c.before)) c.in-Nothing.is
+pub returns-in-None : goal.returns-in-None
+returns-in-None c = no-root _ _ _ _ _ _ (slots-all (to-start-from-none c.before)) c.in-None.is
 
-pub returns-in-At : goal.returns-in-At
-returns-in-At c =
+pub returns-in-Some : goal.returns-in-Some
+returns-in-Some c =
     let read = c.before.before.before in
-    a-root _ _ _ _ _ _ read.in-At.is read.walk_members.ensures
+    a-root _ _ _ _ _ _ read.in-Some.is read.walk_members.ensures

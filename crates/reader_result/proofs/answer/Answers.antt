@@ -3,10 +3,10 @@ use mathlib.Core.Path.{refl}
 use Rattle.reader_result.specs.Answer.{answer_of}
 use Rattle.reader_result.proofs.answer.Goals as goal
 
-pub returns-in-On : goal.returns-in-On
+pub returns-in-Ok : goal.returns-in-Ok
 unfolding answer_of
-returns-in-On c = rw c.in-On.is refl
+returns-in-Ok c = rw c.in-Ok.is refl
 
-pub returns-in-Stopped : goal.returns-in-Stopped
+pub returns-in-Err : goal.returns-in-Err
 unfolding answer_of
-returns-in-Stopped c = rw (c.refused.ensures, c.in-Stopped.is) refl
+returns-in-Err c = rw (c.refused.ensures, c.in-Err.is) refl

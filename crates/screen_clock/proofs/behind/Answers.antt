@@ -11,26 +11,23 @@ use Rattle.screen_clock.proofs.behind.Goals as goal
 pub overflow_add-result : goal.overflow_add-result
 overflow_add-result c = omega (arith, c.requires)
 
-pub overflow_add-result-in-Bytes : goal.overflow_add-result-in-Bytes
+pub overflow_add-result-in-Some : goal.overflow_add-result-in-Some
 unfolding u8
-overflow_add-result-in-Bytes c =
-    let known = next_known c.args.table.now c.args.at _ (sym c.body_of.ensures ∙ c.in-Bytes.is) in
+overflow_add-result-in-Some c =
+    let known = next_known c.args.table.now c.args.at _ (sym c.body_of.ensures ∙ c.in-Some.is) in
     omega (arith, known.1, c.requires)
 
-pub returns-in-Bytes : goal.returns-in-Bytes
+pub returns-in-Some : goal.returns-in-Some
 unfolding u8
-returns-in-Bytes c =
+returns-in-Some c =
     let a = c.args in
-    let known = next_known a.table.now a.at _ (sym c.body_of.ensures ∙ c.in-Bytes.is) in
+    let known = next_known a.table.now a.at _ (sym c.body_of.ensures ∙ c.in-Some.is) in
     sym (behind-next a.table.now a.at ∙ known.0)
 
 -- A byte that is no kind
 
-pub overflow_add-result-in-Unknown : goal.overflow_add-result-in-Unknown
-overflow_add-result-in-Unknown c = omega (arith, c.requires)
-
-pub returns-in-Unknown : goal.returns-in-Unknown
+pub returns-in-None : goal.returns-in-None
 unfolding u8
-returns-in-Unknown c =
+returns-in-None c =
     let a = c.args in
-    sym (behind-next a.table.now a.at ∙ next-unknown a.table.now a.at (sym c.body_of.ensures ∙ c.in-Unknown.is))
+    sym (behind-next a.table.now a.at ∙ next-unknown a.table.now a.at (sym c.body_of.ensures ∙ c.in-None.is))

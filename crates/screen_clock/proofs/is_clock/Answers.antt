@@ -1,12 +1,8 @@
 -- By the kind, then by the id.
 use mathlib.Core.Path.{sym, ap, ◌∙◌}
-use native.Mathlib.Omega.{arith}
 use lib.Dec.{eqb}
 use Rattle.screen_clock.proofs.Walked.{clock-here, no-clock}
 use Rattle.screen_clock.proofs.is_clock.Goals as goal
-
-pub overflow_add-at : goal.overflow_add-at
-overflow_add-at c = omega (arith, c.requires)
 
 pub returns-then-byte-eq-CLOCK_CLASS : goal.returns-then-byte-eq-CLOCK_CLASS
 returns-then-byte-eq-CLOCK_CLASS c =

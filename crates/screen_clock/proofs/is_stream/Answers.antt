@@ -1,15 +1,8 @@
 -- By the kind, then by the id.
 use mathlib.Core.Path.{sym, ap, ◌∙◌}
-use native.Mathlib.Omega.{arith}
-use lib.Dec.{lit≤, eqb}
+use lib.Dec.{eqb}
 use Rattle.screen_clock.proofs.Walked.{stream-here, no_stream}
 use Rattle.screen_clock.proofs.is_stream.Goals as goal
-
-pub overflow_add-at : goal.overflow_add-at
-overflow_add-at c = omega (arith, c.requires)
-
-pub number-requires : goal.number-requires
-number-requires c = (lit≤ tt, omega (arith, c.requires))
 
 pub returns-then-byte-eq-STREAM_CLASS : goal.returns-then-byte-eq-STREAM_CLASS
 returns-then-byte-eq-STREAM_CLASS c =

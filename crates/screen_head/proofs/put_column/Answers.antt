@@ -1,5 +1,4 @@
 -- A blank, and the number at the right end.
-use mathlib.Core.Path.{◌∙◌}
 use native.Mathlib.Omega.{arith}
 use lib.ListN.{set, length-set}
 use Prim.Native.Nat.{◌+◌}
@@ -11,11 +10,6 @@ use Rattle.screen_head.proofs.put_column.Goals as goal
 pub put_right-requires : goal.put_right-requires
 put_right-requires c =
     omega (arith, c.requires, length-set c.args.out.now c.args.at blank, right-room c.args.width c.args.n c.requires.width_bound)
-
-pub shape_of-out : goal.shape_of-out
-shape_of-out c =
-    let a = c.args in
-    c.put_right.auto.out ∙ length-set a.out.now a.at blank
 
 pub returns : goal.returns
 returns c =

@@ -18,8 +18,8 @@ put_column-behind_place-requires c =
         c.requires,
         kind.ensures.value,
         kind.auto.out,
-        left-length 15 (word c.args.kind),
-        word-length c.args.kind,
+        left-length 15 (word c.args.entry.kind),
+        word-length c.args.entry.kind,
       );
       width_bound = lit≤ tt;
     }
@@ -33,11 +33,11 @@ put_column-behind_bits-requires c =
         c.requires,
         kind.ensures.value,
         kind.auto.out,
-        left-length 15 (word c.args.kind),
-        word-length c.args.kind,
+        left-length 15 (word c.args.entry.kind),
+        word-length c.args.entry.kind,
         column.ensures.value,
         column.auto.out,
-        column-length 10 c.args.place (lit≤ tt),
+        column-length 10 c.args.entry.place.0 (lit≤ tt),
       );
       width_bound = lit≤ tt;
     }
@@ -52,15 +52,15 @@ put_value-behind_value-requires c =
       c.requires,
       kind.ensures.value,
       kind.auto.out,
-      left-length 15 (word c.args.kind),
-      word-length c.args.kind,
+      left-length 15 (word c.args.entry.kind),
+      word-length c.args.entry.kind,
       column.ensures.value,
       column.auto.out,
-      column-length 10 c.args.place (lit≤ tt),
+      column-length 10 c.args.entry.place.0 (lit≤ tt),
       column2.ensures.value,
       column2.auto.out,
       column-length
-          9 c.args.bits (lit≤ tt),
+          9 c.args.entry.bits (lit≤ tt),
     )
 
 pub put_column-requires : goal.put_column-requires
@@ -74,18 +74,18 @@ put_column-requires c =
         c.requires,
         kind.ensures.value,
         kind.auto.out,
-        left-length 15 (word c.args.kind),
-        word-length c.args.kind,
+        left-length 15 (word c.args.entry.kind),
+        word-length c.args.entry.kind,
         column.ensures.value,
         column.auto.out,
-        column-length 10 c.args.place (lit≤ tt),
+        column-length 10 c.args.entry.place.0 (lit≤ tt),
         column2.ensures.value,
         column2.auto.out,
         column-length
-            9 c.args.bits (lit≤ tt),
+            9 c.args.entry.bits (lit≤ tt),
         value.ensures.value,
         value.auto.out,
-        value-length c.args.kind c.args.value,
+        value-length c.args.entry.kind c.args.entry.value,
       );
       width_bound = lit≤ tt;
     }
@@ -100,11 +100,13 @@ returns c =
     let value = c.put_value-behind_value in
     let number = c.put_column in
     let all = then (then (then (then
-    (laid a.out.now kind.new.out a.at kind.result (left 15 (word a.kind)) (kind.ensures.value, kind.ensures.out_after))
-    (laid kind.new.out place.new.out kind.result place.result (column 10 (decimal a.place)) (place.ensures.value, place.ensures.out_after)))
-    (laid place.new.out bits.new.out place.result bits.result (column 9 (decimal a.bits)) (bits.ensures.value, bits.ensures.out_after)))
-    (laid bits.new.out value.new.out bits.result value.result (column 21 (value_of_kind a.kind a.value))
+    (laid a.out.now kind.new.out a.at kind.result (left 15 (word a.entry.kind)) (kind.ensures.value, kind.ensures.out_after))
+    (laid kind.new.out place.new.out kind.result place.result (column 10 (decimal a.entry.place.0))
+    (place.ensures.value, place.ensures.out_after)))
+    (laid place.new.out bits.new.out place.result bits.result (column 9 (decimal a.entry.bits))
+    (bits.ensures.value, bits.ensures.out_after)))
+    (laid bits.new.out value.new.out bits.result value.result (column 21 (value_of_kind a.entry.kind a.entry.value))
     (value.ensures.value, value.ensures.out_after)))
-    (laid value.new.out number.new.out value.result number.result (column 5 (decimal a.number))
+    (laid value.new.out number.new.out value.result number.result (column 5 (decimal a.entry.number))
     (number.ensures.value, number.ensures.out_after)) in
     record { value = all.end; out_after = all.list }

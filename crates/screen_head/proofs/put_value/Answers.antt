@@ -13,11 +13,6 @@ pub put_signed_right-requires : goal.put_signed_right-requires
 put_signed_right-requires c =
     omega (arith, c.requires, length-set c.args.out.now c.args.at blank, signed-room c.args.value)
 
-pub shape_of-out-then-has_sign : goal.shape_of-out-then-has_sign
-shape_of-out-then-has_sign c =
-    let a = c.args in
-    c.put_signed_right.auto.out ∙ length-set a.out.now a.at blank
-
 pub returns-then-has_sign : goal.returns-then-has_sign
 returns-then-has_sign c =
     let a = c.args in
@@ -35,11 +30,6 @@ returns-then-has_sign c =
 pub put_right-requires : goal.put_right-requires
 put_right-requires c =
     omega (arith, c.requires, length-set c.args.out.now c.args.at blank, right-room-21 c.args.value)
-
-pub shape_of-out : goal.shape_of-out
-shape_of-out c =
-    let a = c.args in
-    c.put_right.auto.out ∙ length-set a.out.now a.at blank
 
 pub returns : goal.returns
 returns c =

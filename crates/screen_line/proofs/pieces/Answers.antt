@@ -1,26 +1,18 @@
 -- By whether it shows a text.
-use mathlib.Core.Path.{sym, ap, ◌∙◌}
-use native.Mathlib.Omega.{arith}
+use mathlib.Core.Path.{refl, sym, ap, ◌∙◌}
 use Prim.Native.Nat.{◌+◌, ◌/◌}
-use Rattle.screen_head.specs.Head.{five}
-use Rattle.screen_line.proofs.Sorted.{is-text, no_text}
+use Rattle.screen_head.specs.Head.{five_of}
+use Rattle.screen_line.proofs.Sorted.{is-text, not-text}
 use Rattle.screen_line.proofs.Standing.{bytes-length}
 use Rattle.screen_line.proofs.Parts.{pieces-text, pieces-one}
 use Rattle.screen_line.proofs.pieces.Goals as goal
 
-pub overflow_add-result : goal.overflow_add-result
-overflow_add-result c = omega arith
+pub returns-in-Text : goal.returns-in-Text
+returns-in-Text c =
+    ap (λ n. n / 32 + 2) (c.bytes_of.ensures ∙ sym (bytes-length c.args.stream.now (five_of c.args.entry)))
+    ∙ pieces-text c.args.stream.now (five_of c.args.entry) (is-text (five_of c.args.entry) 4 c.in-Text.ensures refl)
 
-pub returns-then-sort_of-eq-TEXT : goal.returns-then-sort_of-eq-TEXT
-returns-then-sort_of-eq-TEXT c =
-    ap (λ n. n / 32 + 2) (c.bytes_of.ensures ∙ sym (bytes-length c.args.stream.now
-    (five c.args.kind c.args.place 0 c.args.value 0)))
-    ∙ pieces-text c.args.stream.now (five c.args.kind c.args.place 0 c.args.value 0)
-    (is-text (five c.args.kind c.args.place 0 c.args.value 0) c.sort_of.result c.sort_of.ensures
-    c.if-sort_of-eq-TEXT.true)
-
-pub returns : goal.returns
-returns c =
-    pieces-one c.args.stream.now (five c.args.kind c.args.place 0 c.args.value 0)
-    (no_text (five c.args.kind c.args.place 0 c.args.value 0) c.sort_of.result c.sort_of.ensures
-    c.if-sort_of-eq-TEXT.false)
+pub returns-in_default : goal.returns-in_default
+returns-in_default c =
+    let e = five_of c.args.entry in
+    pieces-one c.args.stream.now e (not-text e c.sort_of.result c.sort_of.ensures c.in_default.not-Text)

@@ -4,7 +4,7 @@ use native.Mathlib.Omega.{arith}
 use Prim.Native.Nat.{◌-◌}
 use lib.ListN.{length, take, drop}
 use Rattle.screen_number.specs.Number.{bytes}
-use Rattle.screen_head.specs.Head.{five, head}
+use Rattle.screen_head.specs.Head.{five_of, head}
 use Rattle.screen_line.specs.Line.{bytes_of}
 use Rattle.screen_line.specs.Pieces.{text_part}
 use Rattle.screen_line.specs.Room.{bytes_in}
@@ -12,9 +12,6 @@ use Rattle.screen_line.proofs.Standing.{bytes_fit, bytes-are}
 use Rattle.screen_line.proofs.Parts.{head-length, piece-opens, piece-behind}
 use Rattle.screen_number.proofs.Laid.{laid, then, shown-as}
 use Rattle.screen_line.proofs.put_text_piece.Goals as goal
-
-pub put_head-a-requires : goal.put_head-a-requires
-put_head-a-requires c = omega (arith, c.requires)
 
 pub put_bytes-requires : goal.put_bytes-requires
 put_bytes-requires c =
@@ -24,7 +21,7 @@ put_bytes-requires c =
       c.put_head-a.ensures.value,
       c.put_head-a.auto.out,
       head-length
-          (five c.args.kind c.args.place c.args.bits c.args.value c.args.number),
+          (five_of c.args.entry),
     )
 
 pub returns-then-i-eq0 : goal.returns-then-i-eq0
@@ -33,18 +30,15 @@ returns-then-i-eq0 c =
     let all = shown-as
     (then
     (laid c.args.out.now c.put_head-a.new.out (0) c.put_head-a.result
-    (head (five c.args.kind c.args.place c.args.bits c.args.value c.args.number))
+    (head (five_of c.args.entry))
     (c.put_head-a.ensures.value, c.put_head-a.ensures.out_after))
     (laid c.put_head-a.new.out c.put_bytes.new.out c.put_head-a.result
     c.put_bytes.result
     (bytes "  \"") (c.put_bytes.ensures.value, c.put_bytes.ensures.out_after)))
-    (piece-opens (five c.args.kind c.args.place c.args.bits c.args.value c.args.number)
-    (bytes_of c.args.stream.now (five c.args.kind c.args.place c.args.bits c.args.value c.args.number))
+    (piece-opens (five_of c.args.entry)
+    (bytes_of c.args.stream.now (five_of c.args.entry))
     c.args.i c.if-i-eq0.true) in
     record { value = all.end; out_after = all.list }
-
-pub overflow_sub-i : goal.overflow_sub-i
-overflow_sub-i c = omega (arith, c.if-i-eq0.false)
 
 pub put_text_part-requires : goal.put_text_part-requires
 put_text_part-requires c =
@@ -55,7 +49,7 @@ put_text_part-requires c =
         c.from_of.ensures,
         c.bytes_of.ensures,
         bytes_fit (length c.args.stream.now)
-            c.args.place c.args.value,
+            c.args.entry.place.0 c.args.entry.value,
       );
     }
 
@@ -68,10 +62,10 @@ returns c =
     (c.put_text_part.ensures.value, c.put_text_part.ensures.out_after))
     (ap (λ x. text_part x (c.args.i - 1)) (ap (λ n. take n (drop c.from_of.result c.args.stream.now))
     c.bytes_of.ensures
-    ∙ ap (λ n. take (bytes_in (length c.args.stream.now) c.args.place c.args.value) (drop n c.args.stream.now))
+    ∙ ap (λ n. take (bytes_in (length c.args.stream.now) c.args.entry.place.0 c.args.entry.value) (drop n c.args.stream.now))
     c.from_of.ensures ∙ bytes-are c.args.stream.now
-    (five c.args.kind c.args.place c.args.bits c.args.value c.args.number))
-    ∙ piece-behind (five c.args.kind c.args.place c.args.bits c.args.value c.args.number)
-    (bytes_of c.args.stream.now (five c.args.kind c.args.place c.args.bits c.args.value c.args.number))
+    (five_of c.args.entry))
+    ∙ piece-behind (five_of c.args.entry)
+    (bytes_of c.args.stream.now (five_of c.args.entry))
     c.args.i c.if-i-eq0.false) in
     record { value = all.end; out_after = all.list }

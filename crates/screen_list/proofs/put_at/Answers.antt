@@ -2,7 +2,7 @@
 use Prim.Native.Nat.{◌-◌}
 use native.Mathlib.Omega.{arith}
 use lib.ListN.{length, take, drop}
-use Rattle.screen_head.specs.Head.{five}
+use Rattle.screen_head.specs.Head.{five_of}
 use Rattle.screen_line.specs.Pieces.{piece}
 use Rattle.screen_line.proofs.Rooms.{piece-length, piece-most}
 use Rattle.screen_list.proofs.Parts.{laid-behind}
@@ -10,7 +10,7 @@ use Rattle.screen_list.proofs.put_at.Goals as goal
 
 pub overflow_add-result : goal.overflow_add-result
 overflow_add-result c =
-    let e = five c.args.kind c.args.place c.args.bits c.args.value c.args.number in
+    let e = five_of c.args.entry in
     omega (
       arith,
       c.requires,
@@ -22,7 +22,7 @@ overflow_add-result c =
 
 pub returns : goal.returns
 returns c =
-    let e = five c.args.kind c.args.place c.args.bits c.args.value c.args.number in
+    let e = five_of c.args.entry in
     let all = laid-behind c.args.out.now c.put_piece-more.new.out c.args.used c.put_piece-more.result
     (piece c.args.stream.now c.args.frequency e c.args.i) c.requires
     (piece-length c.args.stream.now c.args.frequency e c.args.i) c.put_piece-more.ensures.value

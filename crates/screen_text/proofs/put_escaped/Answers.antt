@@ -3,25 +3,12 @@ use mathlib.Core.Path.{◌≡◌, sym, ap, ◌∙◌}
 use native.Mathlib.Omega.{arith}
 use mathlib.Core.List.{[], ◌∷◌, ◌++◌}
 use Prim.Native.Nat.{◌+◌}
-use lib.ListN.{set, length-set}
+use lib.ListN.{set}
 use Rattle.screen_number.specs.Number.{hex}
 use Rattle.screen_text.specs.Escape.{escaped}
 use Rattle.screen_number.proofs.Laid.{Laid, laid, then, shown-as, one_byte}
 use Rattle.screen_text.proofs.Texts.{by_digits, behind-backslash, as-it-is}
 use Rattle.screen_text.proofs.put_escaped.Goals as goal
-
-pub bounds-out-at-then-hidden : goal.bounds-out-at-then-hidden
-bounds-out-at-then-hidden c = omega (arith, c.requires, length-set c.args.out.now c.args.at 92)
-
-pub put_hex-requires : goal.put_hex-requires
-put_hex-requires c =
-    let a = c.args in
-    omega (arith, c.requires, length-set a.out.now a.at 92, length-set (set a.out.now a.at 92) (a.at + 1) 120)
-
-pub shape_of-out-then-hidden : goal.shape_of-out-then-hidden
-shape_of-out-then-hidden c =
-    let a = c.args in
-    c.put_hex.auto.out ∙ length-set (set a.out.now a.at 92) (a.at + 1) 120 ∙ length-set a.out.now a.at 92
 
 pub returns-then-hidden : goal.returns-then-hidden
 returns-then-hidden c =
@@ -32,12 +19,9 @@ returns-then-hidden c =
     let first : Laid a.out.now two a.at (a.at + 2) ((92 ∷ []) ++ (120 ∷ [])) =
     rw one_on at (then (one_byte a.out.now a.at 92) (one_byte (set a.out.now a.at 92) (a.at + 1) 120)) in
     let all = shown-as
-    (then first (laid two put.new.out (a.at + 2) put.result (hex 2 a.c) (put.ensures.value, put.ensures.out_after)))
-    (by_digits a.c ∙ ap (λ h. escaped h a.c) (sym c.if-hidden.true)) in
+    (then first (laid two put.new.out (a.at + 2) put.result (hex 2 c.from.result) (put.ensures.value, put.ensures.out_after)))
+    (ap (λ n. 92 ∷ 120 ∷ hex 2 n) c.from.ensures ∙ by_digits a.c ∙ ap (λ h. escaped h a.c) (sym c.if-hidden.true)) in
     record { value = all.end; out_after = all.list }
-
-pub bounds-out-at-then-marked-2 : goal.bounds-out-at-then-marked-2
-bounds-out-at-then-marked-2 c = omega (arith, c.requires, length-set c.args.out.now c.args.at 92)
 
 pub returns-then-marked : goal.returns-then-marked
 returns-then-marked c =

@@ -1,5 +1,5 @@
 -- The first `shown` of the bytes are laid.
-use mathlib.Core.Path.{◌≡◌, refl, sym, ap, ◌∙◌}
+use mathlib.Core.Path.{refl, sym, ap, ◌∙◌}
 use native.Mathlib.Omega.{arith}
 use Prim.Native.Nat.{◌+◌}
 use lib.ListN.{length, take, drop}
@@ -19,9 +19,6 @@ loop-shown-init c =
       refl,
     )
 
-pub overflow_add-done : goal.overflow_add-done
-overflow_add-done c = omega (arith, c.requires.bytes_in_bounds, c.requires, c.loop-shown-test.true)
-
 pub put_byte-end-requires : goal.put_byte-end-requires
 put_byte-end-requires c =
     let a = c.args in record {
@@ -37,12 +34,6 @@ put_byte-end-requires c =
       bytes_in_bounds = (c.requires.bytes_in_bounds.0, omega (arith, c.requires.bytes_in_bounds, c.loop-shown-test.true));
     }
 
-pub overflow_add-shown : goal.overflow_add-shown
-overflow_add-shown c = omega (arith, c.requires.bytes_in_bounds, c.requires, c.loop-shown-test.true)
-
-pub loop-shown-smaller : goal.loop-shown-smaller
-loop-shown-smaller c = omega (arith, c.loop-shown-test.true)
-
 pub loop-shown-preserved : goal.loop-shown-preserved
 loop-shown-preserved c =
     let a = c.args in
@@ -55,15 +46,3 @@ loop-shown-preserved c =
     (put.ensures.value, put.ensures.out_after) in
     let all = both (shown-as (then so_far one) (part-more t a.done i)) in
     (all.0, all.1, omega (arith, c.loop-shown-test.true), put.auto.out ∙ c.loop-shown.invariant.3)
-
-pub shape_of-out : goal.shape_of-out
-shape_of-out c = c.loop-shown.invariant.3
-
-pub returns : goal.returns
-returns c =
-    let a = c.args in
-    let all : c.loop-shown.shown ≡ a.n = omega (arith, c.loop-shown-test.false, c.loop-shown.invariant.2) in record {
-      value = c.loop-shown.invariant.0 ∙ ap (λ k. a.at + length (part (take a.bytes (drop a.from a.stream.now)) a.done k)) all;
-      out_after = c.loop-shown.invariant.1 ∙ ap (λ k. sets a.out.now a.at (part (take a.bytes (drop a.from a.stream.now)) a.done k))
-          all;
-    }

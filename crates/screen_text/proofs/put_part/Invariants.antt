@@ -1,5 +1,5 @@
 use mathlib.Core.Path.{◌≡◌}
-use Prim.Native.Nat.{◌+◌, ◌-◌, ◌≤◌}
+use Prim.Native.Nat.{◌+◌, ◌≤◌}
 use lib.ListN.{length, take, drop}
 use lib.Seq.{sets}
 use Rattle.screen_text.specs.Escape.{part}
@@ -10,6 +10,3 @@ invariant-loop-shown l =
     (l.end ≡ l.at + length (part (take l.bytes (drop l.from l.stream)) l.done l.shown)) × (l.out ≡ sets l.initial.out l.at
     (part (take l.bytes (drop l.from l.stream)) l.done l.shown))
     × (l.shown ≤ l.n) × (length l.out ≡ length l.initial.out)
-
-abbrev pub decreases-loop-shown : goal.decreases-loop-shown
-decreases-loop-shown l = l.n - l.shown

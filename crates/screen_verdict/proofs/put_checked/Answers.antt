@@ -8,21 +8,21 @@ pub returns-then-out-lt-LINE_ROOM : goal.returns-then-out-lt-LINE_ROOM
 returns-then-out-lt-LINE_ROOM c = let all = too_small c.args.out.now (checked_line c.args.checked) c.if-out-lt-LINE_ROOM.true in
     record { value = all.0; out_after = all.1 }
 
-pub returns-in-Accepted : goal.returns-in-Accepted
+pub returns-in-Ok : goal.returns-in-Ok
 unfolding checked_line
-returns-in-Accepted c =
+returns-in-Ok c =
     let a = c.args in
     let put = c.put_accepted_table in
-    let all = line-laid a.out.now put.new.out (accepted_table c.in-Accepted.bytes.0) (checked_line a.checked) put.result
-    c.if-out-lt-LINE_ROOM.false (sym (ap checked_line c.in-Accepted.is)) (put.ensures.value, put.ensures.out_after) in
+    let all = line-laid a.out.now put.new.out (accepted_table c.in-Ok.bytes.0) (checked_line a.checked) put.result
+    c.if-out-lt-LINE_ROOM.false (sym (ap checked_line c.in-Ok.is)) (put.ensures.value, put.ensures.out_after) in
     record { value = all.0; out_after = all.1 }
 
-pub returns-in-Refused : goal.returns-in-Refused
+pub returns-in-Err : goal.returns-in-Err
 unfolding checked_line
-returns-in-Refused c =
+returns-in-Err c =
     let a = c.args in
     let put = c.put_refused_table in
-    let all = line-laid a.out.now put.new.out (refused_table c.in-Refused.number c.in-Refused.byte.0)
+    let all = line-laid a.out.now put.new.out (refused_table c.in-Err.fault.number c.in-Err.fault.byte.0)
     (checked_line a.checked) put.result
-    c.if-out-lt-LINE_ROOM.false (sym (ap checked_line c.in-Refused.is)) (put.ensures.value, put.ensures.out_after) in
+    c.if-out-lt-LINE_ROOM.false (sym (ap checked_line c.in-Err.is)) (put.ensures.value, put.ensures.out_after) in
     record { value = all.0; out_after = all.1 }

@@ -15,8 +15,8 @@ put_reason-b-requires c =
       c.requires,
       c.put_refused_at-a.ensures.value,
       c.put_refused_at-a.auto.out,
-      refused-length a.number a.place,
-      reason-length a.number a.place a.first a.second,
+      refused-length a.r.number a.r.place,
+      reason-length a.r.number a.r.place a.r.first a.r.second,
     )
 
 pub put_listed-requires : goal.put_listed-requires
@@ -27,10 +27,10 @@ put_listed-requires c =
       c.requires,
       c.put_refused_at-a.ensures.value,
       c.put_refused_at-a.auto.out,
-      refused-length a.number a.place,
+      refused-length a.r.number a.r.place,
       c.put_reason-b.ensures.value,
       c.put_reason-b.auto.out,
-      reason-length a.number a.place a.first a.second,
+      reason-length a.r.number a.r.place a.r.first a.r.second,
     )
 
 pub returns : goal.returns
@@ -43,9 +43,9 @@ returns c =
     let all = then
     (then
     (laid a.out.now p1.new.out (0) p1.result
-    (refused_at a.number (unit a.number) a.place) (p1.ensures.value, p1.ensures.out_after))
+    (refused_at a.r.number (unit a.r.number) a.r.place) (p1.ensures.value, p1.ensures.out_after))
     (laid p1.new.out p2.new.out p1.result p2.result
-    (reason a.number a.place a.first a.second) (p2.ensures.value, p2.ensures.out_after)))
+    (reason a.r.number a.r.place a.r.first a.r.second) (p2.ensures.value, p2.ensures.out_after)))
     (laid p2.new.out p3.new.out p2.result p3.result
-    (listed a.entries) (p3.ensures.value, p3.ensures.out_after)) in
+    (listed a.r.entries) (p3.ensures.value, p3.ensures.out_after)) in
     record { value = all.end; out_after = all.list }

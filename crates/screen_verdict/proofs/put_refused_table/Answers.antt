@@ -1,10 +1,11 @@
 -- Number and byte, the fault, and the line's end.
+use mathlib.Core.Path.{ap}
+use lib.ListN.{length}
 use native.Mathlib.Omega.{arith}
 use Rattle.screen_number.specs.Number.{bytes, decimal}
 use Rattle.screen_number.proofs.Decimal.{decimal-length}
-use Rattle.screen_number.proofs.Laid.{laid, then}
+use Rattle.screen_number.proofs.Laid.{laid, then, shown-as}
 use Rattle.screen_verdict.specs.Verdict.{refused_table, refused_at}
-use Rattle.screen_verdict.specs.Sentences.{fault}
 use Rattle.screen_verdict.proofs.Sentences.{fault-length}
 use Rattle.screen_verdict.proofs.put_refused_table.Goals as goal
 
@@ -66,8 +67,8 @@ put_bytes-e-requires c =
       decimal-length a.byte.0,
     )
 
-pub put_fault-f-requires : goal.put_fault-f-requires
-put_fault-f-requires c =
+pub put_bytes-f-requires : goal.put_bytes-f-requires
+put_bytes-f-requires c =
     let a = c.args in
     omega (
       arith,
@@ -84,6 +85,7 @@ put_fault-f-requires c =
       decimal-length a.byte.0,
       c.put_bytes-e.ensures.value,
       c.put_bytes-e.auto.out,
+      ap length c.fault.ensures,
       fault-length a.number,
     )
 
@@ -105,8 +107,9 @@ put_bytes-requires c =
       decimal-length a.byte.0,
       c.put_bytes-e.ensures.value,
       c.put_bytes-e.auto.out,
-      c.put_fault-f.ensures.value,
-      c.put_fault-f.auto.out,
+      c.put_bytes-f.ensures.value,
+      c.put_bytes-f.auto.out,
+      ap length c.fault.ensures,
       fault-length a.number,
     )
 
@@ -119,7 +122,7 @@ returns c =
     let p3 = c.put_bytes-c in
     let p4 = c.put_decimal-d in
     let p5 = c.put_bytes-e in
-    let p6 = c.put_fault-f in
+    let p6 = c.put_bytes-f in
     let p7 = c.put_bytes in
     let all = then
     (then
@@ -137,8 +140,8 @@ returns c =
     (decimal a.byte.0) (p4.ensures.value, p4.ensures.out_after)))
     (laid p4.new.out p5.new.out p4.result p5.result
     (bytes ": ") (p5.ensures.value, p5.ensures.out_after)))
-    (laid p5.new.out p6.new.out p5.result p6.result
-    (fault a.number) (p6.ensures.value, p6.ensures.out_after)))
+    (shown-as (laid p5.new.out p6.new.out p5.result p6.result
+    c.fault.result.now (p6.ensures.value, p6.ensures.out_after)) c.fault.ensures))
     (laid p6.new.out p7.new.out p6.result p7.result
     (bytes "\n") (p7.ensures.value, p7.ensures.out_after)) in
     record { value = all.end; out_after = all.list }

@@ -1,25 +1,17 @@
--- By what the slot holds.
-use mathlib.Core.Path.{refl}
-use borrow.Author.Tests.{lt-ltb, le-ltb}
-use Rattle.slots.specs.Taken.{length_of}
+-- By the number that the slot holds.
+use Rattle.std.specs.Prelude.{Err}
+use Rattle.std.proofs.lemmas.Result.{err_from_is_err_and}
+use mathlib.Core.Path.{ap, ◌∙◌}
+use Rattle.slots.proofs.Lengths.{no-length, length-above, length-fits}
 use Rattle.slots.proofs.length_of.Goals as goal
 
+pub returns-in_err-n : goal.returns-in_err-n
+returns-in_err-n c =
+    let given = err_from_is_err_and c.from_residual.result c.from_residual.ensures.1 in
+    no-length c.args.content c.number_of.ensures c.in_err-n.was (given.1 ∙ ap Err given.2)
+
 pub returns-then-n-gt-LENGTH_LIMIT : goal.returns-then-n-gt-LENGTH_LIMIT
-unfolding length_of
-returns-then-n-gt-LENGTH_LIMIT c = rw (c.in-Unsigned.is, lt-ltb _ _ c.if-n-gt-LENGTH_LIMIT.true, length_of) refl
+returns-then-n-gt-LENGTH_LIMIT c = length-above c.args.content c.number_of.ensures _ c.in_ok-n.was c.if-n-gt-LENGTH_LIMIT.true
 
-pub returns-in-Unset : goal.returns-in-Unset
-unfolding length_of
-returns-in-Unset c = rw c.in-Unset.is refl
-
-pub returns-in-Flag : goal.returns-in-Flag
-unfolding length_of
-returns-in-Flag c = rw c.in-Flag.is refl
-
-pub returns-in-Signed : goal.returns-in-Signed
-unfolding length_of
-returns-in-Signed c = rw c.in-Signed.is refl
-
-pub returns-else-n-gt-LENGTH_LIMIT : goal.returns-else-n-gt-LENGTH_LIMIT
-unfolding length_of
-returns-else-n-gt-LENGTH_LIMIT c = rw (c.in-Unsigned.is, le-ltb _ _ c.if-n-gt-LENGTH_LIMIT.false, length_of) refl
+pub returns : goal.returns
+returns c = length-fits c.args.content c.number_of.ensures _ c.in_ok-n.was c.if-n-gt-LENGTH_LIMIT.false

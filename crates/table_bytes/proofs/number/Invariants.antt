@@ -5,6 +5,3 @@ use Rattle.table_bytes.proofs.number.Given as goal
 
 abbrev pub invariant-loop-i : goal.invariant-loop-i
 invariant-loop-i l = (l.i ≤ l.n) × ((l.v ≡ number_at l.table (l.at + l.i) (l.n - l.i)) × (l.v < 256 ^ (l.n - l.i)))
-
-abbrev pub decreases-loop-i : goal.decreases-loop-i
-decreases-loop-i l = l.i

@@ -1,12 +1,9 @@
--- Both tests of the definition, in its order.
-use borrow.Author.Tests.{le-leb, lt-leb}
+-- Both tests of the definition.
+use Rattle.std.proofs.Common.{arith}
+use Rattle.std.proofs.lemmas.Grind.{common_steps}
 use Rattle.table_offsets.specs.Check.{inside}
 use Rattle.table_bytes.proofs.within.Goals as goal
 
-pub returns-then-x-low : goal.returns-then-x-low
-unfolding inside
-returns-then-x-low c = simp (lt-leb _ _ c.if-x-low.true)
-
 pub returns : goal.returns
 unfolding inside
-returns c = simp (le-leb _ _ c.if-x-low.false)
+returns c = grind (arith, common_steps)

@@ -28,13 +28,13 @@ returns-in-22 c = (rw c.in-22.is, omega arith)
 pub returns-in_default : goal.returns-in_default
 unfolding slot_place pick
 returns-in_default c =
-    let m = c.in_default.in_default-own.rest in (
+    let k = c.args.kind in (
       simp (
-        ne_eqb _ _ m.0.0.0.0.1,
-        ne_eqb _ _ m.0.0.0.1,
-        ne_eqb _ _ m.0.0.1,
-        ne_eqb _ _ m.0.1,
-        ne_eqb _ _ m.1,
+        ne_eqb k 17 (omega arith),
+        ne_eqb k 18 (omega arith),
+        ne_eqb k 19 (omega arith),
+        ne_eqb k 21 (omega arith),
+        ne_eqb k 22 (omega arith),
       ),
       omega arith,
     )

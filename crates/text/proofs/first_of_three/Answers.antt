@@ -11,6 +11,5 @@ returns-then-byte-eq237 c = c.bytes_due-then-byte-eq237.ensures ∙ first-ED _ c
 
 pub returns : goal.returns
 returns c =
-    let other = c.before in
-    let start = other.before.before in
-    c.bytes_due-2.ensures ∙ first-of-three _ start.requires.le_byte start.requires.byte_bound other.if-byte-eq224.false other.if-byte-eq237.false
+    c.bytes_due-2.ensures
+    ∙ first-of-three _ c.requires.le_byte c.requires.byte_bound c.if-byte-eq224.false c.if-byte-eq237.false

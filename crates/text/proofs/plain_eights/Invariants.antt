@@ -1,10 +1,6 @@
-use mathlib.Core.Path.{◌≡◌}
-use Prim.Native.Nat.{◌-◌, ◌%◌, ◌≤◌}
-use Rattle.text.proofs.Plain.{Passed}
+use Prim.Native.Nat.{◌*◌, ◌≤◌}
+use Rattle.text.specs.Reading.{plain_length}
 use Rattle.text.proofs.plain_eights.Given as goal
 
-abbrev pub invariant-loop-passed : goal.invariant-loop-passed
-invariant-loop-passed l = (l.passed ≤ l.bytes) × (l.passed % 8 ≡ 0) × Passed l.stream l.from l.bytes l.passed
-
-abbrev pub decreases-loop-passed : goal.decreases-loop-passed
-decreases-loop-passed l = l.bytes - l.passed
+abbrev pub invariant-loop-i : goal.invariant-loop-i
+invariant-loop-i l = 8 * l.i ≤ plain_length l.bytes

@@ -13,7 +13,12 @@ returns-then-role-ne-UUID c = simp (ne_eqb _ _ c.if-role-eq-NO_ROLE.false, ne_eq
 
 pub returns-then-root-ne-PACKET_HEADER : goal.returns-then-root-ne-PACKET_HEADER
 unfolding blob_ok pick_b
-returns-then-root-ne-PACKET_HEADER c = simp (ne_eqb _ _ c.if-role-eq-NO_ROLE.false, eq-eqb _ _ c.if-role-ne-UUID.false, ne_eqb _ _ c.if-root-ne-PACKET_HEADER.true)
+returns-then-root-ne-PACKET_HEADER c =
+    simp (
+      ne_eqb _ _ c.if-role-eq-NO_ROLE.false,
+      eq-eqb _ _ c.if-role-ne-UUID.false,
+      ne_eqb _ _ c.if-root-ne-PACKET_HEADER.true,
+    )
 
 pub returns-then-count-ne-UUID_BYTES : goal.returns-then-count-ne-UUID_BYTES
 unfolding blob_ok pick_b
@@ -27,4 +32,9 @@ unfolding blob_ok pick_b
 returns c =
     let if2 = c.if-role-ne-UUID in
     let if1 = c.if-role-eq-NO_ROLE in
-    simp (ne_eqb _ _ if1.false, eq-eqb _ _ if2.false, eq-eqb _ _ c.if-root-ne-PACKET_HEADER.false, eq-eqb _ _ c.if-count-ne-UUID_BYTES.false)
+    simp (
+      ne_eqb _ _ if1.false,
+      eq-eqb _ _ if2.false,
+      eq-eqb _ _ c.if-root-ne-PACKET_HEADER.false,
+      eq-eqb _ _ c.if-count-ne-UUID_BYTES.false,
+    )

@@ -16,7 +16,12 @@ returns-then-kind-ne-UNSIGNED c = simp (eq-eqb _ _ c.if-root-ne-PACKET_HEADER.fa
 
 pub returns-then-length-ne-MAGIC_BITS : goal.returns-then-length-ne-MAGIC_BITS
 unfolding magic_ok
-returns-then-length-ne-MAGIC_BITS c = simp (eq-eqb _ _ c.if-root-ne-PACKET_HEADER.false, eq-eqb _ _ c.if-kind-ne-UNSIGNED.false, ne_eqb _ _ c.if-length-ne-MAGIC_BITS.true)
+returns-then-length-ne-MAGIC_BITS c =
+    simp (
+      eq-eqb _ _ c.if-root-ne-PACKET_HEADER.false,
+      eq-eqb _ _ c.if-kind-ne-UNSIGNED.false,
+      ne_eqb _ _ c.if-length-ne-MAGIC_BITS.true,
+    )
 
 pub returns-then-at-start : goal.returns-then-at-start
 unfolding magic_ok

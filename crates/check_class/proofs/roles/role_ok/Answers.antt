@@ -1,5 +1,6 @@
 -- By role, in the order of the definition.
 use mathlib.Core.Path.{sym}
+use native.Mathlib.Omega.{arith}
 use borrow.Author.Tests.{eq-eqb, ne_eqb}
 use Rattle.table_offsets.specs.Check.{role_ok, number_ok, pick_b}
 use Rattle.check_class.proofs.roles.role_ok.Goals as goal
@@ -55,18 +56,18 @@ returns-in-11 c = simp (ne_eqb _ _ c.if-says-eq-STATIC_BLOB.false, c.in-11.is)
 pub returns-in_default : goal.returns-in_default
 unfolding role_ok number_ok pick_b
 returns-in_default c =
-    let other = c.in_default.in_default-own.rest in
+    let r = c.args.says.role in
     simp (
       ne_eqb _ _ c.if-says-eq-STATIC_BLOB.false,
-      ne_eqb _ _ other.0.0.0.0.0.0.0.0.0.0.1,
-      ne_eqb _ _ other.0.0.0.0.0.0.0.0.0.1,
-      ne_eqb _ _ other.0.0.0.0.0.0.0.0.1,
-      ne_eqb _ _ other.0.0.0.0.0.0.0.1,
-      ne_eqb _ _ other.0.0.0.0.0.0.1,
-      ne_eqb _ _ other.0.0.0.0.0.1,
-      ne_eqb _ _ other.0.0.0.0.1,
-      ne_eqb _ _ other.0.0.0.1,
-      ne_eqb _ _ other.0.0.1,
-      ne_eqb _ _ other.0.1,
-      ne_eqb _ _ other.1,
+      ne_eqb r 0 (omega arith),
+      ne_eqb r 1 (omega arith),
+      ne_eqb r 2 (omega arith),
+      ne_eqb r 3 (omega arith),
+      ne_eqb r 5 (omega arith),
+      ne_eqb r 6 (omega arith),
+      ne_eqb r 7 (omega arith),
+      ne_eqb r 8 (omega arith),
+      ne_eqb r 9 (omega arith),
+      ne_eqb r 10 (omega arith),
+      ne_eqb r 11 (omega arith),
     )

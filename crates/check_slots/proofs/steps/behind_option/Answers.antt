@@ -16,9 +16,8 @@ overflow_add-at-then-is_a c = omega (arith, (a-here _ _ _ (sym c.is_a.ensures �
 pub returns-then-is_a : goal.returns-then-is_a
 unfolding behind_option pick_n
 returns-then-is_a c =
-    let o = c.before.before.before.before in
     simp (
-      sym o.is_a.ensures ∙ o.if-is_a.true,
+      sym c.is_a.ensures ∙ c.if-is_a.true,
       sym c.byte.ensures,
       sym c.wide.ensures.0,
       c.behind_ranges.ensures,

@@ -1,20 +1,13 @@
 -- A range a turn: what is left is the definition behind it.
-use mathlib.Core.Path.{refl, sym, ◌∙◌}
-use native.Mathlib.Omega.{arith}
+use Rattle.std.proofs.Common.{◌≡◌, ◌+◌, ◌-◌, sym, ◌∙◌, arith}
 use Rattle.check_slots.proofs.Onward.{ranges-step, ranges-none}
 use Rattle.check_slots.proofs.steps.behind_ranges.Goals as goal
 
-pub loop-todo-init : goal.loop-todo-init
-loop-todo-init c = refl
-
-pub overflow_sub-todo : goal.overflow_sub-todo
-overflow_sub-todo c = omega arith
-
-pub loop-todo-smaller : goal.loop-todo-smaller
-loop-todo-smaller c = omega arith
-
-pub loop-todo-preserved : goal.loop-todo-preserved
-loop-todo-preserved c = c.loop-todo.invariant ∙ ranges-step _ _ _ c.loop-todo-test.true ∙ rw c.behind_range-next.ensures
+pub loop-preserved : goal.loop-preserved
+loop-preserved c =
+    let one : c.args.count - c.loop.counter - 1 ≡ c.args.count - (c.loop.counter + 1) = omega arith in
+    let on = c.loop.invariant ∙ ranges-step _ _ _ (omega arith) in
+    rw one at on ∙ rw c.behind_range-next.ensures
 
 pub returns : goal.returns
-returns c = sym (c.loop-todo.invariant ∙ ranges-none _ _ _ c.loop-todo-test.false)
+returns c = sym (c.loop.invariant ∙ ranges-none _ _ _ (omega arith))

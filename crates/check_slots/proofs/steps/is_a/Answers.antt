@@ -2,12 +2,13 @@
 use mathlib.Core.Path.{sym}
 use borrow.Author.Tests.{eq-eqb, ne_eqb}
 use Rattle.check_slots.specs.Homes.{is_a}
+use Rattle.table_offsets.proofs.Told.{ok-zero, err-some}
 use Rattle.check_slots.proofs.steps.is_a.Goals as goal
 
-pub returns-then-head_fault-ne-NO_FAULT : goal.returns-then-head_fault-ne-NO_FAULT
+pub returns-then-is_err : goal.returns-then-is_err
 unfolding is_a
-returns-then-head_fault-ne-NO_FAULT c = simp (sym c.head_fault.ensures, ne_eqb _ _ c.if-head_fault-ne-NO_FAULT.true)
+returns-then-is_err c = simp (sym c.head_fault.ensures, ne_eqb _ _ (err-some _ c.if-is_err.ensures.negation))
 
 pub returns : goal.returns
 unfolding is_a
-returns c = simp (sym c.head_fault.ensures, eq-eqb _ _ c.if-head_fault-ne-NO_FAULT.false, sym c.byte.ensures)
+returns c = simp (sym c.head_fault.ensures, eq-eqb _ _ (ok-zero _ c.if-is_err.ensures.negation), sym c.byte.ensures)

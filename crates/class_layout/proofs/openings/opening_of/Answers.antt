@@ -38,6 +38,5 @@ returns-in-4 c =
 pub returns-in_default : goal.returns-in_default
 unfolding opening_size roots_of numbered
 returns-in_default c =
-    let m = c.in_default.in_default-own.rest in
-    let k : c.args.kind ≡ 5 = omega (arith, c.requires, m.0.0.1, m.0.1, m.1) in
+    let k : c.args.kind ≡ 5 = omega arith in
     record { size = rw k; roots = rw k; none = λ z. absurd (omega arith); small = (omega arith, omega arith, omega arith) }

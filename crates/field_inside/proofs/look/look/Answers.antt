@@ -162,15 +162,15 @@ elements-requires c = rw c.align_of-in-29.ensures.0 (alignable (array_kind (to-a
 
 -- A dynamic array
 
-pub overflow_add-at-in-Of : goal.overflow_add-at-in-Of
-overflow_add-at-in-Of c = omega (arith, record-in (length-kind c.before))
+pub overflow_add-at-in-Ok : goal.overflow_add-at-in-Ok
+overflow_add-at-in-Ok c = omega (arith, record-in (length-kind c.before))
 
-pub bounds-aligns-at-in-Of : goal.bounds-aligns-at-in-Of
-bounds-aligns-at-in-Of c = align-in (length-kind c.before.before)
+pub bounds-aligns-at-in-Ok : goal.bounds-aligns-at-in-Ok
+bounds-aligns-at-in-Ok c = align-in (length-kind c.before.before)
 
-pub elements-requires-in-Of : goal.elements-requires-in-Of
+pub elements-requires-in-Ok : goal.elements-requires-in-Ok
 unfolding align_noted
-elements-requires-in-Of c = rw c.align_of-in-Of.ensures.0 (alignable (length-kind (to-length c.before)))
+elements-requires-in-Ok c = rw c.align_of-in-Ok.ensures.0 (alignable (length-kind (to-length c.before)))
 
 -- An optional
 
@@ -207,21 +207,21 @@ returns-in-29 c =
     rw (c.elements.ensures, c.align_of-in-29.ensures.0, c.u16_at.ensures.0)
     (inside-array _ (noted (array_kind d)) _ _ _ _ d.in-29.is)
 
-pub returns-in-NotOf : goal.returns-in-NotOf
+pub returns-in-Err : goal.returns-in-Err
 unfolding u8
-returns-in-NotOf c =
+returns-in-Err c =
     let l = c.before.before in
     inside-no-length _ (noted (dynamic-kind l.before)) _ _ _ _ _ l.in-30.is
-    (sym l.length_of.ensures ∙ c.in-NotOf.is)
+    (sym l.length_of.ensures ∙ c.in-Err.is)
 
-pub returns-in-Of : goal.returns-in-Of
+pub returns-in-Ok : goal.returns-in-Ok
 unfolding u8 align_noted
-returns-in-Of c =
+returns-in-Ok c =
     let n = to-length c.before.before in
     let d = to-dynamic n in
-    rw (c.elements-in-Of.ensures, c.align_of-in-Of.ensures.0)
+    rw (c.elements-in-Ok.ensures, c.align_of-in-Ok.ensures.0)
     (inside-dynamic _ (noted (dynamic-kind d)) _ _ _ _ _ d.in-30.is
-    (sym n.length_of.ensures ∙ n.in-Of.is))
+    (sym n.length_of.ensures ∙ n.in-Ok.is))
 
 pub returns-in-31 : goal.returns-in-31
 unfolding u8

@@ -1065,18 +1065,18 @@ walk-overflow_add-used-then-role-ne0 t c =
     let past = c.before.before.before.before in
     omega (arith, (applied t past).room, within t (applied-loop t past))
 
-pub walk-shape_of-list-in-Stopped : goal.walk-shape_of-list-in-Stopped
-walk-shape_of-list-in-Stopped t c =
+pub walk-shape_of-list-in-Err : goal.walk-shape_of-list-in-Err
+walk-shape_of-list-in-Err t c =
     let past = c.before.before.before.before.before.before in
     (applied t past).same
 
-pub walk-returns-in-Stopped : goal.walk-returns-in-Stopped
-walk-returns-in-Stopped t c =
+pub walk-returns-in-Err : goal.walk-returns-in-Err
+walk-returns-in-Err t c =
     let past = c.before.before.before.before.before.before in
-    rw c.stopped.ensures (stopped t (applied-loop t past) ((applied t past).stops _ c.in-Stopped.is))
+    rw c.stopped.ensures (stopped t (applied-loop t past) ((applied t past).stops _ c.in-Err.is))
 
-pub walk-loop-only-smaller-in-On : goal.walk-loop-only-smaller-in-On
-walk-loop-only-smaller-in-On t c =
+pub walk-loop-only-smaller-in_default : goal.walk-loop-only-smaller-in_default
+walk-loop-only-smaller-in_default t c =
     let past = c.before.before.before.before.before.before in
     let l = past.loop-only in
     let y = applied t past in
@@ -1084,10 +1084,10 @@ walk-loop-only-smaller-in-On t c =
     let used = l.used + past.read_leaves-r.result.used + past.apply-said.result.used in
     round-falls (length l.list) _ l.used used 0 0 (y.same ∙ sym f.2) (omega (arith, y.room, f.2)) (omega (arith, f.0))
 
-pub walk-loop-only-preserved-in-On : goal.walk-loop-only-preserved-in-On
-walk-loop-only-preserved-in-On t c =
+pub walk-loop-only-preserved-in_default : goal.walk-loop-only-preserved-in_default
+walk-loop-only-preserved-in_default t c =
     let past = c.before.before.before.before.before.before in
-    (past.loop-only.invariant.0, (applied t past).goes c.in-On.is)
+    (past.loop-only.invariant.0, (applied t past).goes c.in_default.is)
 
 pub walk-loop-only-smaller-else-role-ne0 : goal.walk-loop-only-smaller-else-role-ne0
 walk-loop-only-smaller-else-role-ne0 t c =
@@ -1317,15 +1317,15 @@ walk-overflow_add-used-in-loop-only t c =
     let past = c.before.before.before.before in
     omega (arith, (field t past).room, within t (read-loop t past))
 
-pub walk-shape_of-list-in-Stopped-went : goal.walk-shape_of-list-in-Stopped-went
-walk-shape_of-list-in-Stopped-went t c =
+pub walk-shape_of-list-in-Err-went : goal.walk-shape_of-list-in-Err-went
+walk-shape_of-list-in-Err-went t c =
     let past = c.before.before.before.before.before.before in
     (field t past).same
 
-pub walk-returns-in-Stopped-went : goal.walk-returns-in-Stopped-went
-walk-returns-in-Stopped-went t c =
+pub walk-returns-in-Err-went : goal.walk-returns-in-Err-went
+walk-returns-in-Err-went t c =
     let past = c.before.before.before.before.before.before in
-    rw c.stopped-in-Stopped-went.ensures (stopped t (read-loop t past) ((field t past).stops _ c.in-Stopped-went.is))
+    rw c.stopped-in-Err-went.ensures (stopped t (read-loop t past) ((field t past).stops _ c.in-Err-went.is))
 
 pub walk-overflow_sub-run : goal.walk-overflow_sub-run
 walk-overflow_sub-run t c =
@@ -1344,14 +1344,14 @@ walk-loop-only-smaller t c =
     let past = c.before.before.before.before.before.before.before.before.before.before in
     let l = past.loop-only in
     let y = field t past in
-    let some = y.some c.in-On-went.is in
+    let some = y.some c.in_default-went.is in
     round-falls (length l.list) _ l.used (l.used + past.read_field-r.result.used) 0 0 (y.same ∙ sym (within t (read-loop t past)).1)
     (omega (arith, y.room, within t (read-loop t past))) (omega (arith, some))
 
 pub walk-loop-only-preserved : goal.walk-loop-only-preserved
 walk-loop-only-preserved t c =
     let past = c.before.before.before.before.before.before.before.before.before.before in
-    let on = c.in-On-went.is in (
+    let on = c.in_default-went.is in (
       past.loop-only.invariant.0,
       field-run (holds t (read_told t past)) (holder-next t (read-holder t past)) (field t past) c.behind-run-in-loop-only.ensures on,
     )

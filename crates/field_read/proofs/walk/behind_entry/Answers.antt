@@ -3,10 +3,10 @@ use mathlib.Core.Path.{refl}
 use Rattle.field_read.specs.Reads.{gone}
 use Rattle.field_read.proofs.walk.behind_entry.Goals as goal
 
-pub returns-in-Stopped : goal.returns-in-Stopped
+pub returns-in-Err : goal.returns-in-Err
 unfolding gone
-returns-in-Stopped c = rw (c.stopped.ensures, c.in-Stopped.is) refl
+returns-in-Err c = rw (c.stopped.ensures, c.in-Err.is) refl
 
-pub returns-in-On : goal.returns-in-On
+pub returns-in-Ok : goal.returns-in-Ok
 unfolding gone
-returns-in-On c = rw c.in-On.is refl
+returns-in-Ok c = rw c.in-Ok.is refl

@@ -3,7 +3,7 @@ use mathlib.Core.Path.{◌≡◌, refl}
 use mathlib.Core.List.{List, [], ◌∷◌}
 use Prim.Native.Nat.{ℕ, ◌≤◌}
 use native.Mathlib.Omega.{arith}
-use lib.ListN.{length, drop, set, length-set}
+use lib.ListN.{length, drop, set}
 use Rattle.rules.specs.Limits.{words_per_entry}
 use Rattle.rules.specs.Entry.{words}
 use Rattle.listing.proofs.entry.write.Goals as goal
@@ -16,15 +16,6 @@ written (v ∷ w ∷ []) a b c d e h = absurd (omega arith)
 written (v ∷ w ∷ x ∷ []) a b c d e h = absurd (omega arith)
 written (v ∷ w ∷ x ∷ y ∷ []) a b c d e h = absurd (omega arith)
 written (v ∷ w ∷ x ∷ y ∷ z ∷ l) a b c d e h = refl
-
-pub bounds-list-1 : goal.bounds-list-1
-bounds-list-1 c = simp length-set (omega arith)
-
-pub bounds-list-2 : goal.bounds-list-2
-bounds-list-2 c = simp length-set (omega arith)
-
-pub bounds-list-3 : goal.bounds-list-3
-bounds-list-3 c = simp length-set (omega arith)
 
 pub returns : goal.returns
 unfolding words

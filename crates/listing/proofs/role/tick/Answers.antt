@@ -11,5 +11,4 @@ returns-then-not-a c =
 pub returns : goal.returns
 returns c =
     let a = c.advance-a in
-    rw c.with_clock.ensures
     (clock-advanced _ _ _ _ _ _ a.ensures.0 a.ensures.1 (not-false _ c.if-not-a.false))

@@ -116,7 +116,7 @@ read_of_stream-r-requires c =
     let asked = to-asked room in
     let start = to_start asked in
     let g = start.requires.readable in
-    record { readable = g; id_value = sym found.find_stream_class.ensures ∙ listed.in-At.is; framed = start.requires.framed; hints = start.requires.hints; slots_value = start.requires.slots_value }
+    record { readable = g; id_value = sym found.find_stream_class.ensures ∙ listed.in-Some.is; framed = start.requires.framed; hints = start.requires.hints; slots_value = start.requires.slots_value }
 
 pub with_last-requires : goal.with_last-requires
 with_last-requires c =
@@ -131,22 +131,22 @@ with_last-requires c =
       arith,
       ran-room _ (header-part a.table.now a.stream.now a.start a.first a.st a.slots a.list.now
           asked.differs.result asked.differs.ensures room.if-differs.false (has_room room) found.find_stream_class.result
-          found.find_stream_class.ensures _ listed.in-At.is listed.write.ensures)
+          found.find_stream_class.ensures _ listed.in-Some.is listed.write.ensures)
           c.read_of_stream-r.ensures,
       start.well_formed,
     )
 
-pub returns-in-Nothing : goal.returns-in-Nothing
-returns-in-Nothing c =
+pub returns-in-None : goal.returns-in-None
+returns-in-None c =
     let found = c.before.before.before in
     let room = to_room found in
     let asked = to-asked room in
     let start = to_start asked in
     let a = start.args in
-    rw c.refused-in-Nothing.ensures (header-ran-unknown a.table.now a.stream.now a.start a.first a.st a.slots a.list.now
+    rw c.refused-in-None.ensures (header-ran-unknown a.table.now a.stream.now a.start a.first a.st a.slots a.list.now
     asked.differs.result asked.differs.ensures room.if-differs.false (has_room room)
     c.find_stream_class.result c.find_stream_class.ensures
-    c.in-Nothing.is)
+    c.in-None.is)
 
 pub shape_of-list : goal.shape_of-list
 shape_of-list c =
@@ -156,8 +156,8 @@ shape_of-list c =
     c.read_of_stream-r.new.list
     c.read_of_stream-r.auto.list ∙ listed.write.auto.list
 
-pub returns-in-At : goal.returns-in-At
-returns-in-At c =
+pub returns-in-Some : goal.returns-in-Some
+returns-in-Some c =
     let read = c.before.before.before.before in
     let listed = to-listed read in
     let found = to-found listed in
@@ -168,5 +168,5 @@ returns-in-At c =
     rw c.with_last.ensures (ran-last _
     (header-part a.table.now a.stream.now a.start a.first a.st a.slots a.list.now asked.differs.result
     asked.differs.ensures room.if-differs.false (has_room room) found.find_stream_class.result
-    found.find_stream_class.ensures _ listed.in-At.is listed.write.ensures)
+    found.find_stream_class.ensures _ listed.in-Some.is listed.write.ensures)
     c.read_of_stream-r.ensures _)

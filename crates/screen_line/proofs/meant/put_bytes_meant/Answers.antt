@@ -4,7 +4,7 @@ use native.Mathlib.Omega.{arith}
 use mathlib.Core.List.{◌++◌}
 use lib.ListN.{length, take, drop}
 use Rattle.screen_number.specs.Number.{bytes}
-use Rattle.screen_head.specs.Head.{five}
+use Rattle.screen_head.specs.Head.{five_of}
 use Rattle.screen_meaning.specs.Bytes.{blob}
 use Rattle.screen_line.specs.Line.{bytes_of}
 use Rattle.screen_line.specs.Room.{bytes_in}
@@ -18,9 +18,9 @@ pub returns-then-n-eq0 : goal.returns-then-n-eq0
 returns-then-n-eq0 c =
     let all = shown-as
     (laid_none c.args.out.now c.args.at)
-    (no-blob-meant (bytes_of c.args.stream.now (five 0 c.args.place c.args.bits c.args.value 0))
+    (no-blob-meant (bytes_of c.args.stream.now (five_of c.args.entry))
     (sym (c.bytes_of-n.ensures ∙ sym (bytes-length c.args.stream.now
-    (five 0 c.args.place c.args.bits c.args.value 0))) ∙ c.if-n-eq0.true)) in
+    (five_of c.args.entry))) ∙ c.if-n-eq0.true)) in
     record { value = all.end; out_after = all.list }
 
 pub put_blob-requires : goal.put_blob-requires
@@ -31,8 +31,8 @@ put_blob-requires c =
         arith,
         c.from_of-from.ensures,
         c.bytes_of-n.ensures,
-        bytes_fit (length c.args.stream.now) c.args.place
-            c.args.value,
+        bytes_fit (length c.args.stream.now) c.args.entry.place.0
+            c.args.entry.value,
       );
     }
 
@@ -49,9 +49,9 @@ returns c =
     (c.put_blob.ensures.value, c.put_blob.ensures.out_after)))
     (ap (λ x. bytes "  " ++ blob x) (ap (λ n. take n (drop c.from_of-from.result c.args.stream.now))
     c.bytes_of-n.ensures
-    ∙ ap (λ n. take (bytes_in (length c.args.stream.now) c.args.place c.args.value) (drop n c.args.stream.now))
-    c.from_of-from.ensures ∙ bytes-are c.args.stream.now (five 0 c.args.place c.args.bits c.args.value 0))
-    ∙ blob-meant (bytes_of c.args.stream.now (five 0 c.args.place c.args.bits c.args.value 0))
+    ∙ ap (λ n. take (bytes_in (length c.args.stream.now) c.args.entry.place.0 c.args.entry.value) (drop n c.args.stream.now))
+    c.from_of-from.ensures ∙ bytes-are c.args.stream.now (five_of c.args.entry))
+    ∙ blob-meant (bytes_of c.args.stream.now (five_of c.args.entry))
     (λ e. c.if-n-eq0.false (c.bytes_of-n.ensures ∙ sym
-    (bytes-length c.args.stream.now (five 0 c.args.place c.args.bits c.args.value 0)) ∙ e))) in
+    (bytes-length c.args.stream.now (five_of c.args.entry)) ∙ e))) in
     record { value = all.end; out_after = all.list }

@@ -1,5 +1,4 @@
 -- Nothing without a frequency.
-use native.Mathlib.Omega.{arith}
 use Rattle.screen_number.specs.Number.{bytes}
 use Rattle.screen_meaning.specs.Seconds.{seconds}
 use Rattle.screen_line.proofs.Sorted.{no-clock-meant, clock-meant}
@@ -13,9 +12,6 @@ returns-then-frequency-eq0 c =
     (laid_none c.args.out.now c.args.at)
     (no-clock-meant c.args.frequency c.args.clock c.if-frequency-eq0.true) in
     record { value = all.end; out_after = all.list }
-
-pub put_seconds-requires : goal.put_seconds-requires
-put_seconds-requires c = omega (arith, c.requires, c.put_bytes-a.ensures.value, c.put_bytes-a.auto.out)
 
 pub returns : goal.returns
 unfolding bytes

@@ -1,13 +1,9 @@
--- The code's constant is the list of the kinds' sorts.
+-- A kind that is in no arm has nothing behind its numbers.
 use native.Mathlib.Omega.{arith}
-use Rattle.screen_line.proofs.Sorted.{sort-at, sort-above}
+use Rattle.facts.proofs.Cases.{◌▷◌}
+use Rattle.screen_line.proofs.Sorted.{sortless}
 use Rattle.screen_line.proofs.meant.sort_of.Goals as goal
 
-pub returns-then-kind-gt32 : goal.returns-then-kind-gt32
-returns-then-kind-gt32 c = sort-above c.args.kind c.if-kind-gt32.true
-
-pub bounds-row : goal.bounds-row
-bounds-row c = omega (arith, c.if-kind-gt32.false)
-
-pub returns : goal.returns
-returns c = sort-at c.args.kind (omega (arith, c.if-kind-gt32.false))
+pub returns-in_default : goal.returns-in_default
+returns-in_default c = sortless c.args.kind (
+    omega arith ▷ omega arith ▷ omega arith ▷ omega arith ▷ omega arith ▷ omega arith ▷ omega arith ▷ omega arith ▷ tt)

@@ -9,16 +9,6 @@ use Rattle.screen_line.proofs.Parts.{laid_none, whole_of, last_of, none_of}
 use Rattle.screen_number.proofs.Laid.{laid, then, shown-as}
 use Rattle.screen_line.proofs.shown.put_text_part.Goals as goal
 
-pub overflow_mul-k : goal.overflow_mul-k
-overflow_mul-k c = omega (arith, c.if-k-bytes.true)
-
-pub put_part-requires : goal.put_part-requires
-put_part-requires c =
-    record {
-      n_in_bounds = omega (arith, c.requires.in_bounds);
-      bytes_in_bounds = (c.requires.bytes_in_bounds, omega (arith, c.if-k-bytes.true));
-    }
-
 pub returns-then-k-bytes : goal.returns-then-k-bytes
 returns-then-k-bytes c =
     let all = shown-as
@@ -27,16 +17,6 @@ returns-then-k-bytes c =
     (c.put_part.ensures.value, c.put_part.ensures.out_after))
     (whole_of c.args.stream.now c.args.from c.args.bytes c.requires.bytes_in_bounds c.args.k c.if-k-bytes.true) in
     record { value = all.end; out_after = all.list }
-
-pub overflow_mul-k-then-k-bytes-2 : goal.overflow_mul-k-then-k-bytes-2
-overflow_mul-k-then-k-bytes-2 c = omega (arith, c.if-k-bytes-2.true)
-
-pub put_part-a-requires : goal.put_part-a-requires
-put_part-a-requires c =
-    record {
-      n_in_bounds = omega (arith, c.requires.in_bounds);
-      bytes_in_bounds = (c.requires.bytes_in_bounds, omega (arith, c.if-k-bytes-2.true));
-    }
 
 pub put_bytes-requires : goal.put_bytes-requires
 put_bytes-requires c =

@@ -8,13 +8,6 @@ use Rattle.screen_meaning.proofs.Hexes.{length-hexes, length_part, first-bytes, 
 use Rattle.screen_number.proofs.Laid.{laid, then, shown-as}
 use Rattle.screen_meaning.proofs.blob.put_blob.Goals as goal
 
-pub put_hexes-end-requires : goal.put_hexes-end-requires
-put_hexes-end-requires c =
-    record {
-      n_in_bounds = omega (arith, c.requires.at_in_bounds);
-      n_in_bounds_2 = omega (arith, c.requires.bytes_in_bounds, c.if-bytes-gt32.true);
-    }
-
 pub put_more-requires : goal.put_more-requires
 put_more-requires c =
     record {
@@ -46,10 +39,6 @@ returns-then-bytes-gt32 c =
     ∙ blob-long (take c.args.bytes (drop c.args.from c.args.stream.now))
     (omega (arith, c.if-bytes-gt32.true, length_part c.args.stream.now c.args.from c.args.bytes c.requires.bytes_in_bounds))) in
     record { value = all.end; out_after = all.list }
-
-pub put_hexes-requires : goal.put_hexes-requires
-put_hexes-requires c =
-    record { n_in_bounds = omega (arith, c.requires.at_in_bounds, c.if-bytes-gt32.false); n_in_bounds_2 = c.requires.bytes_in_bounds }
 
 pub returns : goal.returns
 returns c =

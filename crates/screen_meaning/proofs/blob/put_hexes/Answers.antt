@@ -3,7 +3,7 @@ use mathlib.Core.Path.{◌≡◌, refl, sym, ap, ◌∙◌}
 use native.Mathlib.Omega.{arith}
 use Prim.Native.Nat.{◌+◌}
 use lib.ListN.{length, take, drop, get_or}
-use lib.Seq.{sets, take_all, length-take-le}
+use lib.Seq.{sets, length-take-le}
 use Rattle.screen_number.specs.Number.{hex}
 use Rattle.screen_meaning.specs.Bytes.{hexes}
 use Rattle.screen_meaning.proofs.Hexes.{hexes-none, hexes-more, length-hexes, length_part, byte-of-part}
@@ -18,12 +18,6 @@ loop-shown-init c =
       omega arith,
       refl,
     )
-
-pub overflow_add-from : goal.overflow_add-from
-overflow_add-from c = omega (arith, c.requires.n_in_bounds_2, c.requires, c.loop-shown-test.true)
-
-pub bounds-stream-from : goal.bounds-stream-from
-bounds-stream-from c = omega (arith, c.requires.n_in_bounds_2, c.loop-shown-test.true)
 
 pub put_hex-end-requires : goal.put_hex-end-requires
 put_hex-end-requires c =
@@ -45,39 +39,18 @@ put_hex-end-requires c =
       )),
     )
 
-pub overflow_add-shown : goal.overflow_add-shown
-overflow_add-shown c = omega (arith, c.requires.n_in_bounds_2, c.requires, c.loop-shown-test.true)
-
-pub loop-shown-smaller : goal.loop-shown-smaller
-loop-shown-smaller c = omega (arith, c.loop-shown-test.true)
-
 pub loop-shown-preserved : goal.loop-shown-preserved
 loop-shown-preserved c =
     let a = c.args in
     let p = take a.n (drop a.from a.stream.now) in
     let i = c.loop-shown.shown in
     let put = c.put_hex-end in
-    let byte : c.wide.result ≡ get_or p i 0 = c.wide.ensures
+    let byte : c.from.result ≡ get_or p i 0 = c.from.ensures
     ∙ byte-of-part a.stream.now a.from a.n i c.loop-shown-test.true in
     let so_far = laid a.out.now c.loop-shown.out a.at c.loop-shown.end (hexes (take i p))
     (c.loop-shown.invariant.0, c.loop-shown.invariant.1) in
-    let one = shown-as (laid c.loop-shown.out put.new.out c.loop-shown.end put.result (hex 2 c.wide.result)
+    let one = shown-as (laid c.loop-shown.out put.new.out c.loop-shown.end put.result (hex 2 c.from.result)
     (put.ensures.value, put.ensures.out_after)) (ap (λ b. hex 2 b) byte) in
     let all = both (shown-as (then so_far one) (hexes-more p i
     (omega (arith, c.loop-shown-test.true, length_part a.stream.now a.from a.n c.requires.n_in_bounds_2)))) in
     (all.0, all.1, omega (arith, c.loop-shown-test.true), put.auto.out ∙ c.loop-shown.invariant.3)
-
-pub shape_of-out : goal.shape_of-out
-shape_of-out c = c.loop-shown.invariant.3
-
-pub returns : goal.returns
-returns c =
-    let a = c.args in
-    let p = take a.n (drop a.from a.stream.now) in
-    let all : c.loop-shown.shown ≡ a.n = omega (arith, c.loop-shown-test.false, c.loop-shown.invariant.2) in
-    let whole : take c.loop-shown.shown p ≡ p = take_all c.loop-shown.shown p
-    (omega (arith, all, length_part a.stream.now a.from a.n c.requires.n_in_bounds_2)) in record {
-      value = c.loop-shown.invariant.0 ∙ ap (λ x. a.at + length (hexes x)) whole;
-      out_after = c.loop-shown.invariant.1
-          ∙ ap (λ x. sets a.out.now a.at (hexes x)) whole;
-    }

@@ -7,10 +7,6 @@ use Rattle.screen_meaning.proofs.Forms.{lead-length}
 use Rattle.screen_number.proofs.Laid.{laid, then}
 use Rattle.screen_meaning.proofs.float.put_exact.Goals as goal
 
-pub put_lead-b-requires : goal.put_lead-b-requires
-put_lead-b-requires c =
-    omega (arith, c.requires, c.put_bytes-a.ensures.value, c.put_bytes-a.auto.out, lead-length c.args.raised)
-
 pub put_bytes-c-requires : goal.put_bytes-c-requires
 put_bytes-c-requires c =
     omega (

@@ -1,13 +1,9 @@
 -- Of 0 there is none.
-use native.Mathlib.Omega.{arith}
 use Rattle.screen_number.specs.Number.{bytes}
 use Rattle.screen_meaning.specs.Float.{power_signed}
 use Rattle.screen_meaning.proofs.Forms.{exponent-none, exponent-some}
 use Rattle.screen_number.proofs.Laid.{laid, shown-as}
 use Rattle.screen_meaning.proofs.float.put_exponent.Goals as goal
-
-pub overflow_add-raised : goal.overflow_add-raised
-overflow_add-raised c = omega (arith, c.requires)
 
 pub returns-then-raised-fraction-eq0 : goal.returns-then-raised-fraction-eq0
 unfolding bytes
@@ -17,9 +13,6 @@ returns-then-raised-fraction-eq0 c =
     (bytes "+0") (c.put_bytes.ensures.value, c.put_bytes.ensures.out_after))
     (exponent-none c.args.bias c.args.raised c.args.fraction c.if-raised-fraction-eq0.true) in
     record { value = all.end; out_after = all.list }
-
-pub put_power-requires : goal.put_power-requires
-put_power-requires c = c.requires.at_in_bounds
 
 pub returns : goal.returns
 unfolding bytes

@@ -13,12 +13,9 @@ use Rattle.screen_meaning.proofs.float.put_finite.Goals as goal
 pub put_exact-b-requires : goal.put_exact-b-requires
 put_exact-b-requires c =
     record {
-      at_in_bounds = omega (arith, c.requires, c.put_sign-a.ensures.value, c.put_sign-a.auto.out, sign-length c.args.negative);
+      at_in_bounds = omega (arith, c.requires, c.put_sign-a.ensures.value, c.put_sign-a.auto.out, sign-length c.args.p.negative);
       digits_bound = (c.requires.digits_bound.0, omega (arith, c.requires.digits_bound.1));
     }
-
-pub significand-m-requires : goal.significand-m-requires
-significand-m-requires c = c.requires.digits_bound.1.0
 
 pub put_decimals-requires : goal.put_decimals-requires
 put_decimals-requires c =
@@ -28,16 +25,16 @@ put_decimals-requires c =
         c.requires,
         c.put_sign-a.ensures.value,
         c.put_sign-a.auto.out,
-        sign-length c.args.negative,
+        sign-length c.args.p.negative,
         c.put_exact-b.ensures.value,
         c.put_exact-b.auto.out,
-        exact-length c.args.digits c.args.full
-            c.args.bias c.args.raised c.args.fraction,
+        exact-length c.args.f.digits c.args.full
+            c.args.f.bias c.args.p.raised c.args.p.fraction,
       );
       m_bound = (
-        rw c.significand-m.ensures (significand-room c.args.unit c.args.raised c.args.fraction
+        rw c.significand-m.ensures (significand-room c.args.f.unit c.args.p.raised c.args.p.fraction
             c.requires.digits_bound.1.0),
-        rw (c.lacking.ensures, c.lacking-2.ensures) (one_way c.power_of-power.result c.args.low),
+        rw (c.saturating_sub-up.ensures, c.saturating_sub-down.ensures) (one_way c.power_of-power.result c.args.f.low),
       );
     }
 
@@ -48,20 +45,20 @@ returns c =
     (then
     (then
     (laid c.args.out.now c.put_sign-a.new.out c.args.at c.put_sign-a.result
-    (sign c.args.negative) (c.put_sign-a.ensures.value, c.put_sign-a.ensures.out_after))
+    (sign c.args.p.negative) (c.put_sign-a.ensures.value, c.put_sign-a.ensures.out_after))
     (laid c.put_sign-a.new.out c.put_exact-b.new.out c.put_sign-a.result
     c.put_exact-b.result
-    (exact c.args.digits c.args.full c.args.bias c.args.raised c.args.fraction)
+    (exact c.args.f.digits c.args.full c.args.f.bias c.args.p.raised c.args.p.fraction)
     (c.put_exact-b.ensures.value, c.put_exact-b.ensures.out_after)))
     (laid c.put_exact-b.new.out c.put_decimals.new.out c.put_exact-b.result
     c.put_decimals.result
-    (decimals c.args.negative c.significand-m.result c.lacking.result c.lacking-2.result)
+    (decimals c.args.p.negative c.significand-m.result c.saturating_sub-up.result c.saturating_sub-down.result)
     (c.put_decimals.ensures.value, c.put_decimals.ensures.out_after)))
-    (ap (λ z. sign c.args.negative ++ exact c.args.digits c.args.full c.args.bias c.args.raised
-    c.args.fraction ++ z) (cc (
+    (ap (λ z. sign c.args.p.negative ++ exact c.args.f.digits c.args.full c.args.f.bias c.args.p.raised
+    c.args.p.fraction ++ z) (cc (
       c.significand-m.ensures,
-      c.lacking.ensures,
-      c.lacking-2.ensures,
+      c.saturating_sub-up.ensures,
+      c.saturating_sub-down.ensures,
       c.power_of-power.ensures,
     ))) in
     record { value = all.end; out_after = all.list }

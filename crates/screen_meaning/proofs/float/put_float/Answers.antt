@@ -1,13 +1,9 @@
 -- By the number of bits.
-use native.Mathlib.Omega.{arith}
 use Prim.Native.Nat.{◌/◌, ◌%◌}
 use Rattle.screen_meaning.specs.Float.{binary32, binary64}
 use Rattle.screen_meaning.proofs.Forms.{float-32, float-64}
 use Rattle.screen_number.proofs.Laid.{laid, shown-as}
 use Rattle.screen_meaning.proofs.float.put_float.Goals as goal
-
-pub put_binary32-requires : goal.put_binary32-requires
-put_binary32-requires c = record { at_in_bounds = c.requires; raised_bound = (omega arith, omega arith) }
 
 pub returns-then-bits-eq32 : goal.returns-then-bits-eq32
 returns-then-bits-eq32 c =
@@ -17,9 +13,6 @@ returns-then-bits-eq32 c =
     (c.put_binary32.ensures.value, c.put_binary32.ensures.out_after))
     (float-32 c.args.bits c.args.value c.if-bits-eq32.true) in
     record { value = all.end; out_after = all.list }
-
-pub put_binary64-requires : goal.put_binary64-requires
-put_binary64-requires c = record { at_in_bounds = c.requires; raised_bound = (omega arith, omega arith) }
 
 pub returns : goal.returns
 returns c =

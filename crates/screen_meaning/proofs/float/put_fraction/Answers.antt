@@ -6,19 +6,6 @@ use Rattle.screen_meaning.proofs.Forms.{decimals-none, decimals-some}
 use Rattle.screen_number.proofs.Laid.{laid, shown-as}
 use Rattle.screen_meaning.proofs.float.put_fraction.Goals as goal
 
-pub below_down-requires : goal.below_down-requires
-below_down-requires c = c.requires.m_bound.0
-
-pub is_exact-exactly-requires : goal.is_exact-exactly-requires
-is_exact-exactly-requires c = c.requires.m_bound.0
-
-pub millionths-requires : goal.millionths-requires
-millionths-requires c =
-    record { m_bound = c.requires.m_bound; down_value = sym c.below_down.ensures ∙ c.if-below_down.true }
-
-pub put_marked-requires : goal.put_marked-requires
-put_marked-requires c = c.requires.at_in_bounds
-
 pub returns-then-below_down : goal.returns-then-below_down
 returns-then-below_down c =
     let all = shown-as

@@ -7,9 +7,6 @@ use Rattle.screen_meaning.proofs.Forms.{mark-length}
 use Rattle.screen_number.proofs.Laid.{laid, then}
 use Rattle.screen_meaning.proofs.float.put_marked.Goals as goal
 
-pub put_mark-a-requires : goal.put_mark-a-requires
-put_mark-a-requires c = omega (arith, c.requires, mark-length c.args.exactly)
-
 pub put_sign-b-requires : goal.put_sign-b-requires
 put_sign-b-requires c =
     omega (

@@ -7,9 +7,6 @@ use Rattle.screen_meaning.proofs.Forms.{power-down, power-up}
 use Rattle.screen_number.proofs.Laid.{laid, then, shown-as}
 use Rattle.screen_meaning.proofs.float.put_power.Goals as goal
 
-pub overflow_sub-down : goal.overflow_sub-down
-overflow_sub-down c = omega (arith, c.if-up-down.true)
-
 pub put_decimal-requires : goal.put_decimal-requires
 put_decimal-requires c =
     omega (

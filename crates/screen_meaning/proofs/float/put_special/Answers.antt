@@ -7,9 +7,6 @@ use Rattle.screen_meaning.proofs.Forms.{special-inf, special-nan}
 use Rattle.screen_number.proofs.Laid.{laid, then, shown-as}
 use Rattle.screen_meaning.proofs.float.put_special.Goals as goal
 
-pub put_sign-end-requires : goal.put_sign-end-requires
-put_sign-end-requires c = omega (arith, c.requires, sign-length c.args.negative)
-
 pub put_bytes-requires : goal.put_bytes-requires
 put_bytes-requires c =
     omega (arith, c.requires, c.put_sign-end.ensures.value, c.put_sign-end.auto.out, sign-length c.args.negative)

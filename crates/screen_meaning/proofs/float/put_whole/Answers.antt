@@ -8,9 +8,6 @@ use Rattle.screen_meaning.proofs.Nearest.{whole-exact}
 use Rattle.screen_number.proofs.Laid.{laid, shown-as}
 use Rattle.screen_meaning.proofs.float.put_whole.Goals as goal
 
-pub whole-requires : goal.whole-requires
-whole-requires c = sym c.below_up.ensures ∙ c.if-below_up.true
-
 pub returns-then-below_up : goal.returns-then-below_up
 returns-then-below_up c =
     let all = shown-as

@@ -1,21 +1,12 @@
 -- Always, or by a product.
 use mathlib.Core.Path.{ap, ◌∙◌}
-use native.Mathlib.Omega.{arith}
 use Prim.Native.Nat.{◌*◌}
 use lib.Dec.{ltb}
-use lib.Pow.{pow_mono}
 use Rattle.screen_meaning.proofs.Nearest.{below-far, below-near}
 use Rattle.screen_meaning.proofs.millionths.below_down.Goals as goal
 
 pub returns-then-down-ge14 : goal.returns-then-down-ge14
 returns-then-down-ge14 c = below-far c.args.m c.args.down c.requires c.if-down-ge14.true
-
-pub power-requires : goal.power-requires
-power-requires c = omega (arith, c.if-down-ge14.false)
-
-pub overflow_mul-result : goal.overflow_mul-result
-overflow_mul-result c =
-    omega (arith, c.power.ensures, c.if-down-ge14.false, pow_mono {i = c.args.down} {j = 13} (omega (arith, c.if-down-ge14.false)))
 
 pub returns : goal.returns
 returns c = ap (λ k. ltb c.args.m (1000000000000 * k)) c.power.ensures ∙ below-near c.args.m c.args.down

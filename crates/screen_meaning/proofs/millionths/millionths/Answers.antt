@@ -2,21 +2,9 @@
 use native.Mathlib.Omega.{arith}
 use Prim.Native.Nat.{◌+◌, ◌-◌}
 use native.Mathlib.Nat.{div-le_self}
-use lib.Pow.{pow_pos, pow_mono}
+use lib.Pow.{pow_mono}
 use Rattle.screen_meaning.proofs.Nearest.{over_zero, near-is, near-room, far_none, middle-is}
 use Rattle.screen_meaning.proofs.millionths.millionths.Goals as goal
-
-pub overflow_sub-down : goal.overflow_sub-down
-overflow_sub-down c = omega (arith, c.requires.m_bound.1)
-
-pub power-half-requires : goal.power-half-requires
-power-half-requires c = omega (arith, c.if-down-le32.true)
-
-pub high-requires : goal.high-requires
-high-requires c = c.requires.m_bound.0
-
-pub power-requires : goal.power-requires
-power-requires c = omega arith
 
 pub overflow_mul-result : goal.overflow_mul-result
 overflow_mul-result c =
@@ -29,12 +17,6 @@ overflow_mul-result c =
 pub overflow_add-result : goal.overflow_add-result
 overflow_add-result c =
     omega (arith, c.low.ensures, c.power-half.ensures, pow_mono {i = c.args.down - 1} {j = 31} (omega (arith, c.if-down-le32.true)))
-
-pub power-requires-then-down-le32 : goal.power-requires-then-down-le32
-power-requires-then-down-le32 c = omega (arith, c.if-down-le32.true)
-
-pub nonzero_div-result : goal.nonzero_div-result
-nonzero_div-result c = omega (arith, c.power-then-down-le32.ensures, pow_pos c.args.down)
 
 pub overflow_add-result-then-down-le32 : goal.overflow_add-result-then-down-le32
 overflow_add-result-then-down-le32 c =
@@ -59,15 +41,6 @@ returns-then-down-le32 c =
 pub returns-then-down-gt94 : goal.returns-then-down-gt94
 returns-then-down-gt94 c = far_none c.args.m c.args.down c.requires.m_bound.0 c.if-down-gt94.true
 
-pub overflow_sub-down-2 : goal.overflow_sub-down-2
-overflow_sub-down-2 c = omega (arith, c.if-down-le32.false)
-
-pub power-half-requires-2 : goal.power-half-requires-2
-power-half-requires-2 c = omega (arith, c.if-down-gt94.false)
-
-pub high-requires-2 : goal.high-requires-2
-high-requires-2 c = c.requires.m_bound.0
-
 pub overflow_add-result-2 : goal.overflow_add-result-2
 overflow_add-result-2 c =
     omega (
@@ -79,15 +52,6 @@ overflow_add-result-2 c =
       pow_mono {i = c.args.down - 33}
           {j = 61} (omega (arith, c.if-down-gt94.false)),
     )
-
-pub overflow_sub-down-3 : goal.overflow_sub-down-3
-overflow_sub-down-3 c = omega (arith, c.if-down-le32.false)
-
-pub power-requires-2 : goal.power-requires-2
-power-requires-2 c = omega (arith, c.if-down-gt94.false)
-
-pub nonzero_div-result-2 : goal.nonzero_div-result-2
-nonzero_div-result-2 c = omega (arith, c.power-2.ensures, pow_pos (c.args.down - 32))
 
 pub returns : goal.returns
 returns c =

@@ -6,9 +6,6 @@ use Rattle.screen_meaning.proofs.millionths.whole.Goals as goal
 pub returns-then-up-ge40 : goal.returns-then-up-ge40
 returns-then-up-ge40 c = whole-none c.args.m c.args.up c.if-up-ge40.true c.requires
 
-pub power-requires : goal.power-requires
-power-requires c = omega (arith, c.if-up-ge40.false)
-
 pub overflow_mul-result : goal.overflow_mul-result
 overflow_mul-result c = omega (arith, whole_room c.args.m c.args.up c.power.result c.power.ensures c.requires)
 

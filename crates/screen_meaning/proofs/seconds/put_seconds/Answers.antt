@@ -2,7 +2,6 @@
 use native.Mathlib.Omega.{arith}
 use Prim.Native.Nat.{◌/◌}
 use lib.Dec.{lit≤}
-use native.Mathlib.Nat.{mod-lt}
 use Rattle.screen_number.specs.Number.{bytes, decimal, zeros}
 use Rattle.screen_number.proofs.Decimal.{decimal-length}
 use Rattle.screen_meaning.proofs.Forms.{laid_none}
@@ -16,15 +15,6 @@ returns-then-frequency-eq0 c =
     (laid_none c.args.out.now c.args.at)
     (no-seconds c.args.frequency c.args.clock c.if-frequency-eq0.true) in
     record { value = all.end; out_after = all.list }
-
-pub nonzero_rem-clock : goal.nonzero_rem-clock
-nonzero_rem-clock c = omega (arith, c.if-frequency-eq0.false)
-
-pub nanos-cut-requires : goal.nanos-cut-requires
-nanos-cut-requires c = mod-lt c.args.clock (omega (arith, c.if-frequency-eq0.false))
-
-pub nonzero_div-clock : goal.nonzero_div-clock
-nonzero_div-clock c = omega (arith, c.if-frequency-eq0.false)
 
 pub put_decimal-a-requires : goal.put_decimal-a-requires
 put_decimal-a-requires c = omega (arith, c.requires, decimal-length (c.args.clock / c.args.frequency))

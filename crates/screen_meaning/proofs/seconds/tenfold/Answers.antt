@@ -8,40 +8,34 @@ use Rattle.screen_meaning.proofs.seconds.tenfold.Goals as goal
 pub overflow_sub-lacking : goal.overflow_sub-lacking
 overflow_sub-lacking c = omega arith
 
-pub loop-turns-init : goal.loop-turns-init
-loop-turns-init c = (turn-none c.args.frequency c.args.part c.requires, omega arith)
+pub loop-turn-init : goal.loop-turn-init
+loop-turn-init c = (turn-none c.args.frequency c.args.part c.requires, omega arith)
 
 pub overflow_add-whole : goal.overflow_add-whole
-overflow_add-whole c = omega (arith, c.loop-turns.invariant.0.few, c.loop-turns.invariant.1)
+overflow_add-whole c = omega (arith, c.loop-turn.invariant.0.few, c.loop-turn.invariant.1)
 
 pub overflow_add-left : goal.overflow_add-left
 overflow_add-left c = omega arith
 
-pub overflow_add-turns : goal.overflow_add-turns
-overflow_add-turns c = omega (arith, c.loop-turns.invariant.1)
-
-pub loop-turns-smaller : goal.loop-turns-smaller
-loop-turns-smaller c = omega (arith, c.loop-turns-test.true)
-
-pub loop-turns-preserved : goal.loop-turns-preserved
-loop-turns-preserved c =
+pub loop-turn-preserved : goal.loop-turn-preserved
+loop-turn-preserved c =
     let a = c.args in
-    let at = c.loop-turns in (
+    let at = c.loop-turn in (
       elim c.if-lacking-left.branch [
         | then-lacking-left y ↦
-            turn-over a.frequency a.part at.whole at.left at.turns _ _ c.requires at.invariant.0 y.if-lacking-left.true y.whole-is y.left-is
+            turn-over a.frequency a.part at.whole at.left at._turn _ _ c.requires at.invariant.0 y.if-lacking-left.true y.whole-is y.left-is
         | else-lacking-left y ↦
-            turn_on a.frequency a.part at.whole at.left at.turns _ _ c.requires at.invariant.0 y.if-lacking-left.false y.whole-is y.left-is
+            turn_on a.frequency a.part at.whole at.left at._turn _ _ c.requires at.invariant.0 y.if-lacking-left.false y.whole-is y.left-is
       ],
-      omega (arith, c.loop-turns-test.true),
+      omega (arith, c.loop-turn-test.true),
     )
 
 pub returns : goal.returns
 returns c =
     let a = c.args in
-    let at = c.loop-turns in
-    let ten : at.turns ≡ 10 = omega (arith, c.loop-turns-test.false, at.invariant.1) in (
-      ten-whole a.frequency a.part at.whole at.left at.turns at.invariant.0 ten,
+    let at = c.loop-turn in
+    let ten : at._turn ≡ 10 = omega (arith, c.loop-turn-test.false, at.invariant.1) in (
+      ten-whole a.frequency a.part at.whole at.left at._turn at.invariant.0 ten,
       ten-left a.frequency a.part
-          at.whole at.left at.turns at.invariant.0 ten,
+          at.whole at.left at._turn at.invariant.0 ten,
     )

@@ -7,9 +7,6 @@ use Rattle.screen_number.proofs.column.+figures.Goals as goal
 pub returns-then-n-lt10 : goal.returns-then-n-lt10
 returns-then-n-lt10 t c = one-length c.args.n c.if-n-lt10.true
 
-pub figures-requires : goal.figures-requires
-figures-requires t c = omega (arith, c.if-n-lt10.false, c.decreases)
-
 pub overflow_add-result : goal.overflow_add-result
 overflow_add-result t c = omega (arith, c.figures.ensures, decimal-length (c.args.n / 10))
 

@@ -11,7 +11,7 @@ filled width n e f = e ∙ ap (λ k. width - k) f
 pub put_times-from-requires : goal.put_times-from-requires
 put_times-from-requires c =
     let a = c.args in
-    omega (arith, c.requires, right-length a.width (decimal a.n), filled a.width a.n c.lacking-blanks.ensures c.figures.ensures)
+    omega (arith, c.requires, right-length a.width (decimal a.n), filled a.width a.n c.saturating_sub-blanks.ensures c.figures-taken.ensures)
 
 pub put_decimal-requires : goal.put_decimal-requires
 put_decimal-requires c =
@@ -21,10 +21,10 @@ put_decimal-requires c =
       arith,
       c.requires,
       right-length a.width (decimal a.n),
-      filled a.width a.n c.lacking-blanks.ensures c.figures.ensures,
+      filled a.width a.n c.saturating_sub-blanks.ensures c.figures-taken.ensures,
       put.ensures.value,
       put.auto.out,
-      length-times c.lacking-blanks.result blank,
+      length-times c.saturating_sub-blanks.result blank,
     )
 
 pub returns : goal.returns
@@ -34,8 +34,8 @@ returns c =
     let last = c.put_decimal in
     let all =
     shown-as
-    (then (laid a.out.now put.new.out a.at put.result (times c.lacking-blanks.result blank) (put.ensures.value, put.ensures.out_after))
+    (then (laid a.out.now put.new.out a.at put.result (times c.saturating_sub-blanks.result blank) (put.ensures.value, put.ensures.out_after))
     (laid put.new.out last.new.out put.result last.result (decimal a.n) (last.ensures.value, last.ensures.out_after)))
-    (fills-right a.width c.lacking-blanks.result (decimal a.n) (filled a.width a.n c.lacking-blanks.ensures c.figures.ensures))
+    (fills-right a.width c.saturating_sub-blanks.result (decimal a.n) (filled a.width a.n c.saturating_sub-blanks.ensures c.figures-taken.ensures))
     in
     record { value = all.end; out_after = all.list }

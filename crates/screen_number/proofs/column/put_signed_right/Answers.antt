@@ -16,7 +16,7 @@ put_times-from-requires c =
       arith,
       c.requires,
       right-length a.width (signed_decimal a.word),
-      filled a.width a.word c.lacking-free.ensures c.signed_figures.ensures,
+      filled a.width a.word c.saturating_sub-free.ensures c.signed_figures-taken.ensures,
     )
 
 pub put_signed-requires : goal.put_signed-requires
@@ -27,10 +27,10 @@ put_signed-requires c =
       arith,
       c.requires,
       right-length a.width (signed_decimal a.word),
-      filled a.width a.word c.lacking-free.ensures c.signed_figures.ensures,
+      filled a.width a.word c.saturating_sub-free.ensures c.signed_figures-taken.ensures,
       put.ensures.value,
       put.auto.out,
-      length-times c.lacking-free.result blank,
+      length-times c.saturating_sub-free.result blank,
     )
 
 pub returns : goal.returns
@@ -38,11 +38,11 @@ returns c =
     let a = c.args in
     let put = c.put_times-from in
     let last = c.put_signed in
-    let free = filled a.width a.word c.lacking-free.ensures c.signed_figures.ensures in
+    let free = filled a.width a.word c.saturating_sub-free.ensures c.signed_figures-taken.ensures in
     let all =
     shown-as
-    (then (laid a.out.now put.new.out a.at put.result (times c.lacking-free.result blank) (put.ensures.value, put.ensures.out_after))
+    (then (laid a.out.now put.new.out a.at put.result (times c.saturating_sub-free.result blank) (put.ensures.value, put.ensures.out_after))
     (laid put.new.out last.new.out put.result last.result (signed_decimal a.word) (last.ensures.value, last.ensures.out_after)))
-    (fills-right a.width c.lacking-free.result (signed_decimal a.word) free)
+    (fills-right a.width c.saturating_sub-free.result (signed_decimal a.word) free)
     in
     record { value = all.end; out_after = all.list }

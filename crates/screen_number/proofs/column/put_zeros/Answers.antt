@@ -11,7 +11,7 @@ filled width n e f = e ∙ ap (λ k. width - k) f
 pub put_times-behind-requires : goal.put_times-behind-requires
 put_times-behind-requires c =
     let a = c.args in
-    omega (arith, c.requires, zeros-length a.width a.n, filled a.width a.n c.lacking-missing.ensures c.figures.ensures)
+    omega (arith, c.requires, zeros-length a.width a.n, filled a.width a.n c.saturating_sub-missing.ensures c.figures-taken.ensures)
 
 pub put_decimal-requires : goal.put_decimal-requires
 put_decimal-requires c =
@@ -21,10 +21,10 @@ put_decimal-requires c =
       arith,
       c.requires,
       zeros-length a.width a.n,
-      filled a.width a.n c.lacking-missing.ensures c.figures.ensures,
+      filled a.width a.n c.saturating_sub-missing.ensures c.figures-taken.ensures,
       put.ensures.value,
       put.auto.out,
-      length-times c.lacking-missing.result 48,
+      length-times c.saturating_sub-missing.result 48,
     )
 
 pub returns : goal.returns
@@ -34,8 +34,8 @@ returns c =
     let last = c.put_decimal in
     let all =
     shown-as
-    (then (laid a.out.now put.new.out a.at put.result (times c.lacking-missing.result 48) (put.ensures.value, put.ensures.out_after))
+    (then (laid a.out.now put.new.out a.at put.result (times c.saturating_sub-missing.result 48) (put.ensures.value, put.ensures.out_after))
     (laid put.new.out last.new.out put.result last.result (decimal a.n) (last.ensures.value, last.ensures.out_after)))
-    (fills-zeros a.width c.lacking-missing.result a.n (filled a.width a.n c.lacking-missing.ensures c.figures.ensures))
+    (fills-zeros a.width c.saturating_sub-missing.result a.n (filled a.width a.n c.saturating_sub-missing.ensures c.figures-taken.ensures))
     in
     record { value = all.end; out_after = all.list }

@@ -14,12 +14,6 @@ returns-then-digits-eq0 t c =
       out_after = sym (ap (λ x. sets a.out.now a.at x) none);
     }
 
-pub overflow_sub-digits : goal.overflow_sub-digits
-overflow_sub-digits t c = omega (arith, c.if-digits-eq0.false)
-
-pub put_hex-end-requires : goal.put_hex-end-requires
-put_hex-end-requires t c = (omega (arith, c.if-digits-eq0.false, c.decreases), omega (arith, c.if-digits-eq0.false, c.requires))
-
 pub bounds-out-end : goal.bounds-out-end
 bounds-out-end t c =
     let a = c.args in

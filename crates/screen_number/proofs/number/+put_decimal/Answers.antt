@@ -5,12 +5,6 @@ use Rattle.screen_number.proofs.number.+put_decimal.Goals as goal
 
 -- One digit
 
-pub overflow_cast-out : goal.overflow_cast-out
-overflow_cast-out t c = omega (arith, c.if-n-lt10.true)
-
-pub overflow_add-out : goal.overflow_add-out
-overflow_add-out t c = omega (arith, c.if-n-lt10.true)
-
 pub bounds-out-at : goal.bounds-out-at
 bounds-out-at t c = omega (arith, one-length c.args.n c.if-n-lt10.true, c.requires)
 

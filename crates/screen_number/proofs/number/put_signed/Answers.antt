@@ -13,9 +13,6 @@ put_decimal-requires c =
     let e = ap length (signed_low a.args.word c.if-word-lt9223372036854775808.true) in
     omega (arith, e, a.well_formed)
 
-pub shape_of-out-then-word-lt9223372036854775808 : goal.shape_of-out-then-word-lt9223372036854775808
-shape_of-out-then-word-lt9223372036854775808 c = c.put_decimal.auto.out
-
 pub returns-then-word-lt9223372036854775808 : goal.returns-then-word-lt9223372036854775808
 returns-then-word-lt9223372036854775808 c =
     let a = c.args in
@@ -30,17 +27,6 @@ bounds-out-at c =
     let a = c.before.before in
     omega (arith, high-length a.args.word c.if-word-lt9223372036854775808.false (omega arith), a.well_formed)
 
-pub overflow_add-at : goal.overflow_add-at
-overflow_add-at c =
-    let a = c.before.before.before in
-    omega (arith, high-length a.args.word c.if-word-lt9223372036854775808.false (omega arith), a.well_formed)
-
-pub overflow_sub-word : goal.overflow_sub-word
-overflow_sub-word c = omega arith
-
-pub overflow_add-word : goal.overflow_add-word
-overflow_add-word c = omega (arith, c.if-word-lt9223372036854775808.false)
-
 pub put_decimal-requires-2 : goal.put_decimal-requires-2
 put_decimal-requires-2 c =
     let a = c.before.before.before in
@@ -51,11 +37,6 @@ put_decimal-requires-2 c =
       length-set a.args.out.now a.args.at
           45,
     )
-
-pub shape_of-out : goal.shape_of-out
-shape_of-out c =
-    let a = c.args in
-    c.put_decimal-2.auto.out ∙ length-set a.out.now a.at 45
 
 pub returns : goal.returns
 returns c =

@@ -1,9 +1,0 @@
--- The list keeps its length.
-use Rattle.std.proofs.Common.{◌≡◌, ◌-◌, length}
-use Rattle.vectors_bundle.proofs.count_down.Given as goal
-
-abbrev pub invariant-loop-i : goal.invariant-loop-i
-invariant-loop-i l = length l.list ≡ length l.initial.list
-
-abbrev pub decreases-loop-i : goal.decreases-loop-i
-decreases-loop-i l = length l.initial.list - l.i

@@ -1,6 +1,0 @@
--- Each byte once.
-use Rattle.std.proofs.Common.{◌-◌, length}
-use Rattle.vectors_bundle.proofs.lines.say_bytes.Given as goal
-
-abbrev pub decreases-loop-i : goal.decreases-loop-i
-decreases-loop-i g l = length l.bytes - l.i
