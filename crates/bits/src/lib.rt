@@ -50,26 +50,25 @@ fn number(stream: &[u8], from: u64, width: u64, order: Order) -> u64
     walk(stream, from, width, order)
 }
 
-// The number of the two bytes from a byte on; then of four and of eight: LLVM makes one load of each.
+// The number of the two bytes from a byte on; then of four and of eight. The order is asked before a byte is read, and what counts least is
+// read first: so LLVM makes one load of each.
 fn two(stream: &[u8], at: usize, order: Order) -> u64
     requires { at + 2 ≤ length stream.now }
-    ensures { result ≡ bits order stream.now (8 * at) 16 }
+    ensures { (result ≡ bits order stream.now (8 * at) 16) × (result < 2 ^ 16) }
 {
-    let bytes = [stream[at], stream[at + 1]];
     match order {
-        Order::Little => u64::from(u16::from_le_bytes(bytes)),
-        Order::Big => u64::from(u16::from_be_bytes(bytes)),
+        Order::Little => u64::from(stream[at]) + u64::from(stream[at + 1]) * 0x100,
+        Order::Big => u64::from(stream[at + 1]) + u64::from(stream[at]) * 0x100,
     }
 }
 
 fn four(stream: &[u8], at: usize, order: Order) -> u64
     requires { at + 4 ≤ length stream.now }
-    ensures { result ≡ bits order stream.now (8 * at) 32 }
+    ensures { (result ≡ bits order stream.now (8 * at) 32) × (result < 2 ^ 32) }
 {
-    let bytes = [stream[at], stream[at + 1], stream[at + 2], stream[at + 3]];
     match order {
-        Order::Little => u64::from(u32::from_le_bytes(bytes)),
-        Order::Big => u64::from(u32::from_be_bytes(bytes)),
+        Order::Little => two(stream, at, order) + two(stream, at + 2, order) * 0x1_0000,
+        Order::Big => two(stream, at + 2, order) + two(stream, at, order) * 0x1_0000,
     }
 }
 
@@ -78,19 +77,9 @@ pub fn eight(stream: &[u8], at: usize, order: Order) -> u64
     requires { at + 8 ≤ length stream.now }
     ensures { result ≡ bits order stream.now (8 * at) 64 }
 {
-    let bytes = [
-        stream[at],
-        stream[at + 1],
-        stream[at + 2],
-        stream[at + 3],
-        stream[at + 4],
-        stream[at + 5],
-        stream[at + 6],
-        stream[at + 7],
-    ];
     match order {
-        Order::Little => u64::from_le_bytes(bytes),
-        Order::Big => u64::from_be_bytes(bytes),
+        Order::Little => four(stream, at, order) + four(stream, at + 4, order) * 0x1_0000_0000,
+        Order::Big => four(stream, at + 4, order) + four(stream, at, order) * 0x1_0000_0000,
     }
 }
 

@@ -1,3 +1,4 @@
 mod One
 mod Walked
+mod Copies
 pub mod Leave

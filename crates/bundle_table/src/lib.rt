@@ -74,5 +74,8 @@ fn copy(table: &[u8], from: usize, size: usize, out: &mut [u8], to: usize)
     requires { (from + size ≤ length table.now) × (to + size ≤ length out.old) }
     ensures { out.new ≡ paste out.old to (drop from table.now) size }
 {
-    out[to..to + size].copy_from_slice(&table[from..from + size]);
+    // no copy_from_slice: it needs memmove from outside
+    for i in 0..size {
+        out[to + i] = table[from + i];
+    }
 }

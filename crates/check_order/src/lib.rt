@@ -10,6 +10,9 @@ use numbers::{kinds, limits};
 use table_bytes::{byte, wide32};
 use table_offsets::Fault;
 
+// One place more than the limit: a trace class, which does not count, may stand behind the last fragment that does.
+pub const PLACES: usize = limits::FRAGMENT_LIMIT + 1;
+
 // Whether n bytes from a on are those from b on. Byte by byte, and not as slices: an id may be cut short, and what is not there reads 0.
 fn same(table: &[u8], a: usize, b: usize, n: usize) -> bool
     requires { (a + n < 2 ^ 63) × (b + n < 2 ^ 63) }

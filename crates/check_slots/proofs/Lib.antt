@@ -6,3 +6,4 @@ pub mod TieHomes
 pub mod TieClasses
 mod Fewer
 pub mod TieFragments
+mod OneEnd

@@ -5,12 +5,11 @@ use mathlib.Core.Bool.{Bool, true, false}
 use mathlib.Core.List.{List}
 use Prim.Native.Nat.{ℕ, zero, suc, ◌+◌, ◌-◌, ◌<◌, ◌≤◌}
 use native.Mathlib.Omega.{arith}
-use lib.ListN.{length, get_or, take}
+use lib.ListN.{length}
 use lib.Dec.{eqb}
 use borrow.Author.Tests.{lt-ltb, le-ltb}
 use Rattle.table_offsets.specs.Bodies.{body_mark}
-use Rattle.std.proofs.lemmas.List.{get_or-take, length-take-le}
-use Rattle.table_offsets.specs.Check.{pick_n, byte_at, latest}
+use Rattle.table_offsets.specs.Check.{pick_n, byte_at}
 use Rattle.table_offsets.proofs.Rows.{rows}
 use Rattle.check_slots.specs.Homes.{nowhere, is_a, behind_range, behind_ranges, behind_option, Spot, parts_at}
 use Rattle.check_slots.specs.Homes.{part_at, class_at, roots_at, fault_at, fragments_at, fault_of}

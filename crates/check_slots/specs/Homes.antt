@@ -1,6 +1,7 @@
 -- The walk of homes by offsets, as the code walks. A place below the table's length is a byte of it, where the walk goes on. The length is
 -- the end, and stands for "no such records here" too, since nothing is found there. A place above it is a fault: 1 more than the length,
--- and the byte of the class at fault; nothing goes on from there. It is the rules' own walk (proofs/TieFragments).
+-- and the byte of the class at fault; nothing goes on from there. The code answers such a fault as Err of the byte, and else Ok of the
+-- place: `Told` ties both to the place here. It is the rules' own walk (proofs/TieFragments).
 use Rattle.std.specs.Prelude.{ℕ, zero, suc, ◌+◌, ◌-◌, List, [], ◌∷◌, Bool, true, false, not, ◌&&◌, length, get_or, set, replicate}
 use Rattle.std.specs.Prelude.{ltb, leb, eqb}
 use Rattle.table_offsets.specs.Bodies.{body_mark}

@@ -132,5 +132,5 @@ pub(crate) fn walk_roots(table: &[u8], homes: &mut [u16], at: usize) -> Result<u
         }
         next = walk_class(table, homes, DEPTHS, NO_ARRAY, next + bodies::ROOT_SIZE)?;
     }
-    Ok(next)
+    Ok(next) // behind the table it ends where it begins
 }

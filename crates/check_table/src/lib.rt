@@ -15,6 +15,7 @@ ghost use Rattle.table_offsets.specs.Earlier.{earlier};
 ghost use Rattle.table_offsets.specs.Faults.{number as numberOf};
 
 use check_fragment::{first_fault, fragment_fault, lowest};
+use check_order::PLACES;
 use check_roots::{roots_of, stray};
 use check_slots::first_home_fault;
 use numbers::{kinds, limits};
@@ -94,9 +95,6 @@ fn answer(table: &[u8]) -> Result<ByteLength, TableFault>
     }
     check_fragments(table, bodies::PREAMBLE_SIZE)
 }
-
-// One place more than the limit: a trace class, which does not count, may stand behind the last fragment that does.
-const PLACES: usize = limits::FRAGMENT_LIMIT + 1;
 
 // The fragments behind the preamble, which ends at `at`.
 fn check_fragments(table: &[u8], at: usize) -> Result<ByteLength, TableFault>

@@ -4,7 +4,7 @@ ghost use Rattle.std.specs.Prelude.{◌≡◌, ◌≤◌, length, IfSome};
 ghost use Rattle.std.specs.Iterator.{at_most};
 
 use crate::words::fault;
-use crate::{FILE_ROOM, STREAM, STREAM_ROOM, cells, fail, load};
+use crate::{STREAM, STREAM_ROOM, cells, fail, file_room, load};
 use numbers::kinds;
 use numbers::limits::{BUNDLE_LIMIT, WORDS_PER_ENTRY};
 use rules::NoBundle;
@@ -125,7 +125,7 @@ fn cut_streams(
     rooms: &[u64],
     list: &mut [u64],
 ) {
-    let mut short = [0u8; FILE_ROOM];
+    let mut short = file_room();
     match bundle::bundle(table, streams, lengths, rooms, list, &mut short) {
         Ok(length) => {
             if let Some(short) = short.get(..length.0) {

@@ -6,7 +6,8 @@
 // In lines: what is printed. In words: the papers' numbers in words. In cut: the third command.
 #![tactic(auto)]
 
-ghost use Rattle.std.specs.Prelude.{◌≡◌, ◌≤◌, length, IfOk};
+ghost use Rattle.std.specs.Prelude.{◌≡◌, ◌*◌, ◌≤◌, length, IfOk, IfSome};
+ghost use Rattle.rules.specs.Limits.{words_per_entry};
 
 use lines::{say_checked, say_entries, say_result};
 use numbers::limits::WORDS_PER_ENTRY;
@@ -69,7 +70,7 @@ fn arg_count(rt: &impl Env) -> usize {
 }
 
 fn check_named(rt: &HostRuntime) {
-    let mut table = [0u8; FILE_ROOM];
+    let mut table = file_room();
     if let Some(table) = load(rt, TABLE, &mut table) {
         say_checked(rt, check_table::check(table));
     }
@@ -78,11 +79,11 @@ fn check_named(rt: &HostRuntime) {
 // By itself, as cutting is: the lists of both in one frame would be more than the usual stack.
 #[inline(never)]
 fn read_named(rt: &HostRuntime) {
-    let mut table = [0u8; FILE_ROOM];
+    let mut table = file_room();
     let Some(table) = load(rt, TABLE, &mut table) else {
         return;
     };
-    let mut stream = [0u8; FILE_ROOM];
+    let mut stream = file_room();
     let Some(stream) = load(rt, STREAM, &mut stream) else {
         return;
     };
@@ -90,7 +91,7 @@ fn read_named(rt: &HostRuntime) {
         let _ = eprintln!(rt; "the stream has more than the 65,536 bytes that there is room for");
         return;
     }
-    let mut list: [u64; LIST_ROOM] = cells(0);
+    let mut list = list_room();
     say_reading(rt, table, stream, &mut list);
 }
 
@@ -102,11 +103,11 @@ fn say_reading(rt: &impl Print, table: &[u8], stream: &[u8], list: &mut [u64]) {
 
 #[inline(never)]
 fn cut_named(rt: &HostRuntime, streams: usize) {
-    let mut table = [0u8; FILE_ROOM];
+    let mut table = file_room();
     let Some(table) = load(rt, TABLE, &mut table) else {
         return;
     };
-    let mut list: [u64; LIST_ROOM] = cells(0);
+    let mut list = list_room();
     cut::cut_loaded(rt, table, streams, &mut list);
 }
 
@@ -117,8 +118,22 @@ fn cells<T: Copy, const N: usize>(cell: T) -> [T; N]
     [cell; N]
 }
 
+fn file_room() -> [u8; FILE_ROOM]
+    ensures { 65537 ≡ length result }
+{
+    cells(0)
+}
+
+fn list_room() -> [u64; LIST_ROOM]
+    ensures { 131072 * words_per_entry ≡ length result }
+{
+    cells(0)
+}
+
 // The file that an argument names, in the room. Where that fails, it has said so.
-fn load<'a>(rt: &HostRuntime, argument: usize, room: &'a mut [u8]) -> Option<&'a [u8]> {
+fn load<'a>(rt: &HostRuntime, argument: usize, room: &'a mut [u8]) -> Option<&'a [u8]>
+    ensures { IfSome result (λ bytes. length bytes.now ≤ length room.old) }
+{
     let mut path = [0u8; PATH_ROOM];
     let got = match rt.arg(argument, &mut path) {
         Ok(got) => got,

@@ -122,7 +122,7 @@ pub fn choose_option(table: &[u8], sizes: &[u16], at: usize, content: Content) -
     }
 }
 
-// The first option from a byte on that holds a number.
+// The first option from a byte on that holds a number: both loops are left at the first range that does.
 fn first_option(
     table: &[u8],
     sizes: &[u16],
@@ -136,16 +136,20 @@ fn first_option(
     ensures { result ≡ option_from (end_noted sizes.now) table.now (sign_of sign) number 0 at count }
 {
     let mut next = at;
-    for option in 0..count {
+    let mut found = Choice::Nothing;
+    'search: for option in 0..count {
         let ranges = count_at(table, next + 1);
         let class = next + OPTION_SIZE + RANGE_SIZE * ranges;
-        if any_holds(table, next + OPTION_SIZE, ranges, sign, number) {
-            return Choice::Class {
-                at: class,
-                option: option as u64,
-            };
+        for i in 0..ranges {
+            if holds(table, next + OPTION_SIZE + RANGE_SIZE * i, sign, number) {
+                found = Choice::Class {
+                    at: class,
+                    option: option as u64,
+                };
+                break 'search;
+            }
         }
         next = class + size_at(sizes, class);
     }
-    Choice::Nothing
+    found
 }

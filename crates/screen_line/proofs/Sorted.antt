@@ -8,7 +8,7 @@ use lib.ListN.{length, get_or-eq_default}
 use Rattle.facts.proofs.Cases.{Each, below, ◌▷◌}
 use Rattle.screen_number.specs.Number.{bytes}
 use Rattle.screen_head.specs.Kinds.{Shows, plain, signed, as_hex, as_float, as_seconds, as_text, as_bytes, row_of, rows, unknown}
-use Rattle.screen_head.specs.Head.{Five}
+use Rattle.screen_head.specs.Head.{Five, five}
 use Rattle.screen_number.proofs.Apart.{Among, Apart, not-among}
 use Rattle.facts.proofs.Numbers.{lt-or-ge}
 use native.Mathlib.Omega.{arith}
@@ -17,7 +17,7 @@ use Rattle.screen_line.specs.declared.meant.Sort.{Sort}
 use Rattle.screen_line.specs.declared.meant.Sort.TheVariants.{Nothing, Hex, Float, Seconds, Text, Bytes}
 use Rattle.screen_meaning.specs.Bytes.{blob}
 use Rattle.screen_meaning.specs.Seconds.{seconds}
-use Rattle.screen_line.specs.Line.{meaning, clock_meaning, blob_meaning}
+use Rattle.screen_line.specs.Line.{meaning, bytes_of, clock_meaning, blob_meaning}
 use Rattle.screen_line.specs.Pieces.{sort_of, sort_of_kind, is_text}
 use Rattle.screen_line.specs.Sorts.{short_meaning, from_seconds, number_of, sorts}
 
@@ -99,3 +99,8 @@ no-blob-meant b h = simp (blob_meaning, eq-eqb (length b) 0 h)
 pub blob-meant : (b : List ℕ) → (length b ≡ 0 → ⊥) → bytes "  " ++ blob b ≡ blob_meaning b
 unfolding blob_meaning
 blob-meant b h = simp (blob_meaning, ne_eqb (length b) 0 h)
+
+-- kind and number do not matter to it beside the sort
+pub same-meaning : (n : ℕ) (s : List ℕ) (f : ℕ) (e : Five) → short_meaning n s f (five 0 e.place e.bits e.value 0) ≡ short_meaning n s f e
+unfolding short_meaning from_seconds bytes_of
+same-meaning n s f e = refl

@@ -6,7 +6,7 @@
 
 ghost use Rattle.std.specs.Prelude.{◌≡◌, true, false, ◌+◌, ◌-◌, ◌≤◌, ◌<◌, length};
 ghost use Rattle.std.proofs.lemmas.List.Edits.{sets};
-ghost use Rattle.screen_head.specs.Head.{five_of};
+ghost use Rattle.screen_head.specs.Head.{five, five_of};
 ghost use Rattle.screen_verdict.specs.Verdict.{laid_line, laid_length};
 ghost use Rattle.screen_line.specs.Line.{line, bytes_of};
 ghost use Rattle.screen_line.specs.Pieces.{piece, pieces as Pieces·pieces, is_text, text_piece, sort_of_kind};
@@ -24,9 +24,10 @@ mod shown;
 // The room that every piece fits in.
 const PIECE_ROOM: usize = 256;
 
-// Of how many pieces an entry's line is.
+// Of how many pieces an entry's line is, whatever its bits and its number are.
 pub fn pieces(stream: &[u8], entry: Entry) -> usize
-    ensures { result ≡ Pieces·pieces stream.now (five_of entry) }
+    ensures value { result ≡ Pieces·pieces stream.now (five_of entry) }
+    ensures by_three { result ≡ Pieces·pieces stream.now (five entry.kind entry.place.0 0 entry.value 0) }
 {
     match sort_of(entry.kind) {
         Sort::Text => bytes_of(stream, entry.place.0, entry.value) / 32 + 2,

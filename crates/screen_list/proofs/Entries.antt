@@ -14,8 +14,9 @@ use Rattle.facts.proofs.Numbers.{lt-or-ge}
 use Rattle.rules.specs.Limits.{words_per_entry}
 use Rattle.rules.specs.Entry.{stream_class_found}
 use Rattle.screen_clock.specs.Frequency.{frequency_of}
-use Rattle.screen_head.specs.Head.{Five}
-use Rattle.screen_line.specs.Pieces.{pieces}
+use Rattle.screen_head.specs.Head.{Five, five}
+use Rattle.screen_line.specs.Line.{bytes_of}
+use Rattle.screen_line.specs.Pieces.{pieces, is_text}
 use Rattle.screen_list.specs.declared.Put.{Put}
 use Rattle.screen_list.specs.Lines.{entries_in, settled}
 use Rattle.screen_list.specs.Rest.{rest_of, pieces_from}
@@ -75,6 +76,15 @@ settled-anew t f e h = simp (settled, eq-eqb e.kind stream_class_found h)
 pub settled_before : (t : List ℕ) (f : ℕ) (e : Five) → (e.kind ≡ stream_class_found → ⊥) → f ≡ settled t f e
 unfolding settled
 settled_before t f e h = simp (settled, ne_eqb e.kind stream_class_found h)
+
+-- what `pieces` and `settle` answer by some of the words is so by all of them
+pub pieces-by : (s : List ℕ) (e : Five) → pieces s (five e.kind e.place 0 e.value 0) ≡ pieces s e
+unfolding pieces is_text bytes_of
+pieces-by s e = refl
+
+pub settled-by : (t : List ℕ) (f : ℕ) (e : Five) → settled t f (five e.kind 0 0 e.value 0) ≡ settled t f e
+unfolding settled
+settled-by t f e = refl
 
 -- what the code makes of its callees' answers
 abbrev put_of : ℕ → ℕ → ℕ → Bool → Put

@@ -2,23 +2,25 @@
 ghost use Rattle.std.specs.Prelude.{◌≡◌};
 ghost use Rattle.table_offsets.specs.Faults.{number as numberOf};
 
+use numbers::faults;
+
 #[derive(Clone, Copy, PartialEq, Eq)]
 pub enum Fault {
-    BadSize = 1,
-    UnknownKind = 2,
-    CutShort = 3,
-    PreambleMisplaced = 4,
-    WrongVersion = 5,
-    TraceClassMisplaced = 6,
-    IdUsed = 7,
-    IdUnknown = 8,
-    KindNotAllowed = 9,
-    NumberOutOfRange = 10,
-    SlotNotAllowed = 11,
-    RoleNotAllowed = 12,
-    RangesContradict = 13,
-    TooDeep = 14,
-    TooManyFragments = 15,
+    BadSize = faults::BAD_SIZE as isize,
+    UnknownKind = faults::UNKNOWN_KIND as isize,
+    CutShort = faults::CUT_SHORT as isize,
+    PreambleMisplaced = faults::PREAMBLE_MISPLACED as isize,
+    WrongVersion = faults::WRONG_VERSION as isize,
+    TraceClassMisplaced = faults::TRACE_CLASS_MISPLACED as isize,
+    IdUsed = faults::ID_USED as isize,
+    IdUnknown = faults::ID_UNKNOWN as isize,
+    KindNotAllowed = faults::KIND_NOT_ALLOWED as isize,
+    NumberOutOfRange = faults::NUMBER_OUT_OF_RANGE as isize,
+    SlotNotAllowed = faults::SLOT_NOT_ALLOWED as isize,
+    RoleNotAllowed = faults::ROLE_NOT_ALLOWED as isize,
+    RangesContradict = faults::RANGES_CONTRADICT as isize,
+    TooDeep = faults::TOO_DEEP as isize,
+    TooManyFragments = faults::TOO_MANY_FRAGMENTS as isize,
 }
 
 // The first record with a fault: which fault, and the record's first byte.

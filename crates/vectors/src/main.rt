@@ -3,6 +3,8 @@
 // numbers of 32 bits, little-endian (the table's bytes, the stream's bytes, the list's words), then the table and the stream.
 #![tactic(auto)]
 
+ghost use Rattle.std.specs.Prelude.{◌≡◌, length};
+
 use numbers::limits::WORDS_PER_ENTRY;
 use rules::{ByteLength, Report, TableFault};
 use std::io::Read;
@@ -52,9 +54,9 @@ fn answer_case(rt: &HostRuntime) -> Result<(), End> {
     let table_bytes = u32::from_le_bytes(head) as usize;
     let stream_bytes = number(rt)?;
     let words = number(rt)?;
-    let mut table = [0u8; TABLE_ROOM];
-    let mut stream = [0u8; STREAM_ROOM];
-    let mut list = [0u64; LIST_ROOM];
+    let mut table = table_room();
+    let mut stream = stream_room();
+    let mut list = list_room();
     let table = fill(rt, &mut table, table_bytes)?;
     let stream = fill(rt, &mut stream, stream_bytes)?;
     let list = list.get_mut(..words).ok_or(End::TooLong)?;
@@ -62,6 +64,24 @@ fn answer_case(rt: &HostRuntime) -> Result<(), End> {
     let r = reader::read(table, stream, list);
     say_reading(rt, r, list);
     Ok(())
+}
+
+fn table_room() -> [u8; TABLE_ROOM]
+    ensures { 65537 ≡ length result }
+{
+    [0; TABLE_ROOM]
+}
+
+fn stream_room() -> [u8; STREAM_ROOM]
+    ensures { 65536 ≡ length result }
+{
+    [0; STREAM_ROOM]
+}
+
+fn list_room() -> [u64; LIST_ROOM]
+    ensures { 8000 ≡ length result }
+{
+    [0; LIST_ROOM]
 }
 
 // Four bytes, "little-endian".

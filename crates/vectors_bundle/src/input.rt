@@ -65,9 +65,15 @@ fn number(rt: &HostRuntime) -> usize {
 
 // A length and a room, so many times, or until there is no place for more.
 pub(crate) fn read_parts(rt: &HostRuntime, count: usize, lengths: &mut [u64], rooms: &mut [u64]) {
-    for (length, room) in lengths.iter_mut().zip(rooms).take(count) {
-        *length = number(rt) as u64;
-        *room = number(rt) as u64;
+    for i in 0..count {
+        let length = number(rt) as u64;
+        let room = number(rt) as u64;
+        // what has no place is read too: the input goes on behind it
+        let (Some(at), Some(beside)) = (lengths.get_mut(i), rooms.get_mut(i)) else {
+            return;
+        };
+        *at = length;
+        *beside = room;
     }
 }
 

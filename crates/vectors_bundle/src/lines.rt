@@ -2,6 +2,8 @@
 use crate::input::End;
 use numbers::faults;
 use rules::{ByteLength, NoBundle, Report};
+use std::fmt;
+use std::fmt::{Display, Formatter};
 
 // The answer in numbers.
 pub(crate) fn say_bundled(rt: &impl Print, bundled: Result<ByteLength, NoBundle>) {
@@ -30,10 +32,19 @@ pub(crate) fn say_words(rt: &impl Print, words: &[u64]) {
 
 // Two digits a byte.
 pub(crate) fn say_bytes(rt: &impl Print, bytes: &[u8]) {
-    for byte in bytes {
-        let _ = print!(rt; "{byte:02x}");
+    let _ = println!(rt; "{}", Hex(bytes));
+}
+
+#[derive(Clone, Copy)]
+struct Hex<'a>(&'a [u8]);
+
+impl<'a> Display for Hex<'a> {
+    fn fmt<W: fmt::Write>(&self, f: &mut Formatter<W>) -> fmt::Result {
+        for byte in self.0 {
+            write!(f, "{byte:02x}")?;
+        }
+        Ok(())
     }
-    let _ = println!(rt);
 }
 
 pub(crate) fn say_end(rt: &impl Print, end: End) {

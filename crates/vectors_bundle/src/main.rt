@@ -10,6 +10,8 @@
 // In input: the numbers and bytes of a case. In lines: what is printed.
 #![tactic(auto)]
 
+ghost use Rattle.std.specs.Prelude.{◌≡◌, length};
+
 use input::{End, Head, fill, read_head, read_parts};
 use lines::{say_bundled, say_bytes, say_end, say_result, say_words};
 use rules::NoBundle;
@@ -73,9 +75,9 @@ fn answer_case(rt: &HostRuntime, whole: bool) -> Result<(), End> {
 fn answer_parts(rt: &HostRuntime, head: Head, lengths: &[u64], rooms: &[u64]) -> Result<(), End> {
     let all_bytes = head.whole.map_or(sum(lengths), |said| said.bytes);
     let all_words = head.whole.map_or(sum(rooms), |said| said.words);
-    let mut table = [0u8; TABLE_ROOM];
-    let mut bytes = [0u8; STREAMS_ROOM];
-    let mut list = [0u64; LIST_ROOM];
+    let mut table = table_room();
+    let mut bytes = streams_room();
+    let mut list = list_room();
     let mut buffer = [HELD; TABLE_ROOM];
     let table = fill(rt, &mut table, head.table)?;
     let streams = Streams {
@@ -87,6 +89,24 @@ fn answer_parts(rt: &HostRuntime, head: Head, lengths: &[u64], rooms: &[u64]) ->
     let buffer = buffer.get_mut(..head.buffer).ok_or(End::TooLong)?;
     answer(rt, table, streams, list, buffer, head.whole.is_some());
     Ok(())
+}
+
+fn table_room() -> [u8; TABLE_ROOM]
+    ensures { 65537 ≡ length result }
+{
+    [0; TABLE_ROOM]
+}
+
+fn streams_room() -> [u8; STREAMS_ROOM]
+    ensures { 65536 ≡ length result }
+{
+    [0; STREAMS_ROOM]
+}
+
+fn list_room() -> [u64; LIST_ROOM]
+    ensures { 8000 ≡ length result }
+{
+    [0; LIST_ROOM]
 }
 
 // Each of them has 32 bits: the sum does not wrap.

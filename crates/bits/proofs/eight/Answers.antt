@@ -1,10 +1,9 @@
--- Eight bytes, by their order.
-use mathlib.Core.Path.{◌∙◌}
-use Rattle.bits.proofs.Bytes.{eight-little, eight-big}
+-- `bits::eight` meets its contract: four bytes and then four, by the law of twice n bytes.
+use Rattle.bits.proofs.Bytes.{twice-little, twice-big}
 use Rattle.bits.proofs.eight.Goals as goal
 
 pub returns-in-Little : goal.returns-in-Little
-returns-in-Little c = rw (c.in-Little.is) (c.from_le_bytes.ensures ∙ eight-little _ (λ k. (c.type_inv.stream k).fits) _)
+returns-in-Little c = twice-little _ _ 4 c.in-Little.is c.four.ensures.0 c.four-in-Little.ensures.0
 
 pub returns-in-Big : goal.returns-in-Big
-returns-in-Big c = rw (c.in-Big.is) (c.from_be_bytes.ensures ∙ eight-big _ (λ k. (c.type_inv.stream k).fits) _)
+returns-in-Big c = twice-big _ _ 4 c.in-Big.is c.four-in-Big-2.ensures.0 c.four-in-Big.ensures.0

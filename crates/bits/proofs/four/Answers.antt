@@ -1,10 +1,10 @@
--- Four bytes, by their order.
-use mathlib.Core.Path.{◌∙◌}
-use Rattle.bits.proofs.Bytes.{four-little, four-big}
+-- `bits::four` meets its contract: two bytes and then two, by the law of twice n bytes.
+use native.Mathlib.Omega.{arith}
+use Rattle.bits.proofs.Bytes.{twice-little, twice-big}
 use Rattle.bits.proofs.four.Goals as goal
 
 pub returns-in-Little : goal.returns-in-Little
-returns-in-Little c = rw (c.in-Little.is) (c.from.ensures ∙ c.from_le_bytes.ensures ∙ four-little _ (λ k. (c.type_inv.stream k).fits) _)
+returns-in-Little c = (twice-little _ _ 2 c.in-Little.is c.two.ensures.0 c.two-in-Little.ensures.0, omega arith)
 
 pub returns-in-Big : goal.returns-in-Big
-returns-in-Big c = rw (c.in-Big.is) (c.from-in-Big.ensures ∙ c.from_be_bytes.ensures ∙ four-big _ (λ k. (c.type_inv.stream k).fits) _)
+returns-in-Big c = (twice-big _ _ 2 c.in-Big.is c.two-in-Big-2.ensures.0 c.two-in-Big.ensures.0, omega arith)

@@ -1,10 +1,16 @@
--- Two bytes, by their order.
-use mathlib.Core.Path.{◌∙◌}
-use Rattle.bits.proofs.Bytes.{two-little, two-big}
+-- `bits::two` meets its contract: one byte and then one, by the law of twice n bytes.
+use native.Mathlib.Omega.{arith}
+use Rattle.bits.proofs.Bytes.{one_byte, twice-little, twice-big}
 use Rattle.bits.proofs.two.Goals as goal
 
 pub returns-in-Little : goal.returns-in-Little
-returns-in-Little c = rw (c.in-Little.is) (c.from.ensures ∙ c.from_le_bytes.ensures ∙ two-little _ (λ k. (c.type_inv.stream k).fits) _)
+returns-in-Little c =
+    let low = c.from.ensures in
+    let high = c.from-in-Little.ensures in
+    (twice-little _ _ 1 c.in-Little.is (one_byte _ _ _ low (omega arith)) (one_byte _ _ _ high (omega arith)), omega arith)
 
 pub returns-in-Big : goal.returns-in-Big
-returns-in-Big c = rw (c.in-Big.is) (c.from-in-Big.ensures ∙ c.from_be_bytes.ensures ∙ two-big _ (λ k. (c.type_inv.stream k).fits) _)
+returns-in-Big c =
+    let low = c.from-in-Big.ensures in
+    let high = c.from-in-Big-2.ensures in
+    (twice-big _ _ 1 c.in-Big.is (one_byte _ _ _ high (omega arith)) (one_byte _ _ _ low (omega arith)), omega arith)

@@ -12,4 +12,4 @@ returns-in-Ok c =
 
 pub returns-in-Err : goal.returns-in-Err
 unfolding first_home_fault
-returns-in-Err c = let t = c.args.table.now in sym (ap (fault_of t) c.in-Err.ensures ∙ fault-above t c.in-Err.at)
+returns-in-Err c = let t = c.args.table.now in sym (ap (fault_of t) c.in-Err.ensures.1 ∙ fault-above t c.in-Err.at)

@@ -62,8 +62,8 @@ on c e ends =
 pub returns-in_err-next : goal.returns-in_err-next
 returns-in_err-next c =
     let told = err_from_is_err_and c.from_residual.result c.from_residual.ensures.1 in
-    let e = on (goal.at.returns-in_err-next c).After-wide _ (sym c.in_err-next.ensures) in
-    rw (told.1, told.2) (e ∙ fragments-past _ _ _ _ _ (omega arith))
+    let e = on (goal.at.returns-in_err-next c).After-wide _ (sym c.in_err-next.ensures.1) in
+    rw (told.1, told.2) (omega arith, e ∙ fragments-past _ _ _ _ _ (omega arith))
 
 pub loop-preserved : goal.loop-preserved
 loop-preserved c =

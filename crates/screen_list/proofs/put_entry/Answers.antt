@@ -16,5 +16,5 @@ returns c =
     let all = entry-put a.table.now a.stream.now a.out.now c.put_pieces-laid.new.out a.used a.piece a.frequency
     c.settle-turns.result c.pieces-count.result c.put_pieces-laid.result.piece c.put_pieces-laid.result.used
     (five (get_or w i 0) (get_or w (i + 1) 0) (get_or w (i + 2) 0) (get_or w (i + 3) 0) (get_or w (i + 4) 0))
-    c.settle-turns.ensures c.pieces-count.ensures (c.put_pieces-laid.ensures.piece_value, c.put_pieces-laid.ensures.out_after) in
+    c.settle-turns.ensures c.pieces-count.ensures.value (c.put_pieces-laid.ensures.piece_value, c.put_pieces-laid.ensures.out_after) in
     record { value = all.0; out_after = all.1 }

@@ -52,11 +52,12 @@ slot_named-slot-requires t c = omega (arith, (here _ _ _ c.in-Some.ensures).with
 pub returns-then-elsewhere : goal.returns-then-elsewhere
 returns-then-elsewhere t c =
     let s = c.in-Some.ensures in
+    let begins : c.args.at ≤ length c.args.table.now = omega (arith, (here _ _ _ s).within) in
     let e =
     class-fault _ _ _ _ (there _ _ _ s) _ (c.slot_named-slot.ensures ∙ says _ _ _ s) _ (omega arith)
     (sym c.elsewhere.ensures ∙ c.if-elsewhere.true)
     in
-    record { place = sym (place-of e); set = set-of e }
+    record { place = (begins, sym (place-of e)); set = set-of e }
 
 -- It holds no other
 
@@ -104,9 +105,10 @@ returns-in_err-next t c =
     let so_far = walked t (goal.at.returns-in_err-next t c).After-parts-end ∙ c.loop.invariant.1.0 in
     let told = err_from_is_err_and c.from_residual.result c.from_residual.ensures.1 in
     let e =
-    parts-fault _ _ _ _ _ _ _ _ so_far (omega arith) _ c.part_at.ensures _ c.walk_class.ensures.set _ c.in_err-next.ensures.place
+    parts-fault _ _ _ _ _ _ _ _ so_far (omega arith) _ c.part_at.ensures _ c.walk_class.ensures.set _ c.in_err-next.ensures.place.1
     in
-    record { place = rw (told.1, told.2) (sym (place-of e)); set = set-of e }
+    let begins : c.args.at ≤ length c.args.table.now = omega (arith, (here _ _ _ c.in-Some.ensures).within) in
+    record { place = rw (told.1, told.2) (begins, sym (place-of e)); set = set-of e }
 
 pub loop-preserved : goal.loop-preserved
 loop-preserved t c =

@@ -26,9 +26,10 @@ returns-in_err-next c =
     let all = ap (roots_at c.args.table.now (c.args.at, c.args.homes.now)) (sym c.saturating_sub-end.ensures) in
     let told = err_from_is_err_and c.from_residual.result c.from_residual.ensures.1 in
     let e =
-    all ∙ c.loop.invariant.1.0 ∙ roots-fault _ _ _ (omega arith) root _ c.walk_class.ensures.set _ c.in_err-next.ensures.place
+    all ∙ c.loop.invariant.1.0 ∙ roots-fault _ _ _ (omega arith) root _ c.walk_class.ensures.set _ c.in_err-next.ensures.place.1
     in
-    record { place = rw (told.1, told.2) (sym (place-of e)); set = set-of e }
+    let begins : c.args.at ≤ length c.args.table.now = omega (arith, c.saturating_sub-end.ensures) in
+    record { place = rw (told.1, told.2) (begins, sym (place-of e)); set = set-of e }
 
 pub loop-preserved : goal.loop-preserved
 loop-preserved c =
